@@ -32,7 +32,7 @@ fn blocks_behind<A: Allocator + Clone>(
 ) -> Result<Vec<BlockRun, A>, AllocError>
     ensures { IfOk result (λ runs. runs.items ≡ map behind edits.now) }
 {
-    let mut runs = Vec::new(alloc.clone()?);
+    let mut runs = Vec::with_capacity(alloc.clone()?, edits.len())?;
     for edit in edits {
         runs.push(BlockRun {
             number: edit.number,

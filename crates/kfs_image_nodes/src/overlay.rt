@@ -20,7 +20,7 @@ pub(crate) fn number_edits<V: Copy, A: Allocator + Clone>(
     ensures edits { IfOk result (λ edits. AreEdits edits.items) }
     ensures said { IfOk result (λ edits. SayOfNumbers edits.items overlay.now.latest) }
 {
-    let mut edits = Vec::new(alloc.clone()?);
+    let mut edits = Vec::with_capacity(alloc.clone()?, overlay.latest.len())?;
     list_numbers(&overlay.latest, &mut edits)?;
     Ok(edits)
 }

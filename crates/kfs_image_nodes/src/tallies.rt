@@ -4,6 +4,7 @@ ghost use Rattle.std.specs.Prelude.{◌≡◌, ℕ, ◌+◌, ◌<◌, [], OnOk, 
 ghost use Rattle.kfs_model.specs.Table.{get};
 ghost use Rattle.kfs_image_nodes.specs.Indexes.{CountsFewer, CountsMore, CountsMoved, count_at, count_step, uplink_step, ArePositive};
 ghost use Rattle.kfs_image_nodes.specs.NameEdits.{counts_seen, ways_seen};
+ghost use Rattle.kfs_image_nodes.specs.Overlays.{IsOneMore};
 
 use kfs_map_chunks::{Chunks, Near, Overlay};
 use kfs_map_pages::Pages;
@@ -48,7 +49,8 @@ impl<A: Allocator + Clone> Tallies<A> {
     ) -> Option<u64>
         ensures { result ≡ get (ways_seen self.now uplinks.now) way.now }
     {
-        self.uplinks.get_or(way, uplinks.get_near(near, way).copied())
+        self.uplinks
+            .get_or(way, uplinks.get_near(near, way).copied())
     }
 
     /// Counts that a name of the directory led to `from` and now leads to `to`.
@@ -111,15 +113,28 @@ impl<A: Allocator + Clone> Tallies<A> {
     {
         if let Some(number) = to {
             let way = (number, dir);
-            let names = self.name_count(counts, dir);
-            let mut near = self.near;
-            let ways = self.way_count(uplinks, &mut near, &way);
-            self.near = near;
-            self.counts.set(dir, one_more(names)?)?;
-            self.uplinks.set(way, one_more(ways)?)?;
+            let there = uplinks.get_near(&mut self.near, &way).copied();
+            add_one(&mut self.counts, dir, counts.get(dir).copied())?;
+            add_one(&mut self.uplinks, way, there)?;
         }
         Ok(())
     }
+}
+
+/// Adds one to the count of a key, laid over a map that has the count `there`. Mostly the key is a new one,
+/// so it is set first.
+fn add_one<K: Ord + Copy, A: Allocator + Clone>(
+    overlay: &mut Overlay<K, u64, A>,
+    key: K,
+    there: Option<u64>,
+) -> Result<(), AllocError>
+    ensures { OnOk result (IsOneMore K.cmp overlay.old.latest overlay.new.latest key there) }
+{
+    if let Some(before) = overlay.replace(key, one_more(there)?)? {
+        overlay.set(key, one_more(before)?)?;
+        return Ok(());
+    }
+    Ok(())
 }
 
 /// Subtracts one; 0 becomes none.

@@ -38,11 +38,20 @@ impl<K: Ord + Drop, V: Copy, A: Allocator + Clone> Overlay<K, V, A> {
         }
     }
 
+    /// The same as `set`. Answers what was set for the key before, if anything was.
+    pub fn replace(&mut self, key: K, now: Option<V>) -> Result<Option<Option<V>>, AllocError>
+        ensures set { OnOk result ((q : K) → get K.cmp self.new.latest q ≡ (if eq_by_cmp K.cmp q key then Some now else get K.cmp self.old.latest q)) }
+        ensures before { IfOk result (λ before. before ≡ get K.cmp self.old.latest key) }
+    {
+        let before = self.latest.insert(key, now)?;
+        Ok(before)
+    }
+
     /// Sets the key's value, or that it has none. `Err` where memory is refused.
     pub fn set(&mut self, key: K, now: Option<V>) -> Result<(), AllocError>
         ensures { OnOk result ((q : K) → get K.cmp self.new.latest q ≡ (if eq_by_cmp K.cmp q key then Some now else get K.cmp self.old.latest q)) }
     {
-        self.latest.insert(key, now)?;
+        let _before = self.replace(key, now)?;
         Ok(())
     }
 }

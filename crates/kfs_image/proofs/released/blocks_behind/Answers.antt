@@ -4,7 +4,7 @@ use Rattle.kfs_image.proofs.ReleasedBlocks.{behind_one, behind_all}
 use Rattle.kfs_image.proofs.released.blocks_behind.Goals as goal
 
 pub loop-edit-init : goal.loop-edit-init
-loop-edit-init g c = ap (λ runs. runs ++ map behind c.args.edits.now) c.new-runs.ensures.items
+loop-edit-init g c = ap (λ runs. runs ++ map behind c.args.edits.now) c.in_ok-runs.ensures.items
 
 pub loop-edit-preserved : goal.loop-edit-preserved
 loop-edit-preserved g c = behind_one c.args.edits.now c.loop-edit.edit-index _ _ c.loop-edit.runs.items c.push.new.self.items c.loop-edit-test.true c.in_ok-push.ensures.items c.block_count.ensures c.loop-edit.invariant
