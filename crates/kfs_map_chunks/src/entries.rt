@@ -236,8 +236,7 @@ fn search_from<K: Key, V: Copy>(pairs: &[(K, V)], from: usize, key: &K) -> Resul
     requires from { from ≤ first_from K.cmp (Included key.now) pairs.now }
     ensures { result ≡ (let at = first_from K.cmp (Included key.now) pairs.now in if is_some (find K.cmp key.now pairs.now) then Ok at else Err at) }
 {
-    let (_, rest) = pairs.split_at(from);
-    let at = from + first_from(rest, Bound::Included(key));
+    let at = first_behind(pairs, from, key);
     let Some(pair) = pairs.get(at) else {
         return Err(at);
     };
@@ -246,6 +245,16 @@ fn search_from<K: Key, V: Copy>(pairs: &[(K, V)], from: usize, key: &K) -> Resul
     } else {
         Err(at)
     }
+}
+
+/// The index of the first entry at the key or behind it, looked for from index `from` on.
+fn first_behind<K: Key, V: Copy>(pairs: &[(K, V)], from: usize, key: &K) -> usize
+    requires sorted { T (is_sorted K.cmp pairs.now) }
+    requires from { from ≤ first_from K.cmp (Included key.now) pairs.now }
+    ensures { result ≡ first_from K.cmp (Included key.now) pairs.now }
+{
+    let (_, rest) = pairs.split_at(from);
+    from + first_from(rest, Bound::Included(key))
 }
 
 /// Whether a key is at the bound or behind it.
