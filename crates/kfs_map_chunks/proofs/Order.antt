@@ -40,6 +40,16 @@ module _ {X : Type 0} (test : X → Bool) where
       at true rest = omega arith
       at false rest = omega (arith, rest)
 
+  -- of those that come before, the rest is counted behind the first few
+  pub before_rest : (xs : List X) (n : ℕ) → n ≤ before test xs → n + before test (drop n xs) ≡ before test xs
+  before_rest xs zero le = omega arith
+  before_rest [] (suc n) le = absurd (omega (arith, le))
+  before_rest (x ∷ xs) (suc n) le = at (before_rest xs n) (test x) le
+    where
+      at : (n ≤ before test xs → n + before test (drop n xs) ≡ before test xs) → (b : Bool) → suc n ≤ cond b 0 (suc (before test xs)) → suc n + before test (drop n xs) ≡ cond b 0 (suc (before test xs))
+      at rest true le = absurd (omega (arith, le))
+      at rest false le = omega (arith, rest (omega (arith, le)))
+
   -- a partition point is how many come before the first that passes
   pub before_is : (xs : List X) (i : ℕ) → i ≤ length xs → IsPartitionPoint (λ y. not (test y) ≡ true) (λ y. not (test y) ≡ false) xs i → before test xs ≡ i
   before_is [] i le point = omega (arith, le)

@@ -12,8 +12,8 @@ use Rattle.kfs_model.proofs.Tables.{left_part, right_part, find_below}
 use Rattle.kfs_map_chunks.specs.declared.edit.KeyEdit.{KeyEdit}
 use Rattle.kfs_map_chunks.specs.Edits.{entered, entered_all, KeysAscend}
 use Rattle.kfs_map_chunks.specs.Joined.{IsSized}
-use Rattle.kfs_map_chunks.specs.Starts.{is_from, entry_from}
-use Rattle.kfs_map_chunks.proofs.Sorted.{as_less, less_from, kept_without, is_sorted-entered}
+use Rattle.kfs_map_chunks.specs.Starts.{is_from, first_from, entry_from}
+use Rattle.kfs_map_chunks.proofs.Sorted.{as_less, less_from, first_is, kept_without, is_sorted-entered}
 
 -- a choice that is none took its other side, which is none
 pub no_first : {X : Type 0} (b : Bool) (x : X) (o : Option X) → cond b (Some x) o ≡ None → (b ≡ false) × (o ≡ None)
@@ -103,6 +103,44 @@ module _ {K V : Type 0} (R : Order K) where
       at Less past old rest = ap (λ r. cond (not (is_lt r)) (Some (j, v)) (entry_from R.compare (Included k) (x ∷ xs))) less ∙ ap (λ t. cond t (Some x) (entry_from R.compare (Included k) xs)) past ∙ old
       at Equal past old rest = ap (λ t. cond t (Some (x.0, v)) (entry_from R.compare (Included k) xs)) past ∙ old
       at Greater past old rest = ap (λ t. cond t (Some x) (entry_from R.compare (Included k) (put R.compare j v xs))) past ∙ rest
+
+  -- an entry below a key is counted before it
+  one_before : (q : K) (e : K × V) (es : List (K × V)) → R.compare e.0 q ≡ Less → first_from R.compare (Included q) (e ∷ es) ≡ suc (first_from R.compare (Included q) es)
+  one_before q e es less = ap (λ r. cond (not (is_lt r)) 0 (suc (first_from R.compare (Included q) es))) less
+
+  -- a key above that of an entry which is set stands behind this
+  pub behind_put : (k q : K) (v : V) (es : List (K × V)) → R.compare k q ≡ Less → suc (first_from R.compare (Included k) es) ≤ first_from R.compare (Included q) (put R.compare k v es)
+  behind_put k q v [] less = omega (arith, one_before q (k, v) [] less)
+  behind_put k q v (e ∷ es) less = at (R.compare k e.0) refl (behind_put k q v es less)
+    where
+      choice : (r : Ordering) → R.compare k e.0 ≡ r
+          → first_from R.compare (Included q) (put R.compare k v (e ∷ es)) ≡ first_from R.compare (Included q) (by_order r ((k, v) ∷ e ∷ es) ((e.0, v) ∷ es) (e ∷ put R.compare k v es))
+      choice r p = ap (λ r. first_from R.compare (Included q) (by_order r ((k, v) ∷ e ∷ es) ((e.0, v) ∷ es) (e ∷ put R.compare k v es))) p
+
+      at : (r : Ordering) → R.compare k e.0 ≡ r → suc (first_from R.compare (Included k) es) ≤ first_from R.compare (Included q) (put R.compare k v es)
+          → suc (first_from R.compare (Included k) (e ∷ es)) ≤ first_from R.compare (Included q) (put R.compare k v (e ∷ es))
+      at Less p rest = omega (arith, first_is R k e es Less p, choice Less p, one_before q (k, v) (e ∷ es) less)
+      at Equal p rest = omega (arith, first_is R k e es Equal p, choice Equal p, one_before q (e.0, v) es (subst (λ j. R.compare j q ≡ Less) (R.exact k e.0 p) less))
+      at Greater p rest =
+          let lower = R.total.trans e.0 k q (R.total.antisymm e.0 k ∙ ap ordering_reverse p) less in
+          omega (arith, first_is R k e es Greater p, choice Greater p, one_before q e (put R.compare k v es) lower, rest)
+
+  -- a key above that of an entry which is removed doesn't stand before its place
+  pub behind_removed : (k q : K) (es : List (K × V)) → R.compare k q ≡ Less → first_from R.compare (Included k) es ≤ first_from R.compare (Included q) (entered R.compare es k None)
+  behind_removed k q [] less = omega arith
+  behind_removed k q (e ∷ es) less = at (R.compare k e.0) refl (behind_removed k q es less)
+    where
+      kept : List (K × V)
+      kept = where_key R.compare (λ j. not (eq_by_cmp R.compare k j)) es
+
+      at : (r : Ordering) → R.compare k e.0 ≡ r → first_from R.compare (Included k) es ≤ first_from R.compare (Included q) kept
+          → first_from R.compare (Included k) (e ∷ es) ≤ first_from R.compare (Included q) (entered R.compare (e ∷ es) k None)
+      at Less p rest = omega (arith, first_is R k e es Less p)
+      at Equal p rest = omega (arith, first_is R k e es Equal p)
+      at Greater p rest =
+          let lower = R.total.trans e.0 k q (R.total.antisymm e.0 k ∙ ap ordering_reverse p) less in
+          let same = ap (λ r. first_from R.compare (Included q) (cond (not (is_eq r)) (e ∷ kept) kept)) p in
+          omega (arith, first_is R k e es Greater p, same, one_before q e kept lower, rest)
 
   -- edits behind the entries in front leave them as they are
   pub all_behind : (xs ys : List (K × V)) (es : List (KeyEdit K V)) → All (λ e. entry_from R.compare (Included e.key) xs ≡ None) es → entered_all R.compare (xs ++ ys) es ≡ xs ++ entered_all R.compare ys es

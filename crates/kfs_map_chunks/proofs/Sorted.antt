@@ -247,6 +247,21 @@ module _ {K V : Type 0} (R : Order K) where
       let first = first_from R.compare (Included k) es in
       ap (λ (o : Option V). cond (is_some o) (Ok first) (Err first)) (none_from (Included k) es k (omega (arith, same, past)) (from_itself R k)) ∙ ap Err (sym same)
 
+  -- what is answered is the index of the first entry from the key on
+  pub place_found : (k : K) (es : List (K × V)) (at : ℕ) → searched k es ≡ Ok at → at ≡ first_from R.compare (Included k) es
+  place_found k es at answer = by (is_some (find R.compare k es)) answer
+    where
+      by : (b : Bool) → cond b (Ok (first_from R.compare (Included k) es)) (Err (first_from R.compare (Included k) es)) ≡ Ok at → at ≡ first_from R.compare (Included k) es
+      by true answer = cc answer
+      by false answer = cc answer
+
+  pub place_free : (k : K) (es : List (K × V)) (at : ℕ) → searched k es ≡ Err at → at ≡ first_from R.compare (Included k) es
+  place_free k es at answer = by (is_some (find R.compare k es)) answer
+    where
+      by : (b : Bool) → cond b (Ok (first_from R.compare (Included k) es)) (Err (first_from R.compare (Included k) es)) ≡ Err at → at ≡ first_from R.compare (Included k) es
+      by true answer = cc answer
+      by false answer = cc answer
+
   pub stands_where : (k : K) (es : List (K × V)) (at : ℕ) → T (is_sorted R.compare es) → searched k es ≡ Ok at → StandsAt k es at
   stands_where k es at sorted answer = by (is_some (find R.compare k es)) refl answer
     where

@@ -129,6 +129,7 @@ fn change_from<K: Key, V: Copy, A: Allocator + Clone, C: Change>(
     behind: &[KeyEdit<K, V>],
     then: &mut C,
 ) -> Result<bool, AllocError>
+    requires mine { KeysAscend K.cmp mine.now }
     requires ascend { KeysAscend K.cmp later.now }
     requires chunk { T (is_sorted K.cmp chunk.old.value.pairs) }
     requires sorted { T (is_sorted K.cmp (joined rest.old)) }

@@ -3,6 +3,7 @@ ghost use Rattle.std.specs.Prelude.{◌≡◌, ◌<◌, ◌≤◌, ◌+◌, [], 
 ghost use Rattle.std.specs.Option.{option_copied};
 ghost use Rattle.std.specs.FinMap.Entries.{find, is_sorted};
 ghost use Rattle.std.specs.Range.Bound.{bound_map};
+ghost use Rattle.std.specs.declared.cmp.Ordering.TheVariants.{Less};
 ghost use Rattle.std.specs.declared.ops.Bound.TheVariants.{Included};
 ghost use Rattle.kfs_map_chunks.specs.Edits.{entered, entered_all, KeysAscend};
 ghost use Rattle.kfs_map_chunks.specs.Starts.{is_from, first_from, entry_from, reaches};
@@ -109,29 +110,43 @@ impl<K: Key, V: Copy, A: Allocator> Entries<K, V, A> {
         self.pairs.try_reserve(more)
     }
 
-    /// Sets the value of a key, or removes its entry. Condition: there is room. Takes no memory.
-    pub(crate) fn set(&mut self, key: &K, value: Option<V>)
-        requires { 0 < self.old.room }
+    /// Sets the value of a key, or removes its entry. Only entries from index `from` on are looked at.
+    /// Answers an index from which on all entries of greater keys stand. Conditions: there is room, and
+    /// no entry before `from` is at the key or behind it. Takes no memory.
+    fn set_from(&mut self, from: usize, key: &K, value: Option<V>) -> usize
+        requires room { 0 < self.old.room }
+        requires from { from ≤ first_from K.cmp (Included key.now) self.old.pairs }
         ensures room { self.old.room ≤ self.new.room + 1 }
         ensures pairs { self.new.pairs ≡ entered K.cmp self.old.pairs key.now value }
+        ensures behind { (q : _) → K.cmp key.now q ≡ Less → result ≤ first_from K.cmp (Included q) self.new.pairs }
     {
-        match (search(&self.pairs, key), value) {
-            (Ok(at), Some(value)) => self.pairs[at].1 = value,
+        match (search_from(&self.pairs, from, key), value) {
+            (Ok(at), Some(value)) => {
+                self.pairs[at].1 = value;
+                at.saturating_add(1)
+            }
             (Ok(at), None) => {
                 let _ = self.pairs.remove(at);
+                at
             }
-            (Err(at), Some(value)) => self.pairs.insert(at, (*key, value)).unwrap(),
-            (Err(_), None) => {}
+            (Err(at), Some(value)) => {
+                self.pairs.insert(at, (*key, value)).unwrap();
+                at.saturating_add(1)
+            }
+            (Err(at), None) => at,
         }
     }
 
-    /// Makes the edits. Condition: there is room for them. Takes no memory.
+    /// Makes the edits, each by a search behind the last one. Conditions: there is room for them, and
+    /// their keys ascend. Takes no memory.
     pub(crate) fn write(&mut self, edits: &[KeyEdit<K, V>])
-        requires { length edits.now ≤ self.old.room }
+        requires room { length edits.now ≤ self.old.room }
+        requires ascend { KeysAscend K.cmp edits.now }
         ensures pairs { self.new.pairs ≡ entered_all K.cmp self.old.pairs edits.now }
     {
+        let mut from = 0;
         for edit in edits {
-            self.set(&edit.key, edit.value);
+            from = self.set_from(from, &edit.key, edit.value);
         }
     }
 
@@ -212,7 +227,16 @@ fn search<K: Key, V: Copy>(pairs: &[(K, V)], key: &K) -> Result<usize, usize>
     requires { T (is_sorted K.cmp pairs.now) }
     ensures { result ≡ (let at = first_from K.cmp (Included key.now) pairs.now in if is_some (find K.cmp key.now pairs.now) then Ok at else Err at) }
 {
-    let at = first_from(pairs, Bound::Included(key));
+    search_from(pairs, 0, key)
+}
+
+/// The same, where no entry before index `from` is at the key or behind it: those aren't looked at.
+fn search_from<K: Key, V: Copy>(pairs: &[(K, V)], from: usize, key: &K) -> Result<usize, usize>
+    requires sorted { T (is_sorted K.cmp pairs.now) }
+    requires from { from ≤ first_from K.cmp (Included key.now) pairs.now }
+    ensures { result ≡ (let at = first_from K.cmp (Included key.now) pairs.now in if is_some (find K.cmp key.now pairs.now) then Ok at else Err at) }
+{
+    let at = first_behind(pairs, from, key);
     let Some(pair) = pairs.get(at) else {
         return Err(at);
     };
@@ -221,6 +245,16 @@ fn search<K: Key, V: Copy>(pairs: &[(K, V)], key: &K) -> Result<usize, usize>
     } else {
         Err(at)
     }
+}
+
+/// The index of the first entry at the key or behind it, looked for from index `from` on.
+fn first_behind<K: Key, V: Copy>(pairs: &[(K, V)], from: usize, key: &K) -> usize
+    requires sorted { T (is_sorted K.cmp pairs.now) }
+    requires from { from ≤ first_from K.cmp (Included key.now) pairs.now }
+    ensures { result ≡ first_from K.cmp (Included key.now) pairs.now }
+{
+    let (_, rest) = pairs.split_at(from);
+    from + first_from(rest, Bound::Included(key))
 }
 
 /// Whether a key is at the bound or behind it.

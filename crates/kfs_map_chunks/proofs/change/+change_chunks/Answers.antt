@@ -118,8 +118,11 @@ change_chunks-change_from-requires g t c =
             (
               search rules,
               (
-                subst (KeysAscend cmp) (sym c.split_at.ensures.back) (ascend_drop cmp c.args.edits.now c.run_of.result c.requires.ascend),
-                (sorted_left cmp chunk.value.pairs (joined rest) sorted, (sorted_right cmp chunk.value.pairs (joined rest) sorted, (sized.0, (sized.1, (c.requires.behind, (c.requires.parts, (c.requires.filled, c.requires.then))))))),
+                subst (KeysAscend cmp) (sym c.split_at.ensures.front) (ascend_take cmp c.args.edits.now c.run_of.result c.requires.ascend),
+                (
+                  subst (KeysAscend cmp) (sym c.split_at.ensures.back) (ascend_drop cmp c.args.edits.now c.run_of.result c.requires.ascend),
+                  (sorted_left cmp chunk.value.pairs (joined rest) sorted, (sorted_right cmp chunk.value.pairs (joined rest) sorted, (sized.0, (sized.1, (c.requires.behind, (c.requires.parts, (c.requires.filled, c.requires.then))))))),
+                ),
               ),
             ),
           ),
