@@ -7,7 +7,7 @@ ghost use Rattle.kfs_c_handle.specs.Status as status;
 ghost use Rattle.kfs_c_handle.specs.Submission.{IsFull};
 
 use crate::opening::let_go;
-use kfs_c_handle::status::{CLOSED, DONE, NO_MEMORY, WRONG_KIND};
+use kfs_c_handle::status::{DONE, NO_MEMORY, WRONG_KIND, closed};
 use kfs_c_handle::{
     Handle, Held, ReplyNumbers, on_desk, put_in, reply_numbers, take_out, why_number,
 };
@@ -29,7 +29,7 @@ pub extern "C" fn kfs_look(alloc: Global, handle: &mut Handle, view: &mut Handle
 {
     let_go(alloc, view);
     let Some(held) = take_out(alloc, handle) else {
-        return CLOSED;
+        return closed();
     };
     let status = match &*held {
         Held::Desk(desk) => look(alloc, desk, view),
@@ -74,7 +74,7 @@ pub extern "C" fn kfs_judge(
 {
     let_go(alloc, verdict);
     let Some(held) = take_out(alloc, view) else {
-        return CLOSED;
+        return closed();
     };
     let status = match &*held {
         Held::View(seen) => judge(alloc, seen, client, log, plan, verdict),
@@ -147,7 +147,7 @@ fn land(
     ensures range { (result ≤ status.full) ↔ OnVerdict verdict.old.value (λ _. ⊤) }
 {
     let Some(held) = take_out(alloc, verdict) else {
-        return CLOSED;
+        return closed();
     };
     if !matches!(&*held, Held::Verdict(_)) {
         put_in(verdict, held);

@@ -8,12 +8,12 @@ mod handle;
 mod held;
 mod numbers;
 mod slot;
-pub mod status;
 mod submission;
 mod told;
 
 pub use handle::Handle;
 pub use held::Held;
+pub use kfs_c_loose::status;
 pub use numbers::{FaultNumbers, ReplyNumbers};
 pub use slot::{put_in, take_out};
 pub use submission::{submit, why_number};

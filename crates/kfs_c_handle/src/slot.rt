@@ -26,12 +26,12 @@ pub fn put_in(handle: &mut Handle, held: Box<Held, Global>)
 
 /// Makes a call of the desk that the handle holds, and answers its status. The desk is taken out for
 /// the call, and put in again. Where the handle holds none, the function around the macro answers
-/// `CLOSED` or `WRONG_KIND`.
+/// `closed()` or `WRONG_KIND`.
 #[macro_export]
 macro_rules! on_desk {
     ($alloc:ident, $handle:ident, &mut $desk:ident => $call:expr) => {{
         let Some(mut held) = $crate::take_out($alloc, $handle) else {
-            return $crate::status::CLOSED;
+            return $crate::status::closed();
         };
         let status = match &mut *held {
             $crate::Held::Desk($desk) => $call,
@@ -42,7 +42,7 @@ macro_rules! on_desk {
     }};
     ($alloc:ident, $handle:ident, &$desk:ident => $call:expr) => {{
         let Some(held) = $crate::take_out($alloc, $handle) else {
-            return $crate::status::CLOSED;
+            return $crate::status::closed();
         };
         let status = match &*held {
             $crate::Held::Desk($desk) => $call,

@@ -1,8 +1,8 @@
 //! A submission to the desk that a handle holds.
 ghost use Rattle.std.specs.Prelude.{◌≡◌, ◌↔◌, ◌≤◌, ◌<◌, None};
 ghost use Rattle.kfs_c_handle.specs.Holding.{HoldsNoDesk, OnDesk, OnDesks};
-ghost use Rattle.kfs_c_handle.specs.Status as status;
 ghost use Rattle.kfs_c_handle.specs.Submission.{IsFull, IsSubmitted};
+ghost use Rattle.kfs_c_loose.specs.Status as status;
 
 use crate::handle::Handle;
 use crate::numbers::ReplyNumbers;

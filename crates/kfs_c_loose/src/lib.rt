@@ -1,8 +1,11 @@
-//! A box taken apart: its pointer and its allocator, which own what the box owned.
+//! A box taken apart: its pointer and its allocator, which own what the box owned. And the numbers that
+//! exports to C answer (`status`).
 //!
 //! It stands on nothing but std; the handles that C holds (`kfs_c`) keep such a pointer. Begin with
 //! `Loose::of`, and with `Loose::into_box` for the way back.
 #![tactic(auto)]
+
+pub mod status;
 
 ghost use Rattle.std.specs.Prelude.{◌≡◌};
 ghost use Rattle.std.specs.Box.Ownership.{box_owns};

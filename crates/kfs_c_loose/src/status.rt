@@ -1,4 +1,6 @@
 //! The numbers that exports answer. `specs/Status` names them for contracts.
+ghost use Rattle.std.specs.Prelude.{◌≡◌};
+ghost use Rattle.kfs_c_loose.specs.Status as status;
 
 /// The call was made and answered.
 pub const DONE: u32 = 0;
@@ -18,8 +20,15 @@ pub const REFUSED: u32 = 4;
 /// The buffer is too short. The length that is needed is told.
 pub const SHORT: u32 = 5;
 
-/// The handle holds nothing.
-pub const CLOSED: u32 = 6;
+/// The handle holds nothing (`closed`).
+const CLOSED: u32 = 6;
 
 /// The handle holds something of another kind.
 pub const WRONG_KIND: u32 = 7;
+
+/// What a call of a handle that holds nothing answers.
+pub fn closed() -> u32
+    ensures { result ≡ status.closed }
+{
+    CLOSED
+}
