@@ -170,6 +170,6 @@ fn land_judged(desk: &mut Desk<Global>, judged: Judged<Global>, reply: &mut Repl
             *reply = reply_numbers(answer);
             DONE
         }
-        Err(back) => why_number(&back),
+        Err(back) => why_number(back.why),
     }
 }

@@ -10,7 +10,7 @@ use crate::on_desk;
 use crate::status::{DONE, FULL, NO_MEMORY};
 use crate::told::reply_numbers;
 use kfs_desk::Desk;
-use kfs_plan::{Back, Submission, Why};
+use kfs_plan::Why;
 use std::alloc::Global;
 
 /// Judges a submission against the state now and lands it (`Desk::submit`). It is answered by `DONE`
@@ -30,12 +30,11 @@ pub fn submit(
     ensures wrong { (result ≡ status.wrong_kind) ↔ HoldsNoDesk handle.old.value }
     ensures range { result < status.closed → result ≤ status.full }
 {
-    on_desk!(alloc, handle, &mut desk => submit_to(alloc, desk, client, log, plan, reply))
+    on_desk!(alloc, handle, &mut desk => submit_to(desk, client, log, plan, reply))
 }
 
-/// Submits copies of the bytes.
+/// Submits bytes of the host's.
 fn submit_to(
-    alloc: Global,
     desk: &mut Desk<Global>,
     client: u32,
     log: &[u8],
@@ -47,28 +46,22 @@ fn submit_to(
     ensures full { result ≡ status.full → IsFull desk.old }
     ensures range { result ≤ status.full }
 {
-    let Ok(log) = log.to_vec(alloc) else {
-        return NO_MEMORY;
-    };
-    let Ok(plan) = plan.to_vec(alloc) else {
-        return NO_MEMORY;
-    };
-    match desk.submit(Submission { client, log, plan }) {
+    match desk.submit_bytes(client, log, plan) {
         Ok(answer) => {
             *reply = reply_numbers(answer);
             DONE
         }
-        Err(back) => why_number(&back),
+        Err(why) => why_number(why),
     }
 }
 
 /// Why there is no answer, as a status.
-pub fn why_number(back: &Back<Global>) -> u32
-    ensures memory { (result ≡ status.no_memory) ↔ (back.now.why ≡ Why.OutOfMemory) }
-    ensures full { (result ≡ status.full) ↔ (back.now.why ≡ Why.DocketFull) }
+pub fn why_number(why: Why) -> u32
+    ensures memory { (result ≡ status.no_memory) ↔ (why ≡ Why.OutOfMemory) }
+    ensures full { (result ≡ status.full) ↔ (why ≡ Why.DocketFull) }
     ensures range { (1 ≤ result) × (result ≤ status.full) }
 {
-    match back.why {
+    match why {
         Why::OutOfMemory => NO_MEMORY,
         Why::DocketFull => FULL,
     }

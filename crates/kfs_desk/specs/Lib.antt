@@ -4,3 +4,4 @@ pub mod Grants
 pub mod Landing
 pub mod Machine
 pub mod Opening
+pub mod HandedIn

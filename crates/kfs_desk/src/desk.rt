@@ -13,14 +13,14 @@ ghost use Rattle.kfs_image_nodes.specs.Contents.{sight_of};
 ghost use Rattle.kfs_model_device.specs.ShownTree.{IsLawful, shown_tree};
 ghost use Rattle.kfs_image.specs.Image as images;
 ghost use Rattle.kfs_judge_check.specs.View.{clients_of, contents_of, leases_of};
-ghost use Rattle.kfs_plan.specs.Judging.{IsVerdict, submission_of};
+ghost use Rattle.kfs_plan.specs.Judging.{IsVerdict, submission_of, submission_with};
 ghost use Rattle.kfs_desk.specs.Landing.{AnswersOutcome, CanLand, leases_left};
 ghost use Rattle.kfs_desk.specs.Machine.{AreShown, IsAnswered, IsBackFor, IsCallOf, IsChangeOf, IsCurrent, IsImageOf, IsMigrated, IsViewOf, RunsThrough, SeeTheSame, call_of, done_by, number_of, opened_at, outcome_at, state_at};
 ghost use Rattle.kfs_desk.specs.Docket.{is_rejudged};
 ghost use Rattle.kfs_desk.specs.Opening.{begin_fault};
 
 use crate::back::BeginBack;
-use crate::docket::{add_act, add_answer, add_moves};
+use crate::docket::{HandedIn, add_act, add_answer, add_moves};
 use crate::first_fault::first_fault;
 use crate::state::ShownState;
 use crate::state_change::change_state;
@@ -35,10 +35,9 @@ use kfs_mode::Client;
 use kfs_plan::answers::{
     Act, ActFault, ActReply, BeginFault, Done, Reply, SubmissionsBack, Unanswered,
 };
-use kfs_plan::{Back, Judged, Outcome, Submission, Why, judge};
+use kfs_plan::{Back, Judged, Outcome, Submission, Why, judge, judge_bytes};
 use std::alloc::{AllocError, Allocator};
 use std::marker::Model;
-use std::snapshot::Snapshot;
 use std::sync::Arc;
 
 /// A commit server for one image. It owns the image, the clients and their leases, and a docket with a
@@ -224,19 +223,37 @@ impl<A: Allocator + Copy> Desk<A> {
         // The docket is legal, whatever the answer.
         ensures legal { IsLegalDocket self.new.opening self.new.docket self.new.state }
     {
+        let (log, plan) = (submission.log.as_slice(), submission.plan.as_slice());
+        match self.submit_bytes(submission.client, log, plan) {
+            Ok(reply) => Ok(reply),
+            Err(why) => Err(Back { submission, why }),
+        }
+    }
+
+    /// The same for a log and a plan that the caller keeps: their bytes are read where they lie. The
+    /// blocks that a landing writes have copies of theirs. `Err` where the docket is full or memory is
+    /// refused; nothing has changed then.
+    pub fn submit_bytes(&mut self, client: u32, log: &[u8], plan: &[u8]) -> Result<Reply, Why>
+        ensures full { IsErrOf result Why.DocketFull ↔ (length self.old.docket ≡ self.old.limit) }
+        ensures answered { IfOk result (λ reply. IsAnswered self.old (submission_with client log.now plan.now) false reply self.new) }
+        ensures err { OnErr result (self.new ≡ self.old) }
+
+        // The docket is legal, whatever the answer.
+        ensures legal { IsLegalDocket self.new.opening self.new.docket self.new.state }
+    {
         if self.is_full() {
-            let why = Why::DocketFull;
-            return Err(Back { submission, why });
+            return Err(Why::DocketFull);
         }
         let position = self.docket.len();
         let before = ShownState::of(&self.image, &self.clients, &self.leases);
-        let handed_in = Snapshot::of(&submission);
-        let judged = judged(
+        let outcome = outcome(
             self.alloc,
             &self.image,
             &self.leases,
             &self.clients,
-            submission,
+            client,
+            log,
+            plan,
         )?;
         let reply = land(
             self.alloc,
@@ -244,9 +261,11 @@ impl<A: Allocator + Copy> Desk<A> {
             &mut self.leases,
             position,
             false,
-            judged,
+            log,
+            outcome,
         )?;
         let after = ShownState::of(&self.image, &self.clients, &self.leases);
+        let handed_in = HandedIn { client, log, plan };
         add_answer(&mut self.docket, &before, &handed_in, &reply, &after);
         Ok(reply)
     }
@@ -283,7 +302,6 @@ impl<A: Allocator + Copy> Desk<A> {
         }
         let position = self.docket.len();
         let before = ShownState::of(&self.image, &self.clients, &self.leases);
-        let handed_in = Snapshot::of(judged.submission());
         let (judged, rejudged) = current(
             self.alloc,
             &self.image,
@@ -291,15 +309,22 @@ impl<A: Allocator + Copy> Desk<A> {
             &self.clients,
             judged,
         )?;
-        let reply = land(
+        let (submission, outcome) = judged.into_parts();
+        let landed = land(
             self.alloc,
             &mut self.image,
             &mut self.leases,
             position,
             rejudged,
-            judged,
-        )?;
+            submission.log.as_slice(),
+            outcome,
+        );
+        let reply = match landed {
+            Ok(reply) => reply,
+            Err(why) => return Err(Back { submission, why }),
+        };
         let after = ShownState::of(&self.image, &self.clients, &self.leases);
+        let handed_in = HandedIn::of(&submission);
         add_answer(&mut self.docket, &before, &handed_in, &reply, &after);
         Ok(reply)
     }
@@ -350,27 +375,24 @@ impl<A: Allocator + Copy> Desk<A> {
     }
 }
 
-/// The verdict on the submission in the state now. The view is dropped here, so that landing finds
+/// What is found of a log and a plan in the state now. The view is dropped here, so that landing finds
 /// nothing shared.
-fn judged<A: Allocator + Copy>(
+fn outcome<A: Allocator + Copy>(
     alloc: A,
     image: &Image<A>,
     leases: &Arc<Leases<A>, A>,
     clients: &Arc<Vec<Client, A>, A>,
-    submission: Submission<A>,
-) -> Result<Judged<A>, Back<A>>
+    client: u32,
+    log: &[u8],
+    plan: &[u8],
+) -> Result<Outcome<A>, Why>
     requires distinct { ClientsAreDistinct clients.now.value.items }
-    ensures verdict { IfOk result (λ judged. IsVerdict (state_at image.now clients.now.value.items leases.now.value) (submission_of submission) judged.outcome) }
-    ensures submission { IfOk result (λ judged. judged.submission ≡ submission) }
-    ensures back { IfErr result (λ back. back.submission ≡ submission) }
-    ensures memory { IfErr result (λ back. back.why ≡ Why.OutOfMemory) }
+    ensures verdict { IfOk result (λ outcome. IsVerdict (state_at image.now clients.now.value.items leases.now.value) (submission_with client log.now plan.now) outcome) }
+    ensures memory { IfErr result (λ why. why ≡ Why.OutOfMemory) }
     ensures lawful { IsLawful image.now }
 {
-    let Ok(view) = view_of(image, leases, clients) else {
-        let why = Why::OutOfMemory;
-        return Err(Back { submission, why });
-    };
-    judge(alloc, &view, submission)
+    let view = view_of(image, leases, clients)?;
+    judge_bytes(alloc, &view, client, log, plan)
 }
 
 /// A verdict that holds in the state now, and whether it was judged again: the given one if it holds,
@@ -494,22 +516,23 @@ fn make_moves<A: Allocator + Copy>(
     }
 }
 
-/// Answers a verdict, and lands it where it is a Yes with room. Leases on nodes that go end.
+/// Answers what was found of a log with these bytes, and lands it where it is a Yes with room. Leases
+/// on nodes that go end.
 fn land<A: Allocator + Copy>(
     alloc: A,
     image: &mut Image<A>,
     leases: &mut Arc<Leases<A>, A>,
     position: u32,
     rejudged: bool,
-    judged: Judged<A>,
-) -> Result<Reply, Back<A>>
-    requires { CanLand image.old judged.submission.log.items judged.outcome }
-    ensures answer { IfOk result (λ reply. AnswersOutcome image.old judged.submission.log.items position rejudged judged.outcome reply image.new) }
-    ensures leases { IfOk result (λ reply. leases.new.value ≡ leases_left leases.old.value judged.outcome reply) }
-    ensures back { IfErr result (λ back. (back.submission ≡ judged.submission) × (back.why ≡ Why.OutOfMemory)) }
+    source: &[u8],
+    outcome: Outcome<A>,
+) -> Result<Reply, Why>
+    requires { CanLand image.old source.now outcome }
+    ensures answer { IfOk result (λ reply. AnswersOutcome image.old source.now position rejudged outcome reply image.new) }
+    ensures leases { IfOk result (λ reply. leases.new.value ≡ leases_left leases.old.value outcome reply) }
+    ensures memory { IfErr result (λ why. why ≡ Why.OutOfMemory) }
     ensures err { OnErr result ((image.new ≡ image.old) × (leases.new.value ≡ leases.old.value)) }
 {
-    let (submission, outcome) = judged.into_parts();
     let (log, plan, net, need) = match outcome {
         Outcome::Yes {
             log,
@@ -535,14 +558,11 @@ fn land<A: Allocator + Copy>(
         });
     }
     let bytes = LogBytes {
-        source: &submission.log,
+        source,
         entries: &log.entries,
         pieces: &plan.pieces,
     };
-    if change_state(alloc, image, leases, &bytes, &net).is_err() {
-        let why = Why::OutOfMemory;
-        return Err(Back { submission, why });
-    }
+    change_state(alloc, image, leases, &bytes, &net)?;
     Ok(Reply::Yes {
         position,
         rejudged,

@@ -4,6 +4,7 @@ ghost use Rattle.kfs_model.specs.Machine.{Migrate, Row};
 ghost use Rattle.kfs_plan.specs.Judging.{submission_of};
 ghost use Rattle.kfs_plan.specs.declared.answers.Done.TheVariants.{Moved};
 ghost use Rattle.kfs_desk.specs.Machine.{IsCallStep, IsStep, call_of, done_by};
+ghost use Rattle.kfs_desk.specs.HandedIn.{handed_in};
 
 use crate::state::ShownState;
 use kfs_desk_docket::{Docket, OneRow, RowRule};
@@ -12,32 +13,55 @@ use kfs_migrate::Move;
 use kfs_plan::Submission;
 use kfs_plan::answers::{ActFault, Done, Reply};
 use std::alloc::Allocator;
-use std::snapshot::Snapshot;
+
+/// What a client hands in.
+#[derive(Clone, Copy)]
+pub struct HandedIn<'a> {
+    /// The client's number.
+    pub client: u32,
+    /// The bytes of its log.
+    pub log: &'a [u8],
+    /// The bytes of its plan.
+    pub plan: &'a [u8],
+}
+
+impl<'a> HandedIn<'a> {
+    /// What a submission has.
+    pub fn of<A: Allocator>(submission: &'a Submission<A>) -> HandedIn<'a>
+        ensures { handed_in result ≡ submission_of submission.now }
+    {
+        HandedIn {
+            client: submission.client,
+            log: submission.log.as_slice(),
+            plan: submission.plan.as_slice(),
+        }
+    }
+}
 
 /// A submission and its reply, with the states before and after it.
 #[derive(Drop)]
 struct Answered<'a, A: Allocator> {
     before: &'a ShownState<A>,
-    submission: &'a Snapshot<Submission<A>>,
+    submission: &'a HandedIn<'a>,
     reply: &'a Reply,
     after: &'a ShownState<A>,
 }
 
 impl<A: Allocator> RowRule for Answered<'_, A> {
-    ghost is_row = { λ a row. IsStep a.before.now (submission_of a.submission.now.value) a.reply.now row a.after.now };
+    ghost is_row = { λ a row. IsStep a.before.now (handed_in a.submission.now) a.reply.now row a.after.now };
 }
 
 /// Adds the row of a submission with its reply, which leads from the state before to the state after.
 pub fn add_answer<A: Allocator>(
     docket: &mut Docket,
     before: &ShownState<A>,
-    submission: &Snapshot<Submission<A>>,
+    submission: &HandedIn<'_>,
     reply: &Reply,
     after: &ShownState<A>,
 )
     requires room { length docket.old + 1 < 2 ^ 32 }
-    requires step { (row : Row) × IsStep before.now (submission_of submission.now.value) reply.now row after.now }
-    ensures { (row : Row) × IsStep before.now (submission_of submission.now.value) reply.now row after.now × (docket.new ≡ docket.old ++ row ∷ []) }
+    requires step { (row : Row) × IsStep before.now (handed_in submission.now) reply.now row after.now }
+    ensures { (row : Row) × IsStep before.now (handed_in submission.now) reply.now row after.now × (docket.new ≡ docket.old ++ row ∷ []) }
 {
     let row = OneRow::of(&Answered {
         before,

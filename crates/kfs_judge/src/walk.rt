@@ -1,5 +1,5 @@
 //! Judging the entries of a log against a view.
-ghost use Rattle.std.specs.Prelude.{◌≡◌, ℕ, ◌≤◌, false, length, IsSome, IfOk, [], None, Ok, OnOk};
+ghost use Rattle.std.specs.Prelude.{◌≡◌, ℕ, ◌≤◌, false, true, length, IsSome, IfOk, [], None, Ok, OnOk};
 ghost use Rattle.kfs_model.specs.Access.{Client as ClientRow};
 ghost use Rattle.kfs_model.specs.Lease.{row_of};
 ghost use Rattle.kfs_model.specs.Limits.{entry_limit};
@@ -11,14 +11,12 @@ ghost use Rattle.kfs_judge_check.specs.Recorders.{GoesOn};
 ghost use Rattle.kfs_judge_check.specs.View.{clients_of, client_sight_in};
 ghost use Rattle.kfs_judge.specs.Walks.{HasOrderedSizes, IsRowOf, IsWalkOf, IsCellWalkOf, ReadsLookedCells};
 
-use indexmap::IndexMap;
 use kfs_entry::{Entry, Log, Span};
 use kfs_image_nodes::Net;
-use kfs_judge_check::{Read, ReadAnswer, Reason, View};
+use kfs_judge_check::{Reads, Reason, View};
 use kfs_judge_step::LogJudge;
 use kfs_plan_sweep::FileSize;
 use std::alloc::{AllocError, Allocator};
-use std::hash::{BuildHasherDefault, FoldHasher};
 use thiserror::Error;
 
 /// The first bad entry of a log.
@@ -34,8 +32,8 @@ pub struct EntryFault {
 /// The outcome of judging a log's entries, with the reads that it rests on.
 #[derive(Drop)]
 pub struct Walk<A: Allocator> {
-    /// What was read of the view, with the answers, in the order of the first look.
-    pub reads: IndexMap<Read, ReadAnswer, BuildHasherDefault<FoldHasher>, A>,
+    /// What was read of the view, with the answers, in order.
+    pub reads: Reads<A>,
     /// The net change, or the first bad entry.
     pub outcome: Result<Net<A>, EntryFault>,
     /// The sizes of the files that the log changes or reaches, ascending by number. Empty where there
@@ -44,7 +42,7 @@ pub struct Walk<A: Allocator> {
 }
 
 /// Judges the entries of a log against a view. Condition: the log's client is one of the view's, and
-/// there are at most 4,096 entries.
+/// there are at most 4,096 entries. The reads are kept, each once, in the order of the first look.
 ///
 /// A bad entry is an outcome, not an error. `Err` only where memory is refused; nothing is kept then.
 pub fn judge_entries<A: Allocator + Copy>(
@@ -60,9 +58,33 @@ pub fn judge_entries<A: Allocator + Copy>(
     ensures view_agrees { IfOk result (λ walk. Agrees walk.reads.entries (client_sight_in view.now log.now.client)) }
     ensures once { IfOk result (λ walk. AreOnce walk.reads.entries) }
     ensures among { IfOk result (ReadsLookedCells view.now log.now) }
+    ensures keeps { IfOk result (λ walk. walk.reads.keeps ≡ true) }
     ensures sizes { IfOk result HasOrderedSizes }
 {
-    let walk = walk_entries(alloc, view, log)?;
+    judge_entries_into(alloc, view, log, Reads::kept(alloc))
+}
+
+/// The same, where the caller says whether the reads are kept: they go into `reads`, where there is none
+/// yet.
+pub fn judge_entries_into<A: Allocator + Copy>(
+    alloc: A,
+    view: &View<A>,
+    log: &Log<A>,
+    reads: Reads<A>,
+) -> Result<Walk<A>, AllocError>
+    requires client { IsSome (row_of (clients_of view.now) log.now.client) }
+    requires count { length log.now.entries ≤ entry_limit }
+    requires none { reads.entries ≡ [] }
+    // The outcome is right at every sound tree, with all leases, that agrees with the reads, whatever
+    // bytes the payloads are.
+    ensures known { IfOk result (λ walk. (client : ClientRow) × IsRowOf (clients_of view.now) log.now.client client × IsWalkOf client log.now walk) }
+    ensures view_agrees { IfOk result (λ walk. Agrees walk.reads.entries (client_sight_in view.now log.now.client)) }
+    ensures once { IfOk result (λ walk. reads.keeps ≡ true → AreOnce walk.reads.entries) }
+    ensures among { IfOk result (ReadsLookedCells view.now log.now) }
+    ensures keeps { IfOk result (λ walk. walk.reads.keeps ≡ reads.keeps) }
+    ensures sizes { IfOk result HasOrderedSizes }
+{
+    let walk = walk_entries(alloc, view, log, reads)?;
     Ok(walk)
 }
 
@@ -70,18 +92,21 @@ fn walk_entries<A: Allocator + Copy>(
     alloc: A,
     view: &View<A>,
     log: &Log<A>,
+    reads: Reads<A>,
 ) -> Result<Walk<A>, AllocError>
     requires client { IsSome (row_of (clients_of view.now) log.now.client) }
     requires count { length log.now.entries ≤ entry_limit }
+    requires none { reads.entries ≡ [] }
     // The outcome is right in every state that agrees with the reads.
     ensures known { IfOk result (λ walk. (client : ClientRow) × IsRowOf (clients_of view.now) log.now.client client × IsCellWalkOf client log.now walk) }
     ensures view_agrees { IfOk result (λ walk. Agrees walk.reads.entries (client_sight_in view.now log.now.client)) }
-    ensures once { IfOk result (λ walk. AreOnce walk.reads.entries) }
+    ensures once { IfOk result (λ walk. reads.keeps ≡ true → AreOnce walk.reads.entries) }
     ensures among { IfOk result (ReadsLookedCells view.now log.now) }
+    ensures keeps { IfOk result (λ walk. walk.reads.keeps ≡ reads.keeps) }
     ensures sizes { IfOk result HasOrderedSizes }
 {
     let client = view.client(log.client).unwrap();
-    let mut judge = LogJudge::new(alloc, view, client);
+    let mut judge = LogJudge::new(alloc, view, client, reads);
     let fault = enter_all(&mut judge, log.entries.as_slice())?;
     if let Some(fault) = fault {
         return Ok(Walk {

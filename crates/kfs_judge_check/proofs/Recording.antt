@@ -1,5 +1,5 @@
 -- What calls of a recorder have in common: nothing is read, one more read, one call after another.
-use Rattle.std.specs.Prelude.{◌≡◌, ◌⊎◌, IsErr, Result, Ok, Err, List, [], ◌∷◌, ◌++◌, Contains, slice_index_or, refl}
+use Rattle.std.specs.Prelude.{◌≡◌, ◌⊎◌, true, IsErr, Result, Ok, Err, List, [], ◌∷◌, ◌++◌, Contains, slice_index_or, refl}
 use Rattle.std.proofs.Common.{inl, inr, ⊎_elim, subst, sym, ◌∙◌, arith}
 use Rattle.std.proofs.lemmas.List.Elements.{Contains-get_or, Contains-push_cases, Contains-append_left, Contains-append_right, Contains-append_cases}
 use Rattle.kfs_model.specs.Sight.{Cell, ClientSight}
@@ -13,14 +13,15 @@ use Rattle.kfs_judge_check.specs.Recorders.{GoesOn, AnswersLook, LooksAlong, see
 
 module _ {A : Type 0} where
   pub goes_nowhere : (recorder : Recorder A) → GoesOn recorder recorder
-  goes_nowhere recorder = record { grows = λ state agrees. agrees; same = refl; agrees = λ agrees. agrees; once = λ once. once }
+  goes_nowhere recorder = record { grows = λ state agrees. agrees; same = refl; keeps = refl; agrees = λ agrees. agrees; once = λ kept once. once }
 
   pub goes_then : {first then last : Recorder A} → GoesOn first then → GoesOn then last → GoesOn first last
   goes_then front back = record {
     grows = λ state agrees. front.grows state (back.grows state agrees);
     same = back.same ∙ front.same;
+    keeps = back.keeps ∙ front.keeps;
     agrees = λ agrees. back.agrees (front.agrees agrees);
-    once = λ once. back.once (front.once once);
+    once = λ kept once. back.once (front.keeps ∙ kept) (front.once kept once);
   }
 
   -- memory is refused
@@ -98,5 +99,5 @@ module _ {A : Type 0} (shown : ClientSight) (fresh recorder : Recorder A) (none 
       at (inl earlier) = absurd (no_read (slice_index_or recorder.reads.entries k d) (subst (λ entries. Contains entries (slice_index_or recorder.reads.entries k d)) none earlier))
       at (inr here) = here
 
-  pub once_from_none : GoesOn fresh recorder → AreOnce recorder.reads.entries
-  once_from_none goes = goes.once (subst AreOnce (sym none) (λ i j d before inside. absurd (omega (arith, inside))))
+  pub once_from_none : fresh.reads.keeps ≡ true → GoesOn fresh recorder → AreOnce recorder.reads.entries
+  once_from_none kept goes = goes.once kept (subst AreOnce (sym none) (λ i j d before inside. absurd (omega (arith, inside))))

@@ -1,5 +1,5 @@
 -- A recorder before and after a call.
-use Rattle.std.specs.Prelude.{◌≡◌, ℕ, List, [], ◌∷◌, Result, IfOk, OnOk}
+use Rattle.std.specs.Prelude.{◌≡◌, ℕ, List, [], ◌∷◌, Result, IfOk, OnOk, true}
 use Rattle.kfs_model.specs.Sight.{ClientSight, Cell, HeaderOf, NameIn}
 use Rattle.kfs_judge_check.specs.declared.reads.Recorder.{Recorder}
 use Rattle.kfs_judge_check.specs.Reads.{Agrees, AreOnce, Grows, Always, Within}
@@ -10,13 +10,14 @@ module _ {A : Type 0} where
   abbrev pub seen_by : Recorder A → ClientSight
   seen_by recorder = client_sight_in recorder.view.now recorder.client
 
-  -- the view stays the same; if the old reads agree with it, so do the new ones; if none was recorded
-  -- twice, none is now
+  -- the view stays the same, and whether reads are kept; if the old reads agree with it, so do the new
+  -- ones; if none was kept twice, none is now
   pub record GoesOn (old new : Recorder A) : Type 0 where
     pub grows : Grows old.reads.entries new.reads.entries
     pub same : seen_by new ≡ seen_by old
+    pub keeps : new.reads.keeps ≡ old.reads.keeps
     pub agrees : Agrees old.reads.entries (seen_by old) → Agrees new.reads.entries (seen_by new)
-    pub once : AreOnce old.reads.entries → AreOnce new.reads.entries
+    pub once : old.reads.keeps ≡ true → AreOnce old.reads.entries → AreOnce new.reads.entries
 
   -- P holds of each state that agrees with what was read
   abbrev pub Known : Recorder A → (ClientSight → Type 0) → Type 0

@@ -7,9 +7,12 @@
 mod check;
 mod entry_judge;
 mod reads;
+mod record;
+mod seen;
 mod view;
 
 pub use check::{Check, Reason};
 pub use entry_judge::EntryJudge;
-pub use reads::{Read, ReadAnswer, Reads, Recorder};
+pub use reads::{Read, ReadAnswer, Recorder};
+pub use record::Reads;
 pub use view::View;

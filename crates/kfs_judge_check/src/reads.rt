@@ -1,21 +1,18 @@
 //! The reads of a judgement: each is made once, and recorded with its answer.
 
-ghost use Rattle.std.specs.Prelude.{◌≡◌, ℕ, ℤ, pos, Bool, [], ◌∷◌, Option, OnErr, OnOk};
+ghost use Rattle.std.specs.Prelude.{◌≡◌, ℕ, ℤ, pos, Bool, [], ◌∷◌, Option};
 ghost use Rattle.std.specs.Option.{option_map};
 ghost use Rattle.kfs_entry_value.specs.Views.{header_of};
 ghost use Rattle.kfs_model.specs.Header.{Header as HeaderShown};
 ghost use Rattle.kfs_model.specs.Sight.{answer, Head, Number, Count, Held, CountOf, ParentOf, LeaseOn};
-ghost use Rattle.indexmap.specs.IndexMap.{insert_entry};
 ghost use Rattle.kfs_judge_check.specs.Reads.{cell_of, answer_of};
-ghost use Rattle.kfs_judge_check.specs.SameReads.{same_read};
 ghost use Rattle.kfs_judge_check.specs.Recorders.{seen_by, AnswersLook, LooksAtHeader, LooksAtName};
 ghost use Rattle.kfs_judge_check.specs.View.{client_sight_in};
 
+use crate::record::Reads;
 use crate::view::View;
-use indexmap::IndexMap;
 use kfs_image_nodes::{Answer, Cell, Header, Name, Near};
 use std::alloc::{AllocError, Allocator};
-use std::hash::{BuildHasherDefault, FoldHasher};
 
 /// One thing that a judgement may read of a state, for its client.
 #[derive(Clone, Debug, PartialEq, Eq, Hash, Drop)]
@@ -35,29 +32,26 @@ pub enum ReadAnswer {
     Lease(bool),
 }
 
-/// The recorded reads with their answers, in the order of the first look.
-pub type Reads<A> = IndexMap<Read, ReadAnswer, BuildHasherDefault<FoldHasher>, A>;
-
 /// Reads a view for one client, and records each read with its answer. `Err` where memory for the
 /// record is refused; that read isn't recorded then.
 #[derive(Drop)]
 pub struct Recorder<'a, A: Allocator> {
     view: &'a View<A>,
     client: u32,
-    reads: IndexMap<Read, ReadAnswer, BuildHasherDefault<FoldHasher>, A>,
+    reads: Reads<A>,
     near: Near,
 }
 
 impl<'a, A: Allocator + Copy> Recorder<'a, A> {
-    /// No read yet, for the client with this number. Takes no memory.
-    pub fn new(alloc: A, view: &'a View<A>, client: u32) -> Recorder<'a, A>
-        ensures none { result.reads.entries ≡ [] }
+    /// For the client with this number, with the reads so far. Takes no memory.
+    pub fn new(view: &'a View<A>, client: u32, reads: Reads<A>) -> Recorder<'a, A>
+        ensures reads { result.reads ≡ reads }
         ensures seen { seen_by result ≡ client_sight_in view.now client }
     {
         Recorder {
             view,
             client,
-            reads: IndexMap::new(alloc),
+            reads,
             near: Near::start(),
         }
     }
@@ -68,10 +62,10 @@ impl<'a, A: Allocator + Copy> Recorder<'a, A> {
         ensures { AnswersLook self.old self.new result (cell_of read ∷ []) (λ told before. answer before (cell_of read) ≡ answer_of told) }
     {
         if let Some(answer) = self.reads.get(&read) {
-            return Ok(*answer);
+            return Ok(answer);
         }
         let answer = self.view_answer(&read);
-        record(&mut self.reads, read, answer)?;
+        self.reads.add(read, answer)?;
         Ok(answer)
     }
 
@@ -99,11 +93,11 @@ impl<'a, A: Allocator + Copy> Recorder<'a, A> {
     {
         let read = Read::Look(Cell::Name(key.0, key.1));
         if let Some(answer) = self.reads.get(&read) {
-            return Ok(number_in(*answer));
+            return Ok(number_in(answer));
         }
         let number = self.view.target_near(&mut self.near, key);
         let answer = ReadAnswer::Look(Answer::Name(number));
-        record(&mut self.reads, read, answer)?;
+        self.reads.add(read, answer)?;
         Ok(number)
     }
 
@@ -132,27 +126,11 @@ impl<'a, A: Allocator + Copy> Recorder<'a, A> {
     }
 
     /// The recorded reads. Takes no memory.
-    pub fn into_reads(self) -> IndexMap<Read, ReadAnswer, BuildHasherDefault<FoldHasher>, A>
-        ensures { result.entries ≡ self.entry.reads.entries }
+    pub fn into_reads(self) -> Reads<A>
+        ensures { result ≡ self.entry.reads }
     {
         self.reads
     }
-}
-
-/// Records an answer. `Err` where memory is refused; nothing is recorded then.
-// A function's frame is cleared at each call, and reads are long. So a read that is recorded already is
-// answered without the frame of this function.
-#[inline(never)]
-fn record<A: Allocator + Copy>(
-    reads: &mut IndexMap<Read, ReadAnswer, BuildHasherDefault<FoldHasher>, A>,
-    read: Read,
-    answer: ReadAnswer,
-) -> Result<(), AllocError>
-    ensures ok { OnOk result (reads.new.entries ≡ insert_entry same_read reads.old.entries read answer) }
-    ensures err { OnErr result (reads.new.entries ≡ reads.old.entries) }
-{
-    reads.insert(read, answer)?;
-    Ok(())
 }
 
 /// The header in an answer.

@@ -13,16 +13,14 @@ ghost use Rattle.kfs_judge_check.specs.View.{client_sight_in};
 
 use crate::net::{name_rows, node_rows};
 use crate::sizes::file_sizes;
-use indexmap::IndexMap;
 use kfs_entry::{Entry, Span};
 use kfs_entry_codec::entry_table;
 use kfs_image_nodes::Net;
-use kfs_judge_check::{Read, ReadAnswer, Reason, Recorder, View};
+use kfs_judge_check::{Reads, Reason, Recorder, View};
 use kfs_judge_draft::Draft;
 use kfs_mode::Client;
 use kfs_plan_sweep::FileSize;
 use std::alloc::{AllocError, Allocator};
-use std::hash::{BuildHasherDefault, FoldHasher};
 
 /// An entry's field as its function takes it: of a payload, the number of its bytes.
 macro_rules! taken {
@@ -56,10 +54,10 @@ pub struct LogJudge<'a, A: Allocator> {
 }
 
 impl<'a, A: Allocator + Copy> LogJudge<'a, A> {
-    /// At the start of a log of this client. Takes no memory.
-    pub fn new(alloc: A, view: &'a View<A>, client: &'a Client) -> LogJudge<'a, A>
+    /// At the start of a log of this client, with the reads so far. Takes no memory.
+    pub fn new(alloc: A, view: &'a View<A>, client: &'a Client, reads: Reads<A>) -> LogJudge<'a, A>
         ensures client { result.client.now ≡ client.now }
-        ensures none { result.recorder.reads.entries ≡ [] }
+        ensures reads { result.recorder.reads ≡ reads }
         ensures seen { seen_by result.recorder ≡ client_sight_in view.now client.now.number }
         ensures shown { (s : Sight) → over result.draft s ≡ s }
         ensures written { ChangesAreAmong result.draft [] }
@@ -69,7 +67,7 @@ impl<'a, A: Allocator + Copy> LogJudge<'a, A> {
         LogJudge {
             client,
             draft: Draft::new(alloc),
-            recorder: Recorder::new(alloc, view, client.number()),
+            recorder: Recorder::new(view, client.number(), reads),
         }
     }
 
@@ -108,8 +106,8 @@ impl<'a, A: Allocator + Copy> LogJudge<'a, A> {
     }
 
     /// The recorded reads. Takes no memory.
-    pub fn into_reads(self) -> IndexMap<Read, ReadAnswer, BuildHasherDefault<FoldHasher>, A>
-        ensures { result.entries ≡ self.entry.recorder.reads.entries }
+    pub fn into_reads(self) -> Reads<A>
+        ensures { result ≡ self.entry.recorder.reads }
     {
         self.recorder.into_reads()
     }

@@ -99,6 +99,12 @@ pub record AgreesWithReads (s : State) (number : ℕ) (client : Option Client) (
   pub row : row_of s.clients number ≡ client
   pub agrees : Agrees reads (client_sight_of s number)
 
+-- the state is sound, has the view's row of this client, and shows the client what the view shows
+pub record ShowsAs {A : Type 0} (s : State) (view : View A) (number : ℕ) : Type 0 where
+  pub sound : IsSound s.tree
+  pub row : row_of s.clients number ≡ row_of (clients_of view) number
+  pub sight : client_sight_of s number ≡ client_sight_in view number
+
 -- whether the fault is found before the entries are looked at
 abbrev pub is_before_entries : CodeFault → Bool
 is_before_entries faults.UnknownClient = true

@@ -8,18 +8,16 @@ ghost use Rattle.kfs_entry_value.specs.Views.{IsSpanned};
 ghost use Rattle.kfs_judge_check.specs.Reads.{Agrees};
 ghost use Rattle.kfs_judge.specs.Walks.{HasOrderedSizes};
 ghost use Rattle.kfs_judge_check.specs.View.{clients_of, client_sight_in};
-ghost use Rattle.kfs_plan.specs.Judging.{AreLooked, AgreesWithReads, OutcomeIsSettled, IsVerdict, RefusesByFault, submission_of, submission_with};
+ghost use Rattle.kfs_plan.specs.Judging.{AreLooked, AgreesWithReads, OutcomeIsSettled, IsVerdict, RefusesByFault, ShowsAs, submission_of, submission_with};
 
 use crate::judged::Judged;
 use crate::rows::{RowFault, check_rows};
 use crate::spelling::{Spelled, read_submission};
 use crate::submission::{Back, Fault, Outcome, Submission, Why};
-use indexmap::IndexMap;
 use kfs_entry::{Log, Plan};
-use kfs_judge::{Read, ReadAnswer, View, Walk, judge_entries};
+use kfs_judge::{Reads, View, Walk, judge_entries_into};
 use kfs_mode::Client;
 use std::alloc::{AllocError, Allocator};
-use std::hash::{BuildHasherDefault, FoldHasher};
 
 /// Judges a submission against a view. It checks, in order: the client is known, the log's bytes, the
 /// log's client, the plan's bytes, the entries, the plan's rows. It changes nothing but memory of its
@@ -45,49 +43,76 @@ pub fn judge<A: Allocator + Copy>(
     ensures memory { IfErr result (λ b. b.why ≡ Why.OutOfMemory) }
 {
     let (log, plan) = (submission.log.as_slice(), submission.plan.as_slice());
-    match find(alloc, view, submission.client, log, plan) {
+    let kept = Reads::kept(alloc);
+    match find(alloc, view, submission.client, log, plan, kept) {
         Ok(finding) => {
             let VerdictParts {
                 client,
                 reads,
                 outcome,
             } = finding;
-            Ok(Judged::of(submission, client, reads, outcome))
+            Ok(Judged::of(submission, client, reads.into_map(), outcome))
         }
         Err(why) => Err(Back { submission, why }),
     }
+}
+
+/// Judges a log and a plan whose bytes the caller keeps, for one who answers at once. The outcome is
+/// that of `judge`, and no read is kept.
+pub fn judge_bytes<A: Allocator + Copy>(
+    alloc: A,
+    view: &View<A>,
+    client: u32,
+    log: &[u8],
+    plan: &[u8],
+) -> Result<Outcome<A>, Why>
+    // In every state that shows the client what the view shows, this is the verdict.
+    ensures known { IfOk result (λ outcome. (s : State) → ShowsAs s view.now client → IsVerdict s (submission_with client log.now plan.now) outcome) }
+    // A No names a fault of the submission.
+    ensures fault { IfOk result (λ outcome. RefusesByFault outcome) }
+    ensures memory { IfErr result (λ why. why ≡ Why.OutOfMemory) }
+{
+    let parts = find(alloc, view, client, log, plan, Reads::unkept())?;
+    Ok(parts.outcome)
 }
 
 /// The parts of a verdict, without the submission.
 #[derive(Drop)]
 struct VerdictParts<A: Allocator> {
     client: Option<Client>,
-    reads: IndexMap<Read, ReadAnswer, BuildHasherDefault<FoldHasher>, A>,
+    reads: Reads<A>,
     outcome: Outcome<A>,
 }
 
 impl<A: Allocator + Copy> VerdictParts<A> {
     /// A fault found before the entries were looked at.
-    fn unread(alloc: A, client: Option<Client>, fault: Fault) -> VerdictParts<A>
+    fn unread(reads: Reads<A>, client: Option<Client>, fault: Fault) -> VerdictParts<A>
+        requires { reads.entries ≡ [] }
         ensures client { result.client ≡ client }
         ensures reads { result.reads.entries ≡ [] }
+        ensures keeps { result.reads.keeps ≡ reads.keeps }
         ensures outcome { result.outcome ≡ Outcome.No fault }
     {
         VerdictParts {
             client,
-            reads: IndexMap::new(alloc),
+            reads,
             outcome: Outcome::No(fault),
         }
     }
 }
 
+/// Judges these bytes of the client with this number. What is read goes into `reads`, where there is
+/// none yet.
 fn find<A: Allocator + Copy>(
     alloc: A,
     view: &View<A>,
     number: u32,
     log: &[u8],
     plan: &[u8],
+    reads: Reads<A>,
 ) -> Result<VerdictParts<A>, Why>
+    requires { reads.entries ≡ [] }
+    ensures keeps { IfOk result (λ f. f.reads.keeps ≡ reads.keeps) }
     ensures client { IfOk result (λ f. f.client ≡ row_of (clients_of view.now) number) }
     ensures known { IfOk result (λ f. (s : State) → AgreesWithReads s number f.client f.reads.entries → IsVerdict s (submission_with number log.now plan.now) f.outcome) }
     ensures view_agrees { IfOk result (λ f. Agrees f.reads.entries (client_sight_in view.now number)) }
@@ -96,13 +121,13 @@ fn find<A: Allocator + Copy>(
     ensures memory { IfErr result (λ why. why ≡ Why.OutOfMemory) }
 {
     let Some(client) = view.client(number) else {
-        return Ok(VerdictParts::unread(alloc, None, Fault::UnknownClient));
+        return Ok(VerdictParts::unread(reads, None, Fault::UnknownClient));
     };
     let row = Some(copied(client)?);
     match read_submission(alloc, client.number(), log, plan)? {
-        Spelled::No(fault) => Ok(VerdictParts::unread(alloc, row, fault)),
+        Spelled::No(fault) => Ok(VerdictParts::unread(reads, row, fault)),
         Spelled::Yes(log, plan) => {
-            let walk = judge_entries(alloc, view, &log)?;
+            let walk = judge_entries_into(alloc, view, &log, reads)?;
             let finding = settle(alloc, row, log, plan, walk)?;
             Ok(finding)
         }

@@ -14,7 +14,7 @@ mod spelling;
 mod submission;
 
 pub use judged::Judged;
-pub use judgement::judge;
+pub use judgement::{judge, judge_bytes};
 pub use pieces::sweep;
 pub use rows::{RowFault, check_plan};
 pub use submission::{Back, Fault, Outcome, Submission, Why};

@@ -1,15 +1,19 @@
 //! An example of each public type of `kfs_judge`, `kfs_plan` and `kfs_desk`: how it comes about, and what it holds.
 
+ghost use Rattle.std.specs.Prelude.{◌≡◌, []};
+
 use kfs_desk::{
     Act, ActFault, ActReply, Back, BeginBack, BeginFault, Desk, Done, Reply, SubmissionsBack,
     Unanswered, Why,
 };
 use kfs_entry::{ENTRY_LIMIT, Log, SpellFault, decode_log};
 use kfs_image::{Answer, Cell, Image, TierSizes};
-use kfs_judge::{EntryFault, FileSize, Net, Read, ReadAnswer, Reason, View, Walk, judge_entries};
+use kfs_judge::{
+    EntryFault, FileSize, Net, Read, ReadAnswer, Reads, Reason, View, Walk, judge_entries_into,
+};
 use kfs_lease::{LeaseFault, LeaseKind};
 use kfs_mode::{Client, ClientFault};
-use kfs_plan::{Fault, Judged, Outcome, RowFault, Submission, judge};
+use kfs_plan::{Fault, Judged, Outcome, RowFault, Submission, judge, judge_bytes};
 use kfs_test_support::refusing::Refusing;
 use kfs_test_support::vectors::{CREATE_LOG, CREATE_PLAN, EMPTY_PLAN};
 use std::alloc::{Allocator, Global};
@@ -57,23 +61,35 @@ fn log(alloc: Global, bytes: &[u8]) -> Option<Log<Global>> {
     decode_log(alloc, bytes).ok()
 }
 
-/// The walk over the entries of a log whose client the view has.
-fn walk(alloc: Global, view: &View<Global>, log: &Log<Global>) -> Option<Walk<Global>> {
+/// The walk over the entries of a log whose client the view has; `reads` has no read yet.
+fn walk(
+    alloc: Global,
+    view: &View<Global>,
+    log: &Log<Global>,
+    reads: Reads<Global>,
+) -> Option<Walk<Global>>
+    requires { reads.entries ≡ [] }
+{
     let is_known = view.client(log.client).is_some();
     if !is_known || log.entries.as_slice().len() > usize::from(ENTRY_LIMIT) {
         return None;
     }
-    judge_entries(alloc, view, log).ok()
+    judge_entries_into(alloc, view, log, reads).ok()
 }
 
 fn walked(alloc: Global, desk: &Desk<Global>, bytes: &[u8]) -> Option<Walk<Global>> {
     let log = log(alloc, bytes)?;
-    walk(alloc, &view(desk)?, &log)
+    walk(alloc, &view(desk)?, &log, Reads::kept(alloc))
+}
+
+fn walked_unread(alloc: Global, desk: &Desk<Global>, bytes: &[u8]) -> Option<Walk<Global>> {
+    let log = log(alloc, bytes)?;
+    walk(alloc, &view(desk)?, &log, Reads::unkept())
 }
 
 /// What was read of the cell, or none where it wasn't looked at.
 fn read(walk: &Walk<Global>, read: Read) -> Option<ReadAnswer> {
-    walk.reads.get(&read).copied()
+    walk.reads.get(&read)
 }
 
 /// How many names and headers differ after the log.
@@ -112,6 +128,16 @@ fn a_walk_and_what_it_read(rt: HostRuntime) {
 }
 
 #[test]
+fn a_walk_that_keeps_no_read(rt: HostRuntime) {
+    let walk = opened(rt.alloc(), 9).and_then(|desk| walked_unread(rt.alloc(), &desk, CREATE_LOG));
+    assert!(rt; walk.is_some());
+    if let Some(walk) = walk {
+        assert!(rt; outcome(&walk) == Ok((1, 1)));
+        assert!(rt; read(&walk, Read::Lease(1)).is_none());
+    }
+}
+
+#[test]
 fn a_walk_that_stops_at_an_entry(rt: HostRuntime) {
     let walk = begun(rt.alloc(), 9).and_then(|desk| walked(rt.alloc(), &desk, CREATE_LOG));
     let fault = EntryFault {
@@ -133,8 +159,8 @@ fn judged(alloc: Global, desk: &Desk<Global>, log: &[u8], plan: &[u8]) -> Option
 }
 
 /// How many names and headers a Yes changes and how many blocks it writes, or why the verdict is a No.
-fn verdict(judged: &Judged<Global>) -> Result<(usize, usize, u64), Fault> {
-    match judged.outcome() {
+fn verdict(outcome: &Outcome<Global>) -> Result<(usize, usize, u64), Fault> {
+    match outcome {
         Outcome::Yes { net, need, .. } => {
             let (names, nodes) = differing(net);
             Ok((names, nodes, *need))
@@ -151,7 +177,18 @@ fn verdict_on(
 ) -> Option<Result<(usize, usize, u64), Fault>> {
     let desk = opened(alloc, 9)?;
     let judged = judged(alloc, &desk, log, plan)?;
-    Some(verdict(&judged))
+    Some(verdict(judged.outcome()))
+}
+
+/// The same by a call that leaves the bytes where they are.
+fn verdict_on_bytes(
+    alloc: Global,
+    log: &[u8],
+    plan: &[u8],
+) -> Option<Result<(usize, usize, u64), Fault>> {
+    let view = view(&opened(alloc, 9)?)?;
+    let outcome = judge_bytes(alloc, &view, 7, log, plan).ok()?;
+    Some(verdict(&outcome))
 }
 
 #[test]
@@ -162,6 +199,14 @@ fn a_verdict_of_yes_and_two_of_no(rt: HostRuntime) {
     assert!(rt; row == Some(Err(Fault::Row(RowFault::Names(0)))));
     let cut = verdict_on(rt.alloc(), &CREATE_LOG[..24], CREATE_PLAN);
     assert!(rt; cut == Some(Err(Fault::BadLog(SpellFault::BadEntry(0)))));
+}
+
+#[test]
+fn verdicts_on_bytes(rt: HostRuntime) {
+    let yes = verdict_on_bytes(rt.alloc(), CREATE_LOG, CREATE_PLAN);
+    assert!(rt; yes == Some(Ok((1, 1, 0))));
+    let row = verdict_on_bytes(rt.alloc(), CREATE_LOG, EMPTY_PLAN);
+    assert!(rt; row == Some(Err(Fault::Row(RowFault::Names(0)))));
 }
 
 // ---- the desk's answers
@@ -194,6 +239,23 @@ fn a_reply_and_a_submission_that_comes_back(rt: HostRuntime) {
     };
     assert!(rt; created(rt.alloc(), 2) == Some(Ok(yes)));
     assert!(rt; created(rt.alloc(), 1) == Some(Err(Why::DocketFull)));
+}
+
+/// What such a desk answers to the same bytes, where they lie.
+fn created_of_bytes(alloc: Global, limit: u32) -> Option<Result<Reply, Why>> {
+    let mut desk = opened(alloc, limit)?;
+    Some(desk.submit_bytes(7, CREATE_LOG, CREATE_PLAN))
+}
+
+#[test]
+fn replies_to_bytes(rt: HostRuntime) {
+    let yes = Reply::Yes {
+        position: 1,
+        rejudged: false,
+        need: 0,
+    };
+    assert!(rt; created_of_bytes(rt.alloc(), 2) == Some(Ok(yes)));
+    assert!(rt; created_of_bytes(rt.alloc(), 1) == Some(Err(Why::DocketFull)));
 }
 
 fn act(desk: &mut Desk<Global>, act: Act<'_>) -> Result<ActReply, Unanswered> {

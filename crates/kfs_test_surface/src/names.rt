@@ -51,14 +51,16 @@ pub mod lease {
 pub mod judge {
     pub use kfs_judge::laws::{cells_decide, clean_is_allowed, marks_give_bytes};
     pub use kfs_judge::{
-        EntryFault, FileSize, Net, Read, ReadAnswer, Reason, View, Walk, judge_entries,
+        EntryFault, FileSize, Net, Read, ReadAnswer, Reads, Reason, View, Walk, judge_entries,
+        judge_entries_into,
     };
 }
 
 /// Submissions against a view.
 pub mod plan {
     pub use kfs_plan::{
-        Back, Fault, Judged, Outcome, RowFault, Submission, Why, check_plan, judge, sweep,
+        Back, Fault, Judged, Outcome, RowFault, Submission, Why, check_plan, judge, judge_bytes,
+        sweep,
     };
 }
 

@@ -1,5 +1,5 @@
 -- What lands is the log of the verdict, where there is room for its blocks.
-use Rattle.std.proofs.Common.{◌≡◌, ◌≤◌, List, ℕ, map, refl, sym, ap, subst, ◌∙◌, Result, Ok, Err, false}
+use Rattle.std.proofs.Common.{◌≡◌, ◌≤◌, List, ℕ, map, refl, sym, subst, ◌∙◌, Result, Ok, Err, false}
 use Rattle.std.specs.Prelude.{OnOk, is_err}
 use Rattle.kfs_entry_value.specs.Views.{entry_of, piece_of}
 use Rattle.kfs_entry_value.specs.declared.entry.Log.{Log}
@@ -23,20 +23,20 @@ where_ok (Err e) holds good = cc
 pub change_state-requires-clause-fits : goal.change_state-requires-clause-fits
 change_state-requires-clause-fits g c =
     let yes = c.in-Yes in
-    let source = c.args.judged.submission.log.items in
+    let source = c.args.source.now in
     let image = c.args.image.now in
-    let can : CanLandYes image source yes.log yes.plan yes.net yes.need = subst (CanLand image source) (sym c.into_parts-submission.ensures.outcome ∙ yes.is) c.requires in
+    let can : CanLandYes image source yes.log yes.plan yes.net yes.need = subst (CanLand image source) yes.is c.requires in
     let room : yes.need ≤ free_in image = subst (λ n. yes.need ≤ n) (c.from.ensures ∙ c.free-free.ensures) c.if-from-need.false in
-    let bytes : LogBytes = record { source = c.deref.result; entries = c.deref-2.result; pieces = c.deref-3.result } in
-    can.fits room bytes (are_of source yes.log yes.plan bytes (c.deref.ensures.value ∙ ap (λ s. s.log.items) c.into_parts-submission.ensures.submission) c.deref-2.ensures c.deref-3.ensures)
+    let bytes : LogBytes = record { source = c.args.source; entries = c.deref.result; pieces = c.deref-2.result } in
+    can.fits room bytes (are_of source yes.log yes.plan bytes refl c.deref.ensures c.deref-2.ensures)
 
 pub returns-clause-answer : goal.returns-clause-answer
 returns-clause-answer g c =
     let yes = c.in-Yes in
-    let source = c.args.judged.submission.log.items in
+    let source = c.args.source.now in
     let image = c.args.image.now in
     let room : yes.need ≤ free_in image = subst (λ n. yes.need ≤ n) (c.from.ensures ∙ c.free-free.ensures) c.if-from-need.false in
-    let bytes : LogBytes = record { source = c.deref.result; entries = c.deref-2.result; pieces = c.deref-3.result } in
-    let landed : HasLandedWith image bytes yes.net c.change_state.new.image = where_ok c.change_state.result c.change_state.ensures.image (sym c.is_err.ensures.value ∙ c.if-is_err.false) in
-    subst (λ outcome. AnswersOutcome image source c.args.position c.args.rejudged outcome (replies.Yes c.args.position c.args.rejudged yes.need) c.change_state.new.image) (sym (sym c.into_parts-submission.ensures.outcome ∙ yes.is))
-    (refl, room, record { bytes = bytes; are = are_of source yes.log yes.plan bytes (c.deref.ensures.value ∙ ap (λ s. s.log.items) c.into_parts-submission.ensures.submission) c.deref-2.ensures c.deref-3.ensures; landed = landed })
+    let bytes : LogBytes = record { source = c.args.source; entries = c.deref.result; pieces = c.deref-2.result } in
+    let landed : HasLandedWith image bytes yes.net c.change_state.new.image = c.in_ok-change_state.ensures.image in
+    subst (λ outcome. AnswersOutcome image source c.args.position c.args.rejudged outcome (replies.Yes c.args.position c.args.rejudged yes.need) c.change_state.new.image) (sym yes.is)
+    (refl, room, record { bytes = bytes; are = are_of source yes.log yes.plan bytes refl c.deref.ensures c.deref-2.ensures; landed = landed })

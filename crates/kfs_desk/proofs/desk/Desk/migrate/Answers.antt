@@ -1,5 +1,5 @@
 -- The call is a step of the machine, which leaves the tree, and its row is the docket's next.
-use Rattle.std.proofs.Common.{◌≡◌, ◌<◌, length, refl, sym, ap, subst, ◌∙◌, arith}
+use Rattle.std.proofs.Common.{◌<◌, length, refl, sym, ap, subst, ◌∙◌, arith}
 use Rattle.kfs_model.specs.Judgement.{State}
 use Rattle.kfs_model.specs.Machine.{Migrate, Row}
 use Rattle.kfs_model.specs.Means.{DiffersInPlacement}

@@ -1,10 +1,9 @@
 -- An answer that is recorded is that of the name, and a new one is the view's.
-use Rattle.std.proofs.Common.{◌≡◌, ◌∷◌, [], ◌∙◌, ap, sym, refl}
-use Rattle.indexmap.proofs.CallerLemmas.{insert_entry-new}
+use Rattle.std.proofs.Common.{◌≡◌, ◌∷◌, [], ap, sym, refl}
 use Rattle.kfs_model.specs.Sight.{ClientSight, NameIn, Number, answer}
 use Rattle.kfs_judge_check.specs.Reads.{answer_of, cell_of}
 use Rattle.kfs_judge_check.specs.Recorders.{seen_by}
-use Rattle.kfs_judge_check.specs.SameReads.{same_read}
+use Rattle.kfs_judge_check.specs.Kept.{ReadsShown}
 use Rattle.kfs_judge_check.specs.declared.reads.Read.TheVariants.{Look}
 use Rattle.kfs_judge_check.specs.declared.reads.ReadAnswer.TheVariants as answers
 use Rattle.kfs_image_nodes.specs.declared.cell.Cell.TheVariants.{Name}
@@ -20,7 +19,7 @@ returns-in-Some g c =
     record {
       goes = goes_nowhere c.args.self.now;
       known = λ state agrees.
-          c.number_in.ensures (state.sight.name d m) (known_by_key _ (Look (Name d m)) _ c.in-Some.ensures.value state agrees);
+          c.number_in.ensures (state.sight.name d m) (known_by_key _ (Look (Name d m)) _ (sym c.in-Some.ensures.found) state agrees);
       among = within_same c.args.self.now.reads.entries (NameIn d m ∷ []);
     }
 
@@ -32,15 +31,16 @@ returns g c =
     let read = Look (Name d m) in
     let told = answers.Look (looks.Name number) in
     let old = c.args.self.now.reads.entries in
-    let new = c.record.new.reads.entries in
-    let last = c.in_ok-record.ensures.ok ∙ insert_entry-new same_read c.args.self.now.reads read told (sym c.in_default.ensures.value) in
+    let new = c.add.new.self.entries in
+    let last = ap (λ (r : ReadsShown). r.entries) c.in_ok-add.ensures.ok in
     let shown : answer (seen_by c.args.self.now) (cell_of read) ≡ answer_of told = ap Number (sym c.target_near-number.ensures) in
     record {
       goes = record {
         grows = grows_by_one old new read told last;
         same = refl;
+        keeps = ap (λ (r : ReadsShown). r.keeps) c.in_ok-add.ensures.ok;
         agrees = agrees_by_one old new read told _ last shown;
-        once = once_by_one old new read told last (sym c.in_default.ensures.value);
+        once = λ kept. once_by_one old new read told last (c.in_default.ensures.none kept);
       };
       known = λ state agrees. leads state (known_at_end old new read told last state agrees);
       among = within_one old new read told last;

@@ -1,0 +1,102 @@
+//! The reads that a judgement has made, with their answers.
+ghost use Rattle.std.specs.Prelude.{◌≡◌, true, false, List, [], ◌∷◌, ◌++◌, None, Some, OnErr, OnOk, IfSome, IfNone};
+ghost use Rattle.std.specs.Map.{lookup};
+ghost use Rattle.indexmap.specs.IndexMap.{insert_entry};
+ghost use Rattle.kfs_judge_check.specs.SameReads.{same_read};
+
+use crate::reads::{Read, ReadAnswer};
+use crate::seen::SeenReads;
+use indexmap::IndexMap;
+use std::alloc::{AllocError, Allocator};
+use std::hash::{BuildHasherDefault, FoldHasher};
+use std::marker::Model;
+
+/// The reads of a judgement with their answers, in order. Where they are kept, each stands there once.
+/// Where they aren't, contracts alone see them: they take no memory, and a read that is made again is
+/// there again.
+#[derive(Drop)]
+pub struct Reads<A: Allocator> {
+    kept: Option<IndexMap<Read, ReadAnswer, BuildHasherDefault<FoldHasher>, A>>,
+    seen: SeenReads,
+}
+
+impl<A: Allocator> Model for Reads<A> {
+    ghost use Rattle.std.specs.Prelude.{◌≡◌, is_some, IfSome};
+    ghost use Rattle.kfs_judge_check.specs.Kept.{ReadsShown};
+
+    ghost Value = { ReadsShown };
+
+    ghost view = { λ r. record { keeps = is_some r.kept; entries = r.seen.items } };
+
+    ghost invariant = { λ r. IfSome r.kept (λ map. map.entries ≡ r.seen.items) };
+}
+
+impl<A: Allocator + Copy> Reads<A> {
+    /// No read yet; those that come are kept. Takes no memory.
+    pub fn kept(alloc: A) -> Reads<A>
+        ensures { result ≡ record { keeps = true; entries = [] } }
+    {
+        Reads {
+            kept: Some(IndexMap::new(alloc)),
+            seen: SeenReads::none(),
+        }
+    }
+
+    /// No read yet; none that comes is kept. Takes no memory.
+    pub fn unkept() -> Reads<A>
+        ensures { result ≡ record { keeps = false; entries = [] } }
+    {
+        Reads {
+            kept: None,
+            seen: SeenReads::none(),
+        }
+    }
+
+    /// The answer to a read that was made, if reads are kept.
+    pub fn get(&self, read: &Read) -> Option<ReadAnswer>
+        ensures found { IfSome result (λ answer. lookup (same_read read.now) self.now.entries ≡ Some answer) }
+        ensures none { IfNone result (self.now.keeps ≡ true → lookup (same_read read.now) self.now.entries ≡ None) }
+    {
+        self.kept.as_ref()?.get(read).copied()
+    }
+
+    /// The reads, which were kept. Takes no memory.
+    pub fn into_map(self) -> IndexMap<Read, ReadAnswer, BuildHasherDefault<FoldHasher>, A>
+        requires { self.keeps ≡ true }
+        ensures { result.entries ≡ self.entries }
+    {
+        self.kept.unwrap()
+    }
+
+    /// Adds a read with its answer; one that isn't there yet, where reads are kept. `Err` where memory
+    /// is refused; nothing is added then.
+    #[inline(always)]
+    pub(crate) fn add(&mut self, read: Read, answer: ReadAnswer) -> Result<(), AllocError>
+        requires { self.old.keeps ≡ true → lookup (same_read read) self.old.entries ≡ None }
+        ensures ok { OnOk result (self.new ≡ record self.old { entries = self.old.entries ++ (read, answer) ∷ [] }) }
+        ensures err { OnErr result (self.new ≡ self.old) }
+    {
+        let seen = self.seen.and(&read, &answer);
+        if let Some(map) = &mut self.kept {
+            record(map, read, answer)?;
+        }
+        self.seen = seen;
+        Ok(())
+    }
+}
+
+/// Records an answer. `Err` where memory is refused; nothing is recorded then.
+// A function's frame is cleared at each call, and reads are long. So a read that is recorded already is
+// answered without the frame of this function.
+#[inline(never)]
+fn record<A: Allocator + Copy>(
+    reads: &mut IndexMap<Read, ReadAnswer, BuildHasherDefault<FoldHasher>, A>,
+    read: Read,
+    answer: ReadAnswer,
+) -> Result<(), AllocError>
+    ensures ok { OnOk result (reads.new.entries ≡ insert_entry same_read reads.old.entries read answer) }
+    ensures err { OnErr result (reads.new.entries ≡ reads.old.entries) }
+{
+    reads.insert(read, answer)?;
+    Ok(())
+}
