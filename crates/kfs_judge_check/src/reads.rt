@@ -61,6 +61,21 @@ impl<'a, A: Allocator + Copy> Recorder<'a, A> {
     fn read(&mut self, read: Read) -> Result<ReadAnswer, AllocError>
         ensures { AnswersLook self.old self.new result (cell_of read ∷ []) (λ told before. answer before (cell_of read) ≡ answer_of told) }
     {
+        if self.reads.are_kept() {
+            return self.read_kept(read);
+        }
+        let answer = self.view_answer(&read);
+        self.reads.see(&read, &answer);
+        Ok(answer)
+    }
+
+    /// The same, where reads are kept.
+    // A function's frame is cleared at each call, and reads are long. So a read that isn't kept is answered
+    // without the frame of this function.
+    #[inline(never)]
+    fn read_kept(&mut self, read: Read) -> Result<ReadAnswer, AllocError>
+        ensures { AnswersLook self.old self.new result (cell_of read ∷ []) (λ told before. answer before (cell_of read) ≡ answer_of told) }
+    {
         if let Some(answer) = self.reads.get(&read) {
             return Ok(answer);
         }
@@ -89,6 +104,21 @@ impl<'a, A: Allocator + Copy> Recorder<'a, A> {
 
     /// The number that a name leads to, or none.
     pub fn target(&mut self, key: &(u32, Name)) -> Result<Option<u32>, AllocError>
+        ensures { LooksAtName self.old self.new result key.now (λ number before. before.sight.name key.now.0 key.now.1 ≡ number) }
+    {
+        if self.reads.are_kept() {
+            return self.target_kept(key);
+        }
+        let number = self.view.target_near(&mut self.near, key);
+        let read = Read::Look(Cell::Name(key.0, key.1));
+        self.reads
+            .see(&read, &ReadAnswer::Look(Answer::Name(number)));
+        Ok(number)
+    }
+
+    /// The same, where reads are kept.
+    #[inline(never)]
+    fn target_kept(&mut self, key: &(u32, Name)) -> Result<Option<u32>, AllocError>
         ensures { LooksAtName self.old self.new result key.now (λ number before. before.sight.name key.now.0 key.now.1 ≡ number) }
     {
         let read = Read::Look(Cell::Name(key.0, key.1));

@@ -52,6 +52,13 @@ impl<A: Allocator + Copy> Reads<A> {
         }
     }
 
+    /// Whether reads are kept. Takes no memory.
+    pub fn are_kept(&self) -> bool
+        ensures { result ≡ self.now.keeps }
+    {
+        self.kept.is_some()
+    }
+
     /// The answer to a read that was made, if reads are kept.
     pub fn get(&self, read: &Read) -> Option<ReadAnswer>
         ensures found { IfSome result (λ answer. lookup (same_read read.now) self.now.entries ≡ Some answer) }
@@ -68,9 +75,17 @@ impl<A: Allocator + Copy> Reads<A> {
         self.kept.unwrap()
     }
 
+    /// Adds a read that isn't kept, with its answer. At run time this is nothing.
+    #[inline(always)]
+    pub(crate) fn see(&mut self, read: &Read, answer: &ReadAnswer)
+        requires { self.old.keeps ≡ false }
+        ensures { self.new ≡ record self.old { entries = self.old.entries ++ (read.now, answer.now) ∷ [] } }
+    {
+        self.seen = self.seen.and(read, answer);
+    }
+
     /// Adds a read with its answer; one that isn't there yet, where reads are kept. `Err` where memory
     /// is refused; nothing is added then.
-    #[inline(always)]
     pub(crate) fn add(&mut self, read: Read, answer: ReadAnswer) -> Result<(), AllocError>
         requires { self.old.keeps ≡ true → lookup (same_read read) self.old.entries ≡ None }
         ensures ok { OnOk result (self.new ≡ record self.old { entries = self.old.entries ++ (read, answer) ∷ [] }) }

@@ -1,28 +1,22 @@
--- An answer that is recorded is that of its cell, and a new one goes last.
-use Rattle.std.proofs.Common.{◌∷◌, [], ap, sym, refl}
+-- A read that isn't kept is answered by the view, and goes last.
+use Rattle.std.proofs.Common.{◌∙◌, ap, sym, refl}
+use mathlib.Core.Bool.{true≢false}
 use Rattle.kfs_judge_check.specs.Kept.{ReadsShown}
-use Rattle.kfs_judge_check.proofs.ReadsAgree.{known_by_key, grows_by_one, known_at_end, agrees_by_one, once_by_one}
-use Rattle.kfs_judge_check.proofs.Recording.{goes_nowhere, within_same, within_one}
-use Rattle.kfs_judge_check.specs.Reads.{cell_of}
+use Rattle.kfs_judge_check.proofs.ReadsAgree.{grows_by_one, known_at_end, agrees_by_one}
+use Rattle.kfs_judge_check.proofs.Recording.{within_one}
 use Rattle.kfs_judge_check.proofs.reads.Recorder.read.Goals as goal
-
-pub returns-in-Some : goal.returns-in-Some
-returns-in-Some g c = record {
-  goes = goes_nowhere c.args.self.now;
-  known = known_by_key _ _ _ (sym c.in-Some.ensures.found);
-  among = within_same c.args.self.now.reads.entries (cell_of c.args.read ∷ []);
-}
 
 pub returns : goal.returns
 returns g c =
-    let last = ap (λ (r : ReadsShown). r.entries) c.in_ok-add.ensures.ok in
+    let last = ap (λ (r : ReadsShown). r.entries) c.see.ensures in
+    let unkept = sym c.are_kept.ensures ∙ c.if-are_kept.false in
     record {
       goes = record {
         grows = grows_by_one _ _ _ _ last;
         same = refl;
-        keeps = ap (λ (r : ReadsShown). r.keeps) c.in_ok-add.ensures.ok;
+        keeps = ap (λ (r : ReadsShown). r.keeps) c.see.ensures;
         agrees = agrees_by_one _ _ _ _ _ last c.view_answer-answer.ensures;
-        once = λ kept. once_by_one _ _ _ _ last (c.in_default.ensures.none kept);
+        once = λ kept. absurd (true≢false (sym kept ∙ unkept));
       };
       known = known_at_end _ _ _ _ last;
       among = within_one _ _ _ _ last;
