@@ -110,9 +110,9 @@ impl<'a, A: Allocator + Copy> Recorder<'a, A> {
             return self.target_kept(key);
         }
         let number = self.view.target_near(&mut self.near, key);
-        let read = Read::Look(Cell::Name(key.0, key.1));
+        let seen = Read::Look(Cell::Name(key.0, key.1));
         self.reads
-            .see(&read, &ReadAnswer::Look(Answer::Name(number)));
+            .see(&seen, &ReadAnswer::Look(Answer::Name(number)));
         Ok(number)
     }
 
