@@ -250,8 +250,9 @@ void kfs_close(struct kfs *handle);
 
 /* ---- submissions. KFS_DONE: there is a reply. KFS_NO_MEMORY, KFS_FULL: nothing has changed. */
 
-/* Judges the log and its plan against the desk's state now, and lands them. The host says which client
- * it is; nothing here authenticates it. */
+/* Judges the log and its plan against the desk's state now, and lands them. Both are read where they lie,
+ * and are the host's again after the call. The host says which client it is; nothing here authenticates
+ * it. */
 uint32_t kfs_submit(struct kfs *handle, uint32_t client, const uint8_t *log, size_t log_len,
                     const uint8_t *plan, size_t plan_len, struct kfs_reply *reply);
 
