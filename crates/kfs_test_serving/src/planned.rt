@@ -81,12 +81,16 @@ fn called<A: Allocator + Copy>(
     growth: u64,
 ) -> Option<bool> {
     let plan = plan(alloc, call)?;
-    let log = decode_log(alloc, LETTERS_LOG).ok()?;
+    let Ok(log) = decode_log(alloc, LETTERS_LOG) else {
+        return None;
+    };
     let is_known = view.client(log.client).is_some();
     if !is_known {
         return None;
     }
-    let walk = judge_entries(alloc, view, &log).ok()?;
+    let Ok(walk) = judge_entries(alloc, view, &log) else {
+        return None;
+    };
     if walk.outcome.is_err() {
         return None;
     }
