@@ -7,7 +7,7 @@ ghost use Rattle.kfs_c_handle.specs.Submission.{IsFull, IsSubmitted};
 use kfs_c_handle::{Handle, ReplyNumbers, submit};
 use std::alloc::Global;
 
-/// Judges a submission against the state now and lands it (`Desk::submit`). It is answered by `DONE`
+/// Judges a submission against the state now and lands it (`Desk::submit_bytes`). It is answered by `DONE`
 /// and a reply, or not at all, by `NO_MEMORY` or `FULL`, and then nothing has changed.
 #[unsafe(no_mangle)]
 pub extern "C" fn kfs_submit(

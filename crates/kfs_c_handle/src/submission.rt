@@ -13,7 +13,7 @@ use kfs_desk::Desk;
 use kfs_plan::Why;
 use std::alloc::Global;
 
-/// Judges a submission against the state now and lands it (`Desk::submit`). It is answered by `DONE`
+/// Judges a submission against the state now and lands it (`Desk::submit_bytes`). It is answered by `DONE`
 /// and a reply, or not at all, by `NO_MEMORY` or `FULL`, and then nothing has changed.
 pub fn submit(
     alloc: Global,
@@ -33,7 +33,7 @@ pub fn submit(
     on_desk!(alloc, handle, &mut desk => submit_to(desk, client, log, plan, reply))
 }
 
-/// Submits bytes of the host's.
+/// Hands in bytes of the host's.
 fn submit_to(
     desk: &mut Desk<Global>,
     client: u32,

@@ -1,4 +1,4 @@
-//! The reads of a judgement: each is made once, and recorded with its answer.
+//! What a judgement reads of a view. Where reads are kept, each is made once.
 
 ghost use Rattle.std.specs.Prelude.{◌≡◌, ℕ, ℤ, pos, Bool, [], ◌∷◌, Option};
 ghost use Rattle.std.specs.Option.{option_map};
@@ -56,7 +56,8 @@ impl<'a, A: Allocator + Copy> Recorder<'a, A> {
         }
     }
 
-    /// The recorded answer to a read, or else the view's, which is then recorded.
+    /// The recorded answer to a read, or else the view's, which is then recorded. Where reads aren't
+    /// kept, it is the view's.
     #[inline(always)]
     fn read(&mut self, read: Read) -> Result<ReadAnswer, AllocError>
         ensures { AnswersLook self.old self.new result (cell_of read ∷ []) (λ told before. answer before (cell_of read) ≡ answer_of told) }

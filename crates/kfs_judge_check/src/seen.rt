@@ -1,4 +1,4 @@
-//! Reads that contracts alone see.
+//! Reads that contracts alone see: they have no bytes.
 ghost use Rattle.std.specs.Prelude.{◌≡◌, List, [], ◌∷◌, ◌++◌};
 ghost use Rattle.std.specs.Borrow.{ftrue};
 ghost use Rattle.kfs_judge_check.specs.declared.reads.Read.{Read as ReadShown};
