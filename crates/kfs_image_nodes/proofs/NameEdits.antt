@@ -10,16 +10,16 @@ use Rattle.std.specs.declared.cmp.Ordering.TheVariants.{Less, Equal, Greater}
 use Rattle.std.specs.Ordering.{is_eq, eq_by_cmp}
 use Rattle.std.specs.FinMap.Entries.{find}
 use Rattle.std.specs.BTreeMap.{BTreeMap, get as get_slot}
-use Rattle.kfs_model.specs.Table.{Order, Table, numbers, get, changed}
+use Rattle.kfs_model.specs.Table.{Order, Table, numbers, get}
 use Rattle.kfs_model.specs.Tree.{NameTable, name_order, entry_count}
 use Rattle.kfs_map_pages.specs.declared.edit.NumberEdit as numbered
 use Rattle.kfs_map_pages.specs.Edits as numbered_edits
 use Rattle.kfs_map_pages.specs.Edits.{AreEdits}
 use Rattle.kfs_map_pages.proofs.Tables.{get-rewritten}
 use Rattle.kfs_map_chunks.specs.declared.edit.KeyEdit.{KeyEdit}
-use Rattle.kfs_map_chunks.specs.Edits.{rewritten, KeysAscend}
-use Rattle.kfs_map_chunks.specs.Tables.{table, table_after}
-use Rattle.kfs_map_chunks.proofs.Tables.{get-table, find-rewritten, table-rewritten}
+use Rattle.kfs_map_chunks.specs.Edits.{rewritten}
+use Rattle.kfs_map_chunks.specs.Tables.{table}
+use Rattle.kfs_map_chunks.proofs.Tables.{get-table, find-rewritten}
 use Rattle.kfs_image_nodes.specs.Indexes.{IsCounted, AreInPages, ArePositive, by_node, count_at}
 use Rattle.kfs_image_nodes.specs.NodeEdits.{IsNumber}
 use Rattle.kfs_map_chunks.specs.Overlays.{said_or, overlaid, Say}
@@ -63,16 +63,6 @@ module _ {K X : Type 0} (R : Order K) where
       ∙ find-rewritten R xs edits q
       ∙ says q (find R.compare q xs)
       ∙ ap (said_or (get_slot R.compare latest q)) (sym (get-table R xs q)))
-
-  -- one edit changes the table at its key
-  pub edited_once : (xs : List (K × X)) (edit : KeyEdit K X) → table R (rewritten R xs (edit ∷ [])) ≡ changed (table R xs) edit.key edit.value
-  unfolding table_after
-  edited_once xs edit = table-rewritten R xs (edit ∷ [])
-
-module _ {K X : Type 0} where
-  -- one edit stands in order
-  pub one_ascends : (cmp : K → K → Ordering) (edit : KeyEdit K X) → KeysAscend cmp (edit ∷ [])
-  one_ascends cmp edit i j d less below = absurd (omega (arith, less, below))
 
 module _ {K X : Type 0} (R : Order K) (p : K → Bool) where
   -- no entry's key passes a test where nothing stands at each that does

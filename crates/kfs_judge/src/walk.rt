@@ -6,6 +6,7 @@ ghost use Rattle.kfs_model.specs.Limits.{entry_limit};
 ghost use Rattle.kfs_model.specs.Sight.{Sight};
 ghost use Rattle.kfs_judge.specs.EntriesEntered.{HasTheirFiles, RunStopsAt, ReadsTheirCells, WritesTheirCells};
 ghost use Rattle.kfs_judge_draft.specs.Overlay.{has_created, over, ShiftsBy, ChangesAreAmong};
+ghost use Rattle.kfs_judge_check.specs.Kept.{keeps_reads};
 ghost use Rattle.kfs_judge_check.specs.Reads.{Agrees, AreOnce};
 ghost use Rattle.kfs_judge_check.specs.Recorders.{GoesOn};
 ghost use Rattle.kfs_judge_check.specs.View.{clients_of, client_sight_in};
@@ -13,7 +14,7 @@ ghost use Rattle.kfs_judge.specs.Walks.{HasOrderedSizes, IsRowOf, IsWalkOf, IsCe
 
 use kfs_entry::{Entry, Log, Span};
 use kfs_image_nodes::Net;
-use kfs_judge_check::{Reads, Reason, View};
+use kfs_judge_check::{Keeping, Reads, Reason, View};
 use kfs_judge_step::LogJudge;
 use kfs_plan_sweep::FileSize;
 use std::alloc::{AllocError, Allocator};
@@ -61,33 +62,32 @@ pub fn judge_entries<A: Allocator + Copy>(
     ensures keeps { IfOk result (λ walk. walk.reads.keeps ≡ true) }
     ensures sizes { IfOk result HasOrderedSizes }
 {
-    judge_entries_into(alloc, view, log, Reads::kept(alloc))
+    judge_entries_keeping(alloc, view, log, Keeping::Reads)
 }
 
-/// The same, where the caller says whether the reads are kept: they go into `reads`, where there is none
-/// yet.
-pub fn judge_entries_into<A: Allocator + Copy>(
+/// The same, where the caller says whether the reads are kept.
+pub fn judge_entries_keeping<A: Allocator + Copy>(
     alloc: A,
     view: &View<A>,
     log: &Log<A>,
-    reads: Reads<A>,
+    keeping: Keeping,
 ) -> Result<Walk<A>, AllocError>
     requires client { IsSome (row_of (clients_of view.now) log.now.client) }
     requires count { length log.now.entries ≤ entry_limit }
-    requires none { reads.entries ≡ [] }
     // The outcome is right at every sound tree, with all leases, that agrees with the reads, whatever
     // bytes the payloads are.
     ensures known { IfOk result (λ walk. (client : ClientRow) × IsRowOf (clients_of view.now) log.now.client client × IsWalkOf client log.now walk) }
     ensures view_agrees { IfOk result (λ walk. Agrees walk.reads.entries (client_sight_in view.now log.now.client)) }
-    ensures once { IfOk result (λ walk. reads.keeps ≡ true → AreOnce walk.reads.entries) }
+    ensures once { keeping ≡ Keeping.Reads → IfOk result (λ walk. AreOnce walk.reads.entries) }
     ensures among { IfOk result (ReadsLookedCells view.now log.now) }
-    ensures keeps { IfOk result (λ walk. walk.reads.keeps ≡ reads.keeps) }
+    ensures keeps { IfOk result (λ walk. walk.reads.keeps ≡ keeps_reads keeping) }
     ensures sizes { IfOk result HasOrderedSizes }
 {
-    let walk = walk_entries(alloc, view, log, reads)?;
+    let walk = walk_entries(alloc, view, log, Reads::new(alloc, keeping))?;
     Ok(walk)
 }
 
+/// The same over cells. What is read goes into `reads`, where there is none yet.
 fn walk_entries<A: Allocator + Copy>(
     alloc: A,
     view: &View<A>,

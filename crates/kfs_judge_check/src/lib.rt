@@ -14,5 +14,5 @@ mod view;
 pub use check::{Check, Reason};
 pub use entry_judge::EntryJudge;
 pub use reads::{Read, ReadAnswer, Recorder};
-pub use record::Reads;
+pub use record::{Keeping, Reads};
 pub use view::View;

@@ -1,7 +1,8 @@
 //! The reads that a judgement has made, with their answers.
-ghost use Rattle.std.specs.Prelude.{◌≡◌, true, false, List, [], ◌∷◌, ◌++◌, None, Some, OnErr, OnOk, IfSome, IfNone};
+ghost use Rattle.std.specs.Prelude.{◌≡◌, true, false, List, [], ◌∷◌, ◌++◌, None, Some, OnErr, OnOk, IfSome, IfNone, is_some};
 ghost use Rattle.std.specs.Map.{lookup};
 ghost use Rattle.indexmap.specs.IndexMap.{insert_entry};
+ghost use Rattle.kfs_judge_check.specs.Kept.{keeps_reads};
 ghost use Rattle.kfs_judge_check.specs.SameReads.{same_read};
 
 use crate::reads::{Read, ReadAnswer};
@@ -10,6 +11,15 @@ use indexmap::IndexMap;
 use std::alloc::{AllocError, Allocator};
 use std::hash::{BuildHasherDefault, FoldHasher};
 use std::marker::Model;
+
+/// What a judgement keeps of its view.
+#[derive(Clone, Copy, Debug, PartialEq, Eq)]
+pub enum Keeping {
+    /// Each read, with its answer.
+    Reads,
+    /// Nothing.
+    Nothing,
+}
 
 /// The reads of a judgement with their answers, in order. Where they are kept, each stands there once.
 /// Where they aren't, contracts alone see them: they take no memory, and a read that is made again is
@@ -32,23 +42,19 @@ impl<A: Allocator> Model for Reads<A> {
 }
 
 impl<A: Allocator + Copy> Reads<A> {
-    /// No read yet; those that come are kept. Takes no memory.
-    pub fn kept(alloc: A) -> Reads<A>
-        ensures { result ≡ record { keeps = true; entries = [] } }
+    /// No read yet. Takes no memory.
+    pub fn new(alloc: A, keeping: Keeping) -> Reads<A>
+        ensures { result ≡ record { keeps = keeps_reads keeping; entries = [] } }
     {
-        Reads {
-            kept: Some(IndexMap::new(alloc)),
-            seen: SeenReads::none(),
-        }
-    }
-
-    /// No read yet; none that comes is kept. Takes no memory.
-    pub fn unkept() -> Reads<A>
-        ensures { result ≡ record { keeps = false; entries = [] } }
-    {
-        Reads {
-            kept: None,
-            seen: SeenReads::none(),
+        match keeping {
+            Keeping::Reads => Reads {
+                kept: Some(IndexMap::new(alloc)),
+                seen: SeenReads::none(),
+            },
+            Keeping::Nothing => Reads {
+                kept: None,
+                seen: SeenReads::none(),
+            },
         }
     }
 
@@ -67,12 +73,12 @@ impl<A: Allocator + Copy> Reads<A> {
         self.kept.as_ref()?.get(read).copied()
     }
 
-    /// The reads, which were kept. Takes no memory.
-    pub fn into_map(self) -> IndexMap<Read, ReadAnswer, BuildHasherDefault<FoldHasher>, A>
-        requires { self.keeps ≡ true }
-        ensures { result.entries ≡ self.entries }
+    /// The reads, if they are kept. Takes no memory.
+    pub fn into_map(self) -> Option<IndexMap<Read, ReadAnswer, BuildHasherDefault<FoldHasher>, A>>
+        ensures found { IfSome result (λ map. map.entries ≡ self.entries) }
+        ensures kept { is_some result ≡ self.keeps }
     {
-        self.kept.unwrap()
+        self.kept
     }
 
     /// Adds a read that isn't kept, with its answer. At run time this is nothing.

@@ -5,6 +5,7 @@ ghost use Rattle.kfs_model.specs.Judgement.{State};
 ghost use Rattle.kfs_model.specs.Lease.{row_of};
 ghost use Rattle.kfs_model.specs.Limits.{entry_limit};
 ghost use Rattle.kfs_entry_value.specs.Views.{IsSpanned};
+ghost use Rattle.kfs_judge_check.specs.Kept.{keeps_reads};
 ghost use Rattle.kfs_judge_check.specs.Reads.{Agrees};
 ghost use Rattle.kfs_judge.specs.Walks.{HasOrderedSizes};
 ghost use Rattle.kfs_judge_check.specs.View.{clients_of, client_sight_in};
@@ -15,7 +16,7 @@ use crate::rows::{RowFault, check_rows};
 use crate::spelling::{Spelled, read_submission};
 use crate::submission::{Back, Fault, Outcome, Submission, Why};
 use kfs_entry::{Log, Plan};
-use kfs_judge::{Reads, View, Walk, judge_entries_into};
+use kfs_judge::{Keeping, Reads, View, Walk, judge_entries_keeping};
 use kfs_mode::Client;
 use std::alloc::{AllocError, Allocator};
 
@@ -43,15 +44,16 @@ pub fn judge<A: Allocator + Copy>(
     ensures memory { IfErr result (λ b. b.why ≡ Why.OutOfMemory) }
 {
     let (log, plan) = (submission.log.as_slice(), submission.plan.as_slice());
-    let kept = Reads::kept(alloc);
-    match find(alloc, view, submission.client, log, plan, kept) {
+    let found = find(alloc, view, submission.client, log, plan, Keeping::Reads);
+    match found {
         Ok(finding) => {
             let VerdictParts {
                 client,
                 reads,
                 outcome,
             } = finding;
-            Ok(Judged::of(submission, client, reads.into_map(), outcome))
+            let reads = reads.into_map().unwrap();
+            Ok(Judged::of(submission, client, reads, outcome))
         }
         Err(why) => Err(Back { submission, why }),
     }
@@ -72,7 +74,7 @@ pub fn judge_bytes<A: Allocator + Copy>(
     ensures fault { IfOk result (λ outcome. RefusesByFault outcome) }
     ensures memory { IfErr result (λ why. why ≡ Why.OutOfMemory) }
 {
-    let parts = find(alloc, view, client, log, plan, Reads::unkept())?;
+    let parts = find(alloc, view, client, log, plan, Keeping::Nothing)?;
     Ok(parts.outcome)
 }
 
@@ -85,34 +87,36 @@ struct VerdictParts<A: Allocator> {
 }
 
 impl<A: Allocator + Copy> VerdictParts<A> {
-    /// A fault found before the entries were looked at.
-    fn unread(reads: Reads<A>, client: Option<Client>, fault: Fault) -> VerdictParts<A>
-        requires { reads.entries ≡ [] }
+    /// A fault found before the entries were looked at: nothing was read.
+    fn unread(
+        alloc: A,
+        keeping: Keeping,
+        client: Option<Client>,
+        fault: Fault,
+    ) -> VerdictParts<A>
         ensures client { result.client ≡ client }
         ensures reads { result.reads.entries ≡ [] }
-        ensures keeps { result.reads.keeps ≡ reads.keeps }
+        ensures keeps { result.reads.keeps ≡ keeps_reads keeping }
         ensures outcome { result.outcome ≡ Outcome.No fault }
     {
         VerdictParts {
             client,
-            reads,
+            reads: Reads::new(alloc, keeping),
             outcome: Outcome::No(fault),
         }
     }
 }
 
-/// Judges these bytes of the client with this number. What is read goes into `reads`, where there is
-/// none yet.
+/// Judges these bytes of the client with this number.
 fn find<A: Allocator + Copy>(
     alloc: A,
     view: &View<A>,
     number: u32,
     log: &[u8],
     plan: &[u8],
-    reads: Reads<A>,
+    keeping: Keeping,
 ) -> Result<VerdictParts<A>, Why>
-    requires { reads.entries ≡ [] }
-    ensures keeps { IfOk result (λ f. f.reads.keeps ≡ reads.keeps) }
+    ensures keeps { IfOk result (λ f. f.reads.keeps ≡ keeps_reads keeping) }
     ensures client { IfOk result (λ f. f.client ≡ row_of (clients_of view.now) number) }
     ensures known { IfOk result (λ f. (s : State) → AgreesWithReads s number f.client f.reads.entries → IsVerdict s (submission_with number log.now plan.now) f.outcome) }
     ensures view_agrees { IfOk result (λ f. Agrees f.reads.entries (client_sight_in view.now number)) }
@@ -121,13 +125,14 @@ fn find<A: Allocator + Copy>(
     ensures memory { IfErr result (λ why. why ≡ Why.OutOfMemory) }
 {
     let Some(client) = view.client(number) else {
-        return Ok(VerdictParts::unread(reads, None, Fault::UnknownClient));
+        let fault = Fault::UnknownClient;
+        return Ok(VerdictParts::unread(alloc, keeping, None, fault));
     };
     let row = Some(copied(client)?);
     match read_submission(alloc, client.number(), log, plan)? {
-        Spelled::No(fault) => Ok(VerdictParts::unread(reads, row, fault)),
+        Spelled::No(fault) => Ok(VerdictParts::unread(alloc, keeping, row, fault)),
         Spelled::Yes(log, plan) => {
-            let walk = judge_entries_into(alloc, view, &log, reads)?;
+            let walk = judge_entries_keeping(alloc, view, &log, keeping)?;
             let finding = settle(alloc, row, log, plan, walk)?;
             Ok(finding)
         }

@@ -15,7 +15,7 @@ use crate::fits::tell_rows;
 use crate::numbers::numbers_named;
 use kfs_entry::{Log, Plan, RowList, SpellFault, decode_log, encode_plan};
 use kfs_image::Image;
-use kfs_judge::{Reads, View, Walk, judge_entries_into};
+use kfs_judge::{Keeping, View, Walk, judge_entries_keeping};
 use kfs_lease::Leases;
 use kfs_mode::Client;
 use kfs_plan::sweep;
@@ -99,7 +99,7 @@ fn walk_with_leases<A: Allocator + Copy>(
     let numbers = numbers_named(alloc, image.shape(), log.entries.as_slice())?;
     let leases = Leases::of_writer(alloc, log.client, numbers.as_slice())?;
     let view = view_with(alloc, image, client, leases)?;
-    let walk = judge_entries_into(alloc, &view, log, Reads::unkept())?;
+    let walk = judge_entries_keeping(alloc, &view, log, Keeping::Nothing)?;
     Ok(walk)
 }
 

@@ -1,7 +1,5 @@
 //! An example of each public type of `kfs_judge`, `kfs_plan` and `kfs_desk`: how it comes about, and what it holds.
 
-ghost use Rattle.std.specs.Prelude.{◌≡◌, []};
-
 use kfs_desk::{
     Act, ActFault, ActReply, Back, BeginBack, BeginFault, Desk, Done, Reply, SubmissionsBack,
     Unanswered, Why,
@@ -9,7 +7,8 @@ use kfs_desk::{
 use kfs_entry::{ENTRY_LIMIT, Log, SpellFault, decode_log};
 use kfs_image::{Answer, Cell, Image, TierSizes};
 use kfs_judge::{
-    EntryFault, FileSize, Net, Read, ReadAnswer, Reads, Reason, View, Walk, judge_entries_into,
+    EntryFault, FileSize, Keeping, Net, Read, ReadAnswer, Reason, View, Walk,
+    judge_entries_keeping,
 };
 use kfs_lease::{LeaseFault, LeaseKind};
 use kfs_mode::{Client, ClientFault};
@@ -61,30 +60,28 @@ fn log(alloc: Global, bytes: &[u8]) -> Option<Log<Global>> {
     decode_log(alloc, bytes).ok()
 }
 
-/// The walk over the entries of a log whose client the view has; `reads` has no read yet.
+/// The walk over the entries of a log, or none where its client is unknown.
 fn walk(
     alloc: Global,
     view: &View<Global>,
     log: &Log<Global>,
-    reads: Reads<Global>,
-) -> Option<Walk<Global>>
-    requires { reads.entries ≡ [] }
-{
+    keeping: Keeping,
+) -> Option<Walk<Global>> {
     let is_known = view.client(log.client).is_some();
     if !is_known || log.entries.as_slice().len() > usize::from(ENTRY_LIMIT) {
         return None;
     }
-    judge_entries_into(alloc, view, log, reads).ok()
+    judge_entries_keeping(alloc, view, log, keeping).ok()
 }
 
 fn walked(alloc: Global, desk: &Desk<Global>, bytes: &[u8]) -> Option<Walk<Global>> {
     let log = log(alloc, bytes)?;
-    walk(alloc, &view(desk)?, &log, Reads::kept(alloc))
+    walk(alloc, &view(desk)?, &log, Keeping::Reads)
 }
 
 fn walked_unread(alloc: Global, desk: &Desk<Global>, bytes: &[u8]) -> Option<Walk<Global>> {
     let log = log(alloc, bytes)?;
-    walk(alloc, &view(desk)?, &log, Reads::unkept())
+    walk(alloc, &view(desk)?, &log, Keeping::Nothing)
 }
 
 /// What was read of the cell, or none where it wasn't looked at.
@@ -134,6 +131,7 @@ fn a_walk_that_keeps_no_read(rt: HostRuntime) {
     if let Some(walk) = walk {
         assert!(rt; outcome(&walk) == Ok((1, 1)));
         assert!(rt; read(&walk, Read::Lease(1)).is_none());
+        assert!(rt; walk.reads.into_map().is_none());
     }
 }
 

@@ -51,8 +51,8 @@ pub mod lease {
 pub mod judge {
     pub use kfs_judge::laws::{cells_decide, clean_is_allowed, marks_give_bytes};
     pub use kfs_judge::{
-        EntryFault, FileSize, Net, Read, ReadAnswer, Reads, Reason, View, Walk, judge_entries,
-        judge_entries_into,
+        EntryFault, FileSize, Keeping, Net, Read, ReadAnswer, Reads, Reason, View, Walk,
+        judge_entries, judge_entries_keeping,
     };
 }
 

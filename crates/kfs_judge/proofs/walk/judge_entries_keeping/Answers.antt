@@ -3,7 +3,7 @@ use Rattle.kfs_model.specs.Sight.{client_sight}
 use Rattle.std.proofs.Common.{map}
 use Rattle.kfs_entry_value.specs.Views.{entry_of}
 use Rattle.kfs_judge.proofs.TreeWalks.{comes_to_tree}
-use Rattle.kfs_judge.proofs.walk.judge_entries_into.Goals as goal
+use Rattle.kfs_judge.proofs.walk.judge_entries_keeping.Goals as goal
 
 pub returns-clause-known : goal.returns-clause-known
 returns-clause-known g c =
