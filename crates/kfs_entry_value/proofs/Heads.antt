@@ -1,5 +1,5 @@
 -- Names are ordered as the numbers that their first bytes spell.
-use Rattle.std.proofs.Common.{◌≡◌, ℕ, zero, suc, ◌+◌, ◌*◌, ◌<◌, List, [], ◌∷◌, ◌++◌, length, get_or, take, replicate, refl, sym, ap, ◌∙◌, arith, Ordering, Less, Equal, Greater}
+use Rattle.std.proofs.Common.{◌≡◌, ℕ, zero, suc, ◌+◌, ◌*◌, ◌<◌, ◌≤◌, List, [], ◌∷◌, ◌++◌, length, get_or, take, drop, replicate, refl, sym, ap, ◌∙◌, arith, Ordering, Less, Equal, Greater}
 use Rattle.std.specs.Ordering.{nat_cmp, ordering_then, MatchOrdering}
 use Rattle.std.specs.Cmp.{ranks, nat_cmp_is}
 use Rattle.std.specs.Cmp.Lexicographic.{slice_cmp}
@@ -68,6 +68,36 @@ settles (x ∷ xs) (y ∷ ys) a (suc n) f g h = by (settles xs ys (a * 256 + x) 
         ∙ later (λ t. let s = shorter t in omega arith)
         ∙ sym (ap (λ r. ordering_then r (slice_cmp nat_cmp xs ys)) e)
 
+-- where the numbers of n bytes are equal and n isn't past the end, the bytes behind them settle the order
+goes_on : (xs ys : List ℕ) (a n : ℕ) → ArePlain xs → ArePlain ys → number xs a 0 n ≡ number ys a 0 n → n ≤ length xs
+    → (n ≤ length ys) × (slice_cmp nat_cmp (drop n xs) (drop n ys) ≡ slice_cmp nat_cmp xs ys)
+goes_on xs ys a zero f g same within = (omega arith, refl)
+goes_on [] ys a (suc n) f g same within = absurd (omega (arith, within))
+goes_on (x ∷ xs) [] a (suc n) f g same within =
+    let s = f.plain 0 (omega arith) in
+    let less = rises [] (x ∷ xs) (a * 256 + 0) (a * 256 + x) 1 n g.small (omega arith) in
+    absurd (omega (arith, less, same))
+goes_on (x ∷ xs) (y ∷ ys) a (suc n) f g same within = by (goes_on xs ys (a * 256 + x) n (rest x xs f) (rest y ys g)) (nat_cmp x y) refl (ranks x y)
+  where
+    by : (number xs (a * 256 + x) 0 n ≡ number ys (a * 256 + x) 0 n → n ≤ length xs → (n ≤ length ys) × (slice_cmp nat_cmp (drop n xs) (drop n ys) ≡ slice_cmp nat_cmp xs ys))
+        → (r : Ordering) → nat_cmp x y ≡ r → MatchOrdering r (x < y) (x ≡ y) (y < x)
+        → (suc n ≤ length (y ∷ ys)) × (slice_cmp nat_cmp (drop n xs) (drop n ys) ≡ slice_cmp nat_cmp (x ∷ xs) (y ∷ ys))
+    by later Less e l =
+        let under : x < y = l in
+        let less = rises (x ∷ xs) (y ∷ ys) (a * 256 + x) (a * 256 + y) 1 n f.small (omega arith) in
+        absurd (omega (arith, less, same))
+    by later Greater e l =
+        let over : y < x = l in
+        let less = rises (y ∷ ys) (x ∷ xs) (a * 256 + y) (a * 256 + x) 1 n g.small (omega arith) in
+        absurd (omega (arith, less, same))
+    by later Equal e l =
+        let level : x ≡ y = l in
+        let first : number (x ∷ xs) a 0 (suc n) ≡ number xs (a * 256 + x) 0 n = tail x xs (a * 256 + x) 0 n in
+        let second : number (y ∷ ys) a 0 (suc n) ≡ number ys (a * 256 + x) 0 n = tail y ys (a * 256 + y) 0 n ∙ ap (λ z. number ys (a * 256 + z) 0 n) (sym level) in
+        let rests = later (sym first ∙ same ∙ second) (omega (arith, within)) in
+        let inside : n ≤ length ys = rests.0 in
+        (omega (arith, inside), rests.1 ∙ sym (ap (λ r. ordering_then r (slice_cmp nat_cmp xs ys)) e))
+
 -- ---- zeros behind
 
 zeros : (m k : ℕ) → get_or {A = ℕ} (replicate m 0) k 0 ≡ 0
@@ -125,3 +155,10 @@ by_heads {xs} {ys} f g b c p q d e h =
     let second = e ∙ spelled g c in
     (λ i. nat_cmp (first i) (second i))
     ∙ settles xs ys 0 16 (plain f b) (plain g c) (λ t. let s = h (first ∙ t ∙ sym second) in omega (arith, f.2))
+
+-- the names' heads are equal, and the first name isn't shorter
+pub by_rests : {xs ys us vs : List ℕ} {m n : ℕ} → AreFields xs us m → AreFields ys vs n → IsBytes us → IsBytes vs
+    → (p q : ℕ) → p ≡ from_be_bytes w128 (take 16 us) → q ≡ from_be_bytes w128 (take 16 vs) → p ≡ q → 16 ≤ m
+    → (16 ≤ length ys) × (slice_cmp nat_cmp (drop 16 xs) (drop 16 ys) ≡ slice_cmp nat_cmp xs ys)
+by_rests {xs} {ys} f g b c p q d e same within =
+    goes_on xs ys 0 16 (plain f b) (plain g c) (sym (spelled f b) ∙ sym d ∙ same ∙ e ∙ spelled g c) (omega (arith, f.2, within))

@@ -88,7 +88,8 @@ impl Ord for Name {
 
     ghost matches_eq = { texts_ties };
 
-    // The first 16 bytes are compared as one number. A shorter name is all in it, with zeros behind.
+    // The first 16 bytes are compared as one number. A shorter name is all in it, with zeros behind. No byte
+    // of a name is zero, so two names with equal numbers are both shorter, or neither is.
     fn cmp(&self, other: &Self) -> Ordering {
         let (head, other_head) = (head(&self.bytes), head(&other.bytes));
         if head != other_head {
@@ -97,7 +98,8 @@ impl Ord for Name {
         if self.len < 16 {
             return Ordering::Equal;
         }
-        self.as_bytes().cmp(&other.as_bytes())
+        let (rest, other_rest) = (&self.as_bytes()[16..], &other.as_bytes()[16..]);
+        rest.cmp(&other_rest)
     }
 }
 
