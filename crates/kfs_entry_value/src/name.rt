@@ -1,11 +1,13 @@
 //! The names of files and directories.
-ghost use Rattle.std.specs.Prelude.{◌≡◌, ◌↔◌, ◌≤◌, length, IsSome, IsTrue, IfSome, Some, nat_eq, refl, ⊤};
+ghost use Rattle.std.specs.Prelude.{◌≡◌, ◌↔◌, ◌≤◌, length, take, IsSome, IsTrue, IfSome, Some, nat_eq, refl, ⊤};
 ghost use Rattle.std.specs.Ordering.{nat_cmp};
 ghost use Rattle.std.specs.Cmp.{on_equiv, on_total, on_po, on_per, partial_equiv_from_equiv};
 ghost use Rattle.std.specs.Cmp.Lexicographic.{pointwise, slice_cmp, nat_list_eq_equiv, nat_list_cmp_total, texts_po, texts_ties};
 ghost use Rattle.std.specs.Cmp.Rules.{hashing};
 ghost use Rattle.std.specs.Hash as fed;
+ghost use Rattle.std.specs.Int.{w128, from_be_bytes};
 ghost use Rattle.std.proofs.Common.{rules};
+ghost use Rattle.kfs_model.specs.Spelling.{IsBytes};
 ghost use Rattle.kfs_entry_value.specs.Padded.{padded};
 
 use crate::limits::NAME_LIMIT;
@@ -86,8 +88,18 @@ impl Ord for Name {
 
     ghost matches_eq = { texts_ties };
 
+    // The first 16 bytes are compared as one number. A shorter name is all in it, with zeros behind. No byte
+    // of a name is zero, so two names with equal numbers are both shorter, or neither is.
     fn cmp(&self, other: &Self) -> Ordering {
-        self.as_bytes().cmp(&other.as_bytes())
+        let (head, other_head) = (head(&self.bytes), head(&other.bytes));
+        if head != other_head {
+            return head.cmp(&other_head);
+        }
+        if self.len < 16 {
+            return Ordering::Equal;
+        }
+        let (rest, other_rest) = (&self.as_bytes()[16..], &other.as_bytes()[16..]);
+        rest.cmp(&other_rest)
     }
 }
 
@@ -142,6 +154,14 @@ impl Name {
     {
         &self.bytes[..self.len as usize]
     }
+}
+
+/// The first 16 bytes as one number, the greatest first.
+fn head(bytes: &[u8; NAME_LIMIT]) -> u128
+    ensures value { result ≡ from_be_bytes w128 (take 16 bytes.now) }
+    ensures bytes { IsBytes bytes.now }
+{
+    u128::from_be_bytes(*bytes.first_chunk().unwrap())
 }
 
 /// The bytes, and zeros behind them.

@@ -1,0 +1,2 @@
+-- Lemmas on the order of names.
+mod Heads
