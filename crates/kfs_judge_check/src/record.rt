@@ -5,8 +5,9 @@ ghost use Rattle.indexmap.specs.IndexMap.{insert_entry};
 ghost use Rattle.kfs_judge_check.specs.SameReads.{same_read};
 
 use crate::reads::{Read, ReadAnswer};
-use crate::seen::SeenReads;
+use crate::seen::SeenRead;
 use indexmap::IndexMap;
+use kfs_model_list::GhostList;
 use std::alloc::{AllocError, Allocator};
 use std::hash::{BuildHasherDefault, FoldHasher};
 use std::marker::Model;
@@ -17,7 +18,7 @@ use std::marker::Model;
 #[derive(Drop)]
 pub struct Reads<A: Allocator> {
     kept: Option<IndexMap<Read, ReadAnswer, BuildHasherDefault<FoldHasher>, A>>,
-    seen: SeenReads,
+    seen: GhostList<SeenRead>,
 }
 
 impl<A: Allocator> Model for Reads<A> {
@@ -38,7 +39,7 @@ impl<A: Allocator + Copy> Reads<A> {
     {
         Reads {
             kept: Some(IndexMap::new(alloc)),
-            seen: SeenReads::none(),
+            seen: GhostList::none(),
         }
     }
 
@@ -48,7 +49,7 @@ impl<A: Allocator + Copy> Reads<A> {
     {
         Reads {
             kept: None,
-            seen: SeenReads::none(),
+            seen: GhostList::none(),
         }
     }
 
@@ -81,7 +82,7 @@ impl<A: Allocator + Copy> Reads<A> {
         requires { self.old.keeps ≡ false }
         ensures { self.new ≡ record self.old { entries = self.old.entries ++ (read.now, answer.now) ∷ [] } }
     {
-        self.seen = self.seen.and(read, answer);
+        self.seen = self.seen.and(&SeenRead::of(read, answer));
     }
 
     /// Adds a read with its answer; one that isn't there yet, where reads are kept. `Err` where memory
@@ -91,7 +92,7 @@ impl<A: Allocator + Copy> Reads<A> {
         ensures ok { OnOk result (self.new ≡ record self.old { entries = self.old.entries ++ (read, answer) ∷ [] }) }
         ensures err { OnErr result (self.new ≡ self.old) }
     {
-        let seen = self.seen.and(&read, &answer);
+        let seen = self.seen.and(&SeenRead::of(&read, &answer));
         if let Some(map) = &mut self.kept {
             record(map, read, answer)?;
         }
