@@ -2,24 +2,24 @@
 ghost use Rattle.std.specs.Prelude.{◌≡◌, ◌+◌, ◌<◌, ◌^◌, [], ◌∷◌, ◌++◌, length};
 
 use crate::row::OneRow;
-use crate::rows::DocketRows;
+use kfs_model_list::GhostList;
 use std::marker::Model;
 
 /// A desk's docket. It has one row for each call that was answered, in order. Only the number of rows
 /// is kept; the rows take no memory and are visible to contracts alone.
 #[derive(Drop)]
 pub struct Docket {
-    rows: DocketRows,
+    rows: GhostList<OneRow>,
     len: u32,
 }
 
 impl Model for Docket {
-    ghost use Rattle.std.specs.Prelude.{◌≡◌, List, length};
+    ghost use Rattle.std.specs.Prelude.{◌≡◌, List, length, map};
     ghost use Rattle.kfs_model.specs.Machine.{Row};
 
     ghost Value = { List Row };
 
-    ghost view = { λ d. d.rows.items };
+    ghost view = { λ d. map (λ r. r.row) d.rows.items };
 
     ghost invariant = { λ d. d.len ≡ length d.rows.items };
 }
@@ -30,7 +30,7 @@ impl Docket {
         ensures { result ≡ [] }
     {
         Docket {
-            rows: DocketRows::none(),
+            rows: GhostList::none(),
             len: 0,
         }
     }

@@ -5,8 +5,6 @@
 
 mod docket;
 mod row;
-mod rows;
 
 pub use docket::Docket;
 pub use row::{OneRow, RowRule};
-pub use rows::DocketRows;

@@ -6,8 +6,9 @@ ghost use Rattle.kfs_judge_check.specs.Kept.{keeps_reads};
 ghost use Rattle.kfs_judge_check.specs.SameReads.{same_read};
 
 use crate::reads::{Read, ReadAnswer};
-use crate::seen::SeenReads;
+use crate::seen::SeenRead;
 use indexmap::IndexMap;
+use kfs_model_list::GhostList;
 use std::alloc::{AllocError, Allocator};
 use std::hash::{BuildHasherDefault, FoldHasher};
 use std::marker::Model;
@@ -27,7 +28,7 @@ pub enum Keeping {
 #[derive(Drop)]
 pub struct Reads<A: Allocator> {
     kept: Option<IndexMap<Read, ReadAnswer, BuildHasherDefault<FoldHasher>, A>>,
-    seen: SeenReads,
+    seen: GhostList<SeenRead>,
 }
 
 impl<A: Allocator> Model for Reads<A> {
@@ -49,11 +50,11 @@ impl<A: Allocator + Copy> Reads<A> {
         match keeping {
             Keeping::Reads => Reads {
                 kept: Some(IndexMap::new(alloc)),
-                seen: SeenReads::none(),
+                seen: GhostList::none(),
             },
             Keeping::Nothing => Reads {
                 kept: None,
-                seen: SeenReads::none(),
+                seen: GhostList::none(),
             },
         }
     }
@@ -87,7 +88,7 @@ impl<A: Allocator + Copy> Reads<A> {
         requires { self.old.keeps ≡ false }
         ensures { self.new ≡ record self.old { entries = self.old.entries ++ (read.now, answer.now) ∷ [] } }
     {
-        self.seen = self.seen.and(read, answer);
+        self.seen = self.seen.and(&SeenRead::of(read, answer));
     }
 
     /// Adds a read with its answer; one that isn't there yet, where reads are kept. `Err` where memory
@@ -97,7 +98,7 @@ impl<A: Allocator + Copy> Reads<A> {
         ensures ok { OnOk result (self.new ≡ record self.old { entries = self.old.entries ++ (read, answer) ∷ [] }) }
         ensures err { OnErr result (self.new ≡ self.old) }
     {
-        let seen = self.seen.and(&read, &answer);
+        let seen = self.seen.and(&SeenRead::of(&read, &answer));
         if let Some(map) = &mut self.kept {
             record(map, read, answer)?;
         }

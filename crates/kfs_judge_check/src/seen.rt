@@ -1,34 +1,34 @@
-//! Reads that contracts alone see: they have no bytes.
-ghost use Rattle.std.specs.Prelude.{◌≡◌, List, [], ◌∷◌, ◌++◌};
-ghost use Rattle.std.specs.Borrow.{ftrue};
-ghost use Rattle.kfs_judge_check.specs.declared.reads.Read.{Read as ReadShown};
-ghost use Rattle.kfs_judge_check.specs.declared.reads.ReadAnswer.{ReadAnswer as AnswerShown};
+//! A read with its answer, which contracts alone see: it has no bytes.
+ghost use Rattle.std.specs.Prelude.{◌≡◌};
 
 use crate::reads::{Read, ReadAnswer};
 use std::marker::Model;
+use std::snapshot::Snapshot;
 
-/// Reads with their answers, in order. They take no memory.
+/// A read with its answer. It takes no memory.
 #[derive(Drop)]
-pub(crate) struct SeenReads {
-    pub ghost items: { List (ReadShown × AnswerShown) },
+pub(crate) struct SeenRead {
+    read: Snapshot<Read>,
+    answer: Snapshot<ReadAnswer>,
 }
 
-impl Model for SeenReads {
-    ghost also_owns = { λ _. ftrue };
+impl Model for SeenRead {
+    ghost use Rattle.kfs_judge_check.specs.declared.reads.Read.{Read as ReadShown};
+    ghost use Rattle.kfs_judge_check.specs.declared.reads.ReadAnswer.{ReadAnswer as AnswerShown};
+
+    ghost Value = { ReadShown × AnswerShown };
+
+    ghost view = { λ seen. (seen.read.value, seen.answer.value) };
 }
 
-impl SeenReads {
-    /// No read.
-    pub(crate) fn none() -> SeenReads
-        ensures { result.items ≡ [] }
+impl SeenRead {
+    /// This read with this answer. At run time this is nothing.
+    pub(crate) fn of(read: &Read, answer: &ReadAnswer) -> SeenRead
+        ensures { result ≡ (read.now, answer.now) }
     {
-        SeenReads {}
-    }
-
-    /// These reads and one more. At run time this is nothing.
-    pub(crate) fn and(&self, _read: &Read, _answer: &ReadAnswer) -> SeenReads
-        ensures { result.items ≡ self.now.items ++ (_read.now, _answer.now) ∷ [] }
-    {
-        SeenReads {}
+        SeenRead {
+            read: Snapshot::of(read),
+            answer: Snapshot::of(answer),
+        }
     }
 }
