@@ -88,12 +88,7 @@ struct VerdictParts<A: Allocator> {
 
 impl<A: Allocator + Copy> VerdictParts<A> {
     /// A fault found before the entries were looked at: nothing was read.
-    fn unread(
-        alloc: A,
-        keeping: Keeping,
-        client: Option<Client>,
-        fault: Fault,
-    ) -> VerdictParts<A>
+    fn unread(alloc: A, keeping: Keeping, client: Option<Client>, fault: Fault) -> VerdictParts<A>
         ensures client { result.client ≡ client }
         ensures reads { result.reads.entries ≡ [] }
         ensures keeps { result.reads.keeps ≡ keeps_reads keeping }

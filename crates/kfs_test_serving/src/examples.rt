@@ -7,8 +7,7 @@ use kfs_desk::{
 use kfs_entry::{ENTRY_LIMIT, Log, SpellFault, decode_log};
 use kfs_image::{Answer, Cell, Image, TierSizes};
 use kfs_judge::{
-    EntryFault, FileSize, Keeping, Net, Read, ReadAnswer, Reason, View, Walk,
-    judge_entries_keeping,
+    EntryFault, FileSize, Keeping, Net, Read, ReadAnswer, Reason, View, Walk, judge_entries_keeping,
 };
 use kfs_lease::{LeaseFault, LeaseKind};
 use kfs_mode::{Client, ClientFault};
