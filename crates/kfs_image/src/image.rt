@@ -248,6 +248,15 @@ impl<A: Allocator> Image<A> {
         self.blocks.next_free(tier, from)
     }
 
+    /// Exchanges the memory that is kept of blocks that were written over for what the list has, so that
+    /// new blocks can be made in it. No contract sees it, and what it holds doesn't matter. Takes no
+    /// memory.
+    pub fn swap_spares(&mut self, spares: &mut Vec<Vec<u8, A>, A>)
+        ensures { self.new ≡ self.old }
+    {
+        self.blocks.swap_spares(spares);
+    }
+
     /// Where block `block`, from 0, of the file `number` lies, as tier and place; none where it isn't
     /// mapped. Takes no memory.
     pub fn place_of(&self, number: u32, block: u32) -> Option<(u8, u32)>

@@ -114,6 +114,16 @@ impl<A: Allocator> FileBlocks<A> {
     }
 }
 
+impl<A: Allocator> FileBlocks<A> {
+    /// Exchanges the memory that is kept of blocks that were written over for what the list has. No
+    /// contract sees it, and what it holds doesn't matter. Takes no memory.
+    pub fn swap_spares(&mut self, spares: &mut Vec<Vec<u8, A>, A>)
+        ensures { self.new ≡ self.old }
+    {
+        self.tiers.tiers.swap_spares(spares);
+    }
+}
+
 impl<A: Allocator + Clone> FileBlocks<A> {
     /// Changes where blocks lie, and writes blocks, at any places of the tiers. A block that moves
     /// leaves its bytes at the old place. `Err` where memory is refused; all is as before then.

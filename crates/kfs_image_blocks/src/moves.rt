@@ -5,7 +5,7 @@ ghost use Rattle.kfs_map_chunks.specs.Tables.{table};
 ghost use Rattle.kfs_image_blocks.specs.Moves.{left_by, given_by, taken_by};
 
 use kfs_image_tier::Place;
-use kfs_map_chunks::{Chunks, KeyEdit};
+use kfs_map_chunks::{Chunks, KeyEdit, Near};
 use std::alloc::{AllocError, Allocator};
 
 /// The places that become free, and the places that become used.
@@ -30,8 +30,9 @@ impl<A: Allocator + Clone> Moves<A> {
     {
         let mut given = Vec::new(alloc.clone()?);
         let mut taken = Vec::new(alloc.clone()?);
+        let mut near = Near::start();
         for edit in edits {
-            let was = placement.get(&edit.key).copied();
+            let was = placement.get_near(&mut near, &edit.key).copied();
             push_left(&mut given, was, edit.value)?;
             push_left(&mut taken, edit.value, was)?;
         }

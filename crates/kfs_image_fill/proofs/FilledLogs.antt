@@ -2,11 +2,8 @@
 use Rattle.std.proofs.Common.{◌≡◌, ℕ, ◌≤◌, min, true, List, length, take, map, sym, ap, subst, ◌∙◌, arith, length-take}
 use Rattle.std.proofs.lemmas.List.{map-id, take_all}
 use Rattle.std.proofs.lemmas.Simd.{map-map}
-use Rattle.kfs_model.specs.Judgement.{State}
 use Rattle.kfs_model.specs.Machine.{are_chosen}
-use Rattle.kfs_model.specs.Placement.{Place, in_first_tier, need, written_blocks}
-use Rattle.kfs_model.specs.Run.{Mark}
-use Rattle.kfs_model.specs.Tree.{Tree}
+use Rattle.kfs_model.specs.Placement.{Place, in_first_tier, written_blocks}
 use Rattle.kfs_entry_value.specs.declared.plan.NodeRow.{NodeRow}
 use Rattle.kfs_model_device.specs.ShownTree.{DeviceImage, shown_tree}
 use Rattle.kfs_image_tier.specs.Unused.{unused_places}

@@ -9,10 +9,10 @@ use kfs_entry_value::BLOCK_SIZE;
 use kfs_image::{Image, read_file};
 use std::alloc::{AllocError, Allocator};
 
-/// `count` bytes of a file from position `start` on; zero behind the file's end, and where there is no
-/// file.
+/// `count` bytes of a file from position `start` on, in this memory; zero behind the file's end, and
+/// where there is no file.
 fn bytes_before<A: Allocator>(
-    alloc: A,
+    memory: Vec<u8, A>,
     image: &Image<A>,
     number: u32,
     start: u64,
@@ -21,7 +21,8 @@ fn bytes_before<A: Allocator>(
     ensures len { IfOk result (λ bytes. vec_len bytes ≡ count) }
     ensures bytes { IfOk result (λ bytes. AreBytesOf (shown_tree image.now) number start bytes.items) }
 {
-    let mut bytes = Vec::new(alloc);
+    let mut bytes = memory;
+    bytes.clear();
     bytes.resize(count, 0)?;
     // Bytes behind the file's end stay zero, and so do all of them where there is no file yet. So the
     // answer doesn't matter.
@@ -29,10 +30,20 @@ fn bytes_before<A: Allocator>(
     Ok(bytes)
 }
 
-/// The bytes of a block of a file after the log. Where one payload covers the block, its bytes are
-/// copied, and the file isn't read.
-pub(crate) fn block_bytes<A: Allocator + Copy>(
-    alloc: A,
+/// These bytes, copied into this memory.
+fn copy_into<A: Allocator>(memory: Vec<u8, A>, from: &[u8]) -> Result<Vec<u8, A>, AllocError>
+    ensures { IfOk result (λ bytes. bytes.items ≡ from.now) }
+{
+    let mut bytes = memory;
+    bytes.clear();
+    bytes.extend_from_slice(from)?;
+    Ok(bytes)
+}
+
+/// The bytes of a block of a file after the log, in this memory; what it holds doesn't matter. Where one
+/// payload covers the block, its bytes are copied, and the file isn't read.
+pub(crate) fn block_bytes<A: Allocator>(
+    memory: Vec<u8, A>,
     image: &Image<A>,
     log: &LogBytes<'_>,
     number: u32,
@@ -44,19 +55,19 @@ pub(crate) fn block_bytes<A: Allocator + Copy>(
     let start = u64::from(block) * BLOCK_SIZE;
     match covering_bytes(log, number, start) {
         Some(whole) => {
-            let bytes = Vec::from_slice(alloc, whole)?;
+            let bytes = copy_into(memory, whole)?;
             Ok(bytes)
         }
         None => {
-            let bytes = patched_bytes(alloc, image, log, number, block)?;
+            let bytes = patched_bytes(memory, image, log, number, block)?;
             Ok(bytes)
         }
     }
 }
 
 /// The bytes of a block of the file, with the log's pieces laid over them.
-fn patched_bytes<A: Allocator + Copy>(
-    alloc: A,
+fn patched_bytes<A: Allocator>(
+    memory: Vec<u8, A>,
     image: &Image<A>,
     log: &LogBytes<'_>,
     number: u32,
@@ -66,7 +77,7 @@ fn patched_bytes<A: Allocator + Copy>(
     ensures { IfOk result (λ bytes. bytes.items ≡ block_after (shown_tree image.now) (entries_of log.now) (pieces_of log.now) number block) }
 {
     let start = u64::from(block) * BLOCK_SIZE;
-    let mut bytes = bytes_before(alloc, image, number, start, BLOCK_SIZE as usize)?;
+    let mut bytes = bytes_before(memory, image, number, start, BLOCK_SIZE as usize)?;
     put_pieces(bytes.as_mut_slice(), log, number, start);
     Ok(bytes)
 }

@@ -112,12 +112,13 @@ fn file_blocks<A: Allocator + Copy>(
 /// have rows.
 ///
 /// `nodes` are the rows of the log's net. Condition: the pieces ascend, none is empty, and they and the
-/// payloads are in range. `Err` where memory is refused.
+/// payloads are in range. Bytes are put into memory from `spares` first. `Err` where memory is refused.
 pub fn fill_of<A: Allocator + Copy>(
     alloc: A,
     image: &Image<A>,
     log: &LogBytes<'_>,
     nodes: &[NodeRow],
+    spares: &mut Vec<Vec<u8, A>, A>,
 ) -> Result<Fill<A>, AllocError>
     requires payloads { HasPayloads log.now }
     requires pieces { PiecesAscend (pieces_of log.now) }
@@ -128,7 +129,7 @@ pub fn fill_of<A: Allocator + Copy>(
     let blocks = file_blocks(alloc, image, log.pieces, nodes)?;
     let places = free_places(alloc, image, blocks.written.len())?;
     let placed = &blocks.written[..places.len()];
-    let rows = block_rows(alloc, image, log, placed, places.as_slice())?;
+    let rows = block_rows(alloc, image, log, placed, places.as_slice(), spares)?;
     Ok(Fill {
         rows,
         zero: blocks.zero,

@@ -12,8 +12,9 @@ use kfs_image::{Image, Net, net_apply_moving};
 use std::alloc::{AllocError, Allocator};
 
 /// Makes the change that a log makes: the names and headers of its net, and its bytes. Condition: that
-/// of `fill_of`, and the net can be applied with such a fill. `Err` where memory is refused; the image
-/// shows what it showed then.
+/// of `fill_of`, and the net can be applied with such a fill. Blocks are made in the memory of those that
+/// were written over, where the image keeps some. `Err` where memory is refused; the image shows what it
+/// showed then.
 pub fn land_bytes<A: Allocator + Copy>(
     alloc: A,
     image: &mut Image<A>,
@@ -28,6 +29,10 @@ pub fn land_bytes<A: Allocator + Copy>(
     ensures ok { OnOk result (HasLandedWith image.old log.now net.now image.new) }
     ensures err { OnErr result (image.new ≡ image.old) }
 {
-    let fill = fill_of(alloc, image, log, net.nodes.as_slice())?;
+    let mut spares = Vec::new(alloc);
+    image.swap_spares(&mut spares);
+    let made = fill_of(alloc, image, log, net.nodes.as_slice(), &mut spares);
+    image.swap_spares(&mut spares);
+    let fill = made?;
     net_apply_moving(alloc, image, net, fill)
 }

@@ -13,14 +13,15 @@ use kfs_image::{BlockRow, Image, Place};
 use std::alloc::{AllocError, Allocator};
 
 /// A row for each of these blocks, with its place on tier 0 and its bytes after the log. Pieces and
-/// blocks ascend, so pieces that end before a block are skipped for good. `Err` where memory is
-/// refused.
+/// blocks ascend, so pieces that end before a block are skipped for good. Bytes are put into memory from
+/// `spares`, until there is none. `Err` where memory is refused.
 pub fn block_rows<A: Allocator + Copy>(
     alloc: A,
     image: &Image<A>,
     log: &LogBytes<'_>,
     blocks: &[(u32, u32)],
     places: &[u32],
+    spares: &mut Vec<Vec<u8, A>, A>,
 ) -> Result<Vec<BlockRow<A>, A>, AllocError>
     requires payloads { HasPayloads log.now }
     requires pieces { PiecesAscend (pieces_of log.now) }
@@ -37,7 +38,8 @@ pub fn block_rows<A: Allocator + Copy>(
             pieces: beginning(pieces, number, start + BLOCK_SIZE),
             ..*log
         };
-        let bytes = block_bytes(alloc, image, &part, number, block)?;
+        let memory = spares.pop().unwrap_or(Vec::new(alloc));
+        let bytes = block_bytes(memory, image, &part, number, block)?;
         let place = Place {
             tier: 0,
             place: places[index],

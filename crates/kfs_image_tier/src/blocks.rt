@@ -12,6 +12,7 @@ use kfs_entry_value::RowList;
 use std::alloc::{AllocError, Allocator};
 use std::collections::BTreeMap;
 use std::marker::Model;
+use std::mem;
 
 /// The blocks of a tier, by place. A block that was written has 4,096 bytes. A block that has room but
 /// was never written is listed without bytes, in contracts too.
@@ -82,13 +83,16 @@ impl<A: Allocator> TierBlocks<A> {
         remove_empty(&mut self.slots, place);
     }
 
-    /// Writes 4,096 bytes into a block that has room. Takes no memory.
-    pub fn put(&mut self, place: u32, bytes: Vec<u8, A>)
+    /// Writes 4,096 bytes into a block that has room, and answers those that it had, if it was written
+    /// before. Takes no memory.
+    #[tactic(auto, using(crate::proofs::BlockTables::shown))]
+    pub fn put(&mut self, place: u32, bytes: Vec<u8, A>) -> Option<RowList<u8, A>>
         requires room { HasRoomForBlock self.old place }
         requires whole { vec_len bytes ≡ block_size }
-        ensures { self.new ≡ insert self.old place (Some bytes.items) }
+        ensures table { self.new ≡ insert self.old place (Some bytes.items) }
+        ensures before { result ≡ block_at self.old place }
     {
-        set_slot(&mut self.slots, place, RowList::from_vec(bytes));
+        set_slot(&mut self.slots, place, RowList::from_vec(bytes))
     }
 
     /// Removes a block's bytes and its room. Takes no memory.
@@ -141,16 +145,16 @@ fn remove_slot<A: Allocator>(slots: &mut BTreeMap<u32, Option<RowList<u8, A>>, A
     let _ = slots.remove(&place);
 }
 
-/// Sets the bytes in the place's slot. Condition: there is a slot.
+/// Sets the bytes in the place's slot, and answers those that were there. Condition: there is a slot.
 fn set_slot<A: Allocator>(
     slots: &mut BTreeMap<u32, Option<RowList<u8, A>>, A>,
     place: u32,
     bytes: RowList<u8, A>,
-)
+) -> Option<RowList<u8, A>>
     requires { IsSome (get nat_cmp slots.old place) }
-    ensures { SetsSlot slots.old slots.new place (Some (Some bytes)) }
+    ensures set { SetsSlot slots.old slots.new place (Some (Some bytes)) }
+    ensures before { result ≡ held_at slots.old place }
 {
-    if let Some(slot) = slots.get_mut(&place) {
-        *slot = Some(bytes);
-    }
+    let slot = slots.get_mut(&place)?;
+    mem::replace(slot, Some(bytes))
 }

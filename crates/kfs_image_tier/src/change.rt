@@ -8,7 +8,11 @@ ghost use Rattle.kfs_image_tier.specs.TierViews.{free_of, devices_of, HasRoomAt,
 
 use crate::place::Place;
 use crate::tier::Tier;
+use kfs_entry_value::RowList;
 use std::alloc::{AllocError, Allocator};
+
+/// Of how many blocks that were written over the memory is kept, at most: 256 KiB.
+const SPARES: usize = 64;
 
 /// A block to be written: its place, and its 4,096 bytes.
 #[derive(Debug, Drop)]
@@ -92,8 +96,8 @@ fn release_all<A: Allocator>(tiers: &mut [Tier<A>], blocks: &[NewBlock<A>])
     }
 }
 
-/// Writes a block that has room.
-fn write<A: Allocator>(tiers: &mut [Tier<A>], block: NewBlock<A>)
+/// Writes a block that has room, and answers the bytes that it had, if it was written before.
+fn write<A: Allocator>(tiers: &mut [Tier<A>], block: NewBlock<A>) -> Option<RowList<u8, A>>
     requires in_tier { IsInTier (free_of tiers.old) block.place }
     requires room { HasRoomAt tiers.old block.place }
     requires whole { vec_len block.bytes ≡ block_size }
@@ -102,11 +106,24 @@ fn write<A: Allocator>(tiers: &mut [Tier<A>], block: NewBlock<A>)
     ensures others { (other : ModelPlace) → HasRoomAt tiers.old other → HasRoomAt tiers.new other }
 {
     let NewBlock { place, bytes } = block;
-    tiers[place.tier as usize].write(place.place, bytes);
+    tiers[place.tier as usize].write(place.place, bytes)
 }
 
-/// Writes blocks that have room.
-fn write_all<A: Allocator>(tiers: &mut [Tier<A>], blocks: Vec<NewBlock<A>, A>)
+/// Keeps the memory of a block that was written over, where the list has room for it.
+fn keep<A: Allocator>(spares: &mut Vec<Vec<u8, A>, A>, before: Option<RowList<u8, A>>) {
+    if let Some(bytes) = before
+        && spares.len() < spares.capacity().min(SPARES)
+    {
+        let _ = spares.push(bytes.into_vec());
+    }
+}
+
+/// Writes blocks that have room, and keeps the memory of those that they write over.
+fn write_all<A: Allocator>(
+    tiers: &mut [Tier<A>],
+    blocks: Vec<NewBlock<A>, A>,
+    spares: &mut Vec<Vec<u8, A>, A>,
+)
     requires in_tier { All (λ b. IsInTier (free_of tiers.old) b.place) blocks.items }
     requires room { All (λ b. HasRoomAt tiers.old b.place) blocks.items }
     requires whole { All (λ b. vec_len b.bytes ≡ block_size) blocks.items }
@@ -114,17 +131,18 @@ fn write_all<A: Allocator>(tiers: &mut [Tier<A>], blocks: Vec<NewBlock<A>, A>)
     ensures devices { devices_of tiers.new ≡ with_blocks blocks.items (devices_of tiers.old) }
 {
     for block in blocks {
-        write(tiers, block);
+        keep(spares, write(tiers, block));
     }
 }
 
 /// Writes the blocks, makes the places in `given` free, and those in `taken` used. All room is made
-/// before the first change.
+/// before the first change. The memory of blocks that are written over goes to `spares`.
 pub(crate) fn change_all<A: Allocator + Clone>(
     tiers: &mut [Tier<A>],
     given: &[Place],
     taken: &[Place],
     written: Vec<NewBlock<A>, A>,
+    spares: &mut Vec<Vec<u8, A>, A>,
 ) -> Result<(), AllocError>
     requires given { CanTurnPlaces true given.now (free_of tiers.old) }
     requires taken { CanTurnPlaces false taken.now (with_places true given.now (free_of tiers.old)) }
@@ -135,11 +153,12 @@ pub(crate) fn change_all<A: Allocator + Clone>(
     ensures err_free { OnErr result (free_of tiers.new ≡ free_of tiers.old) }
     ensures err_devices { OnErr result (devices_of tiers.new ≡ devices_of tiers.old) }
 {
+    spares.reserve(written.len().min(SPARES))?;
     if let Err(error) = reserve_all(tiers, written.as_slice()) {
         release_all(tiers, written.as_slice());
         return Err(error);
     }
-    write_all(tiers, written);
+    write_all(tiers, written, spares);
     turn_all(tiers, given, true);
     turn_all(tiers, taken, false);
     Ok(())

@@ -3,11 +3,12 @@ ghost use Rattle.std.specs.Prelude.{◌≡◌, ◌<◌, true, false, IsTrue, IfO
 ghost use Rattle.kfs_model.specs.Limits.{block_size};
 ghost use Rattle.kfs_model.specs.Table.{empty, insert, remove};
 ghost use Rattle.kfs_image_tier.specs.Places.{is_free_in};
-ghost use Rattle.kfs_image_tier.specs.Blocks.{HasRoomForBlock, KeepsBlocks, with_room, without_room};
+ghost use Rattle.kfs_image_tier.specs.Blocks.{block_at, HasRoomForBlock, KeepsBlocks, with_room, without_room};
 ghost use Rattle.kfs_image_tier.specs.Tier.{AreInTier};
 
 use crate::blocks::TierBlocks;
 use crate::places::Places;
+use kfs_entry_value::RowList;
 use std::alloc::{AllocError, Allocator};
 use std::marker::Model;
 
@@ -105,13 +106,15 @@ impl<A: Allocator> Tier<A> {
         self.blocks.release(place);
     }
 
-    /// Writes 4,096 bytes into a block that has room. Takes no memory.
-    pub fn write(&mut self, place: u32, bytes: Vec<u8, A>)
+    /// Writes 4,096 bytes into a block that has room, and answers those that it had, if it was written
+    /// before. Takes no memory.
+    pub fn write(&mut self, place: u32, bytes: Vec<u8, A>) -> Option<RowList<u8, A>>
         requires room { HasRoomForBlock self.old.blocks place }
         requires whole { vec_len bytes ≡ block_size }
-        ensures { self.new ≡ record self.old { blocks = insert self.old.blocks place (Some bytes.items) } }
+        ensures tier { self.new ≡ record self.old { blocks = insert self.old.blocks place (Some bytes.items) } }
+        ensures before { result ≡ block_at self.old.blocks place }
     {
-        self.blocks.put(place, bytes);
+        self.blocks.put(place, bytes)
     }
 
     /// Removes a block's bytes and its room. Takes no memory.

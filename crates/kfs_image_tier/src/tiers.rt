@@ -12,6 +12,7 @@ use crate::tier::Tier;
 use kfs_entry_value::TierSizes;
 use std::alloc::{AllocError, Allocator};
 use std::marker::Model;
+use std::mem;
 
 /// Three tiers: which of their places are free, and the bytes of their blocks. A block that was never
 /// written takes no memory.
@@ -20,6 +21,8 @@ pub struct Tiers<A: Allocator> {
     // Three of them. A vector, since with an array each caller would have to show that the whole fits
     // in memory.
     tiers: Vec<Tier<A>, A>,
+    // The memory of blocks that were written over, for blocks to come. Contracts don't see it.
+    spares: Vec<Vec<u8, A>, A>,
 }
 
 impl<A: Allocator> Model for Tiers<A> {
@@ -33,15 +36,17 @@ impl<A: Allocator> Model for Tiers<A> {
     ghost invariant = { λ t. TiersAreSized t.sizes (free_of t.tiers.items) };
 }
 
-// Written out, so that the drop of the three is proved here once and not again in each crate that drops
+// Written out, so that the drop of all is proved here once and not again in each crate that drops
 // them.
 impl<A: Allocator> Drop for Tiers<A> {
     fn drop(self) {
         let Tiers {
             sizes: _sizes,
             tiers,
+            spares,
         } = self;
         drop(tiers);
+        drop(spares);
     }
 }
 
@@ -56,11 +61,16 @@ impl<A: Allocator> Tiers<A> {
         let first = Tier::new(alloc.clone()?, sizes.size(0))?;
         let second = Tier::new(alloc.clone()?, sizes.size(1))?;
         let third = Tier::new(alloc.clone()?, sizes.size(2))?;
+        let spares = Vec::new(alloc.clone()?);
         let mut tiers = Vec::new(alloc);
         tiers.push(first)?;
         tiers.push(second)?;
         tiers.push(third)?;
-        Ok(Tiers { sizes, tiers })
+        Ok(Tiers {
+            sizes,
+            tiers,
+            spares,
+        })
     }
 
     /// How many places the tier has, 0 for a tier over 2. Takes no memory.
@@ -111,6 +121,14 @@ impl<A: Allocator> Tiers<A> {
         }
     }
 
+    /// Exchanges the memory that is kept of blocks that were written over for what the list has. No
+    /// contract sees it, and what it holds doesn't matter. Takes no memory.
+    pub fn swap_spares(&mut self, spares: &mut Vec<Vec<u8, A>, A>)
+        ensures { self.new ≡ self.old }
+    {
+        mem::swap(&mut self.spares, spares);
+    }
+
     /// Makes the places in `given` free and those in `taken` used, and writes blocks, at any places of
     /// the tiers. A block keeps its bytes when its place is marked. `Err` where memory is refused; all
     /// is as before then.
@@ -129,6 +147,12 @@ impl<A: Allocator> Tiers<A> {
         ensures err { OnErr result (self.new ≡ self.old) }
         ensures sized { TiersAreSized self.new.sizes self.new.free }
     {
-        change_all(self.tiers.as_mut_slice(), given, taken, written)
+        change_all(
+            self.tiers.as_mut_slice(),
+            given,
+            taken,
+            written,
+            &mut self.spares,
+        )
     }
 }

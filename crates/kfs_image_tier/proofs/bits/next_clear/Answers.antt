@@ -1,4 +1,4 @@
-use Rattle.std.proofs.Common.{◌+◌, ◌-◌, ◌*◌, ◌/◌, ◌%◌, ◌^◌, get_or, refl, sym, subst, arith}
+use Rattle.std.proofs.Common.{◌+◌, ◌-◌, ◌*◌, ◌%◌, ◌^◌, get_or, refl, sym, subst, arith}
 use Rattle.std.proofs.lemmas.Nat.{or_lt}
 use Rattle.kfs_image_tier.specs.Words.{IsNextClear}
 use Rattle.kfs_image_tier.proofs.MarkedBits.{HasPassed, passed_first, passed_next, found_clear}

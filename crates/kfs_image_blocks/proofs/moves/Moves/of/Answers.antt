@@ -8,7 +8,7 @@ use Rattle.kfs_image_blocks.proofs.moves.Moves.of.Goals as goal
 pub loop-edit-preserved : goal.loop-edit-preserved
 loop-edit-preserved g c =
     let placement = table (pairs numbers numbers) c.args.placement.now in
-    let was = c.copied-was.ensures ∙ c.get.ensures ∙ sym (get-table (pairs numbers numbers) c.args.placement.now c.edit-item.result.key) in
+    let was = c.copied-was.ensures ∙ c.get_near.ensures ∙ sym (get-table (pairs numbers numbers) c.args.placement.now c.edit-item.result.key) in
     record {
       given = left_step (λ e. get placement e.key) (λ e. e.value) c.args.edits.now c.loop-edit.edit-index c.edit-item.result c.copied-was.result c.edit-item.result.value c.loop-edit.given.items c.push_left.new.places.items _
           c.loop-edit-test.true c.edit-item.is was refl c.in_ok-push_left.ensures c.loop-edit.invariant.given;

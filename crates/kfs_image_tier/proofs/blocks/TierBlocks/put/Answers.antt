@@ -10,12 +10,12 @@ set_slot-requires g c = subst IsSome (get-blocks_of c.self.inside.slots.entries 
 
 pub invariant_of-self : goal.invariant_of-self
 invariant_of-self g c =
-    subst AreWhole (sym (blocks_of-insert c.self.inside.slots c.set_slot.new.slots c.args.place (Some c.from_vec.result) c.set_slot.ensures))
+    subst AreWhole (sym (blocks_of-insert c.self.inside.slots c.set_slot.new.slots c.args.place (Some c.from_vec.result) c.set_slot.ensures.set))
     (AreWhole-insert (blocks_of c.self.inside.slots.entries) c.args.place c.self.invariant (Some c.from_vec.result)
     (λ bytes there. let same : bytes ≡ c.args.bytes.items = cc in omega (arith, ap length same, c.args.bytes.ok.0, c.requires.whole)))
 
-pub returns : goal.returns
-returns g c =
-    blocks_of-insert c.self.inside.slots c.set_slot.new.slots c.args.place (Some c.from_vec.result) c.set_slot.ensures
+pub returns-clause-table : goal.returns-clause-table
+returns-clause-table g c =
+    blocks_of-insert c.self.inside.slots c.set_slot.new.slots c.args.place (Some c.from_vec.result) c.set_slot.ensures.set
     ∙ ap (λ blocks. insert blocks c.args.place (Some c.from_vec.result)) c.self.view_is
     ∙ ap (λ bytes. insert c.args.self.now c.args.place (Some bytes)) c.from_vec.ensures

@@ -6,5 +6,5 @@ use Rattle.kfs_image_tier.proofs.tier.Tier.write.Goals as goal
 
 pub invariant_of-self : goal.invariant_of-self
 invariant_of-self g c =
-    AreInTier-insert c.self.inside.places c.self.inside.blocks c.put.new.self c.args.place c.self.invariant (Some c.args.bytes.items) c.put.ensures
+    AreInTier-insert c.self.inside.places c.self.inside.blocks c.put.new.self c.args.place c.self.invariant (Some c.args.bytes.items) c.put.ensures.table
     (c.self.invariant.in_tier c.args.place (subst (λ (tier : TierShown). HasRoomForBlock tier.blocks c.args.place) (sym c.self.view_is) c.requires.room))
