@@ -1,8 +1,7 @@
 -- Rows in order, as edits: each key comes once, so an edit finds what was there before all of them.
-use Rattle.std.proofs.Common.{◌≡◌, ℕ, ◌+◌, ◌<◌, ◌≤◌, cond, List, [], ◌∷◌, ◌++◌, length, map, take, slice_index_or, All, Option, ⊎_elim, refl, sym, ap, subst, ◌∙◌, arith}
-use Rattle.std.proofs.lemmas.Bool.{cases_lt}
-use Rattle.std.proofs.lemmas.List.{get_or_append_left, get_or_push, length_push, take_more, get_or-take, length-take-le, get_or_default}
-use Rattle.std.proofs.lemmas.List.Elements.{All-get_or, All-head, All-tail}
+use Rattle.std.proofs.Common.{◌≡◌, ℕ, ◌+◌, ◌<◌, cond, List, [], ◌∷◌, ◌++◌, length, map, take, slice_index_or, All, Option, refl, sym, ap, subst, ◌∙◌, arith}
+use Rattle.std.proofs.lemmas.List.{take_more, get_or-take, length-take-le, get_or_default}
+use Rattle.std.proofs.lemmas.List.Elements.{All-head, All-tail}
 use Rattle.std.specs.declared.cmp.Ordering.TheVariants.{Less}
 use Rattle.std.specs.Ordering.{is_eq}
 use Rattle.std.specs.Cmp.{eq_by_cmp_equiv}
@@ -23,26 +22,6 @@ use Rattle.kfs_image_nodes.specs.Indexes.{AreNames}
 use Rattle.kfs_image_nodes.specs.NameEdits.{name_edit}
 use Rattle.kfs_image_nodes.specs.NodeEdits.{left_by, node_edit}
 use Rattle.kfs_image_nodes.proofs.Indexes.{still_names}
-
-module _ {X : Type 0} (Below : X → X → Type 0) where
-  -- a list that ascends does so with a greater element behind it
-  pub ascends_further : (xs : List X) (x : X) → ((i j : ℕ) (d : X) → i < j → j < length xs → Below (slice_index_or xs i d) (slice_index_or xs j d)) → All (λ y. Below y x) xs
-      → (i j : ℕ) (d : X) → i < j → j < length (xs ++ x ∷ []) → Below (slice_index_or (xs ++ x ∷ []) i d) (slice_index_or (xs ++ x ∷ []) j d)
-  ascends_further xs x ascend under i j d less within = ⊎_elim inside last (cases_lt j (length xs))
-    where
-      inside : j < length xs → Below (slice_index_or (xs ++ x ∷ []) i d) (slice_index_or (xs ++ x ∷ []) j d)
-      inside below =
-          subst (λ y. Below y (slice_index_or (xs ++ x ∷ []) j d)) (sym (get_or_append_left xs (x ∷ []) d i (omega (arith, less, below))))
-          (subst (Below (slice_index_or xs i d)) (sym (get_or_append_left xs (x ∷ []) d j below)) (ascend i j d less below))
-
-      last : length xs ≤ j → Below (slice_index_or (xs ++ x ∷ []) i d) (slice_index_or (xs ++ x ∷ []) j d)
-      last past =
-          let is : length xs ≡ j = omega (arith, past, within, length_push xs x) in
-          subst (λ y. Below y (slice_index_or (xs ++ x ∷ []) j d)) (sym (get_or_append_left xs (x ∷ []) d i (omega (arith, less, is))))
-          (subst (Below (slice_index_or xs i d)) (sym (get_or_push xs x d j is)) (All-get_or (λ y. Below y x) xs i d (omega (arith, less, is)) under))
-
-  pub none_ascends : (i j : ℕ) (d : X) → i < j → j < length {A = X} [] → Below (slice_index_or [] i d) (slice_index_or [] j d)
-  none_ascends i j d less within = absurd (omega (arith, within))
 
 module _ {K V : Type 0} (R : Order K) where
   -- edits of lower keys leave a key as it is

@@ -1,5 +1,5 @@
 -- The tables of name rows that ascend, made of one row after another.
-use Rattle.std.proofs.Common.{◌≡◌, ℕ, ◌+◌, ◌≤◌, ◌==◌, ◌&&◌, Bool, cond, T, List, [], ◌∷◌, ◌++◌, length, map, drop, append_assoc, append-nil, Some, count_by, refl, sym, ap, subst, ◌∙◌, arith}
+use Rattle.std.proofs.Common.{◌≡◌, ℕ, ◌+◌, ◌≤◌, ◌==◌, ◌&&◌, Bool, cond, T, List, [], ◌∷◌, length, drop, Some, count_by, refl, sym, ap, subst, ◌∙◌, arith}
 use Rattle.std.proofs.lemmas.List.{drop_all}
 use Rattle.std.proofs.lemmas.List.Sums.{sum_by-cons}
 use Rattle.std.specs.declared.cmp.Ordering.{Ordering}
@@ -14,18 +14,6 @@ use Rattle.kfs_map_chunks.specs.Tables.{table}
 use Rattle.kfs_map_chunks.proofs.Tables.{get-table, entries-table}
 use Rattle.kfs_image_nodes.specs.Indexes.{by_node, count_at, IsCounted}
 use Rattle.kfs_image_nodes.specs.SortedRows.{name_entry, name_entries, CountEntries}
-
-module _ {X Y : Type 0} (part : X → Y) where
-  -- what one row more makes, and what the rows left make
-  pub one_made : (rows : List X) (i : ℕ) (row : X) (old new all : List Y) → drop i rows ≡ row ∷ drop (i + 1) rows → new ≡ old ++ part row ∷ [] → old ++ map part (drop i rows) ≡ all → new ++ map part (drop (i + 1) rows) ≡ all
-  one_made rows i row old new all next is so_far =
-      ap (λ made. made ++ map part (drop (i + 1) rows)) is
-      ∙ append_assoc old (part row ∷ []) (map part (drop (i + 1) rows))
-      ∙ sym (ap (λ rest. old ++ map part rest) next)
-      ∙ so_far
-
-  pub all_made : (rows : List X) (i : ℕ) (made all : List Y) → length rows ≤ i → made ++ map part (drop i rows) ≡ all → made ≡ all
-  all_made rows i made all past so_far = sym (ap (λ rest. made ++ map part rest) (drop_all i rows past) ∙ append-nil made) ∙ so_far
 
 abbrev Entry : Type 0
 Entry = (ℕ × List ℕ) × ℕ

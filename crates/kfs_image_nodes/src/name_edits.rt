@@ -1,7 +1,6 @@
 //! The changes that name rows make to the names, to the counts of directories' names, and to the
 //! uplinks.
-ghost use Rattle.std.specs.Prelude.{◌≡◌, [], OnOk, IfOk, IfSome, IsTrue, All};
-ghost use Rattle.std.specs.declared.cmp.Ordering.TheVariants.{Less};
+ghost use Rattle.std.specs.Prelude.{◌≡◌, [], OnOk, IfOk, IfSome};
 ghost use Rattle.kfs_model.specs.Table.{get, changed};
 ghost use Rattle.kfs_model.specs.Tree.{name_order};
 ghost use Rattle.kfs_map_pages.specs.Edits.{AreEdits};
@@ -15,7 +14,7 @@ use crate::overlay::number_edits;
 use crate::rows::{name_key, target_of};
 use crate::tallies::Tallies;
 use kfs_entry_value::{Name, NameRow};
-use kfs_map_chunks::{Chunks, KeyEdit, Near, Overlay, key_edits};
+use kfs_map_chunks::{Chunks, KeyEdit, Near, Overlay, key_edits, push_above};
 use kfs_map_pages::{NumberEdit, Pages};
 use std::alloc::{AllocError, Allocator};
 
@@ -61,26 +60,11 @@ fn rows_in_order<A: Allocator + Clone>(
     let mut edits = Vec::with_capacity(alloc.clone()?, rows.len())?;
     for row in rows {
         let key = name_key(row.dir, &row.name);
-        if !is_above(&edits, &key) {
+        if !push_above(&mut edits, key, target_of(row))? {
             return Ok(None);
         }
-        edits.push(KeyEdit {
-            key,
-            value: target_of(row),
-        })?;
     }
     Ok(Some(edits))
-}
-
-/// Whether the key is above those of the edits.
-fn is_above(edits: &[KeyEdit<(u32, Name), u32>], key: &(u32, Name)) -> bool
-    requires { KeysAscend name_order.compare edits.now }
-    ensures { IsTrue result → All (λ e. name_order.compare e.key key.now ≡ Less) edits.now }
-{
-    match edits.last() {
-        Some(last) => last.key.cmp(key).is_lt(),
-        None => true,
-    }
 }
 
 /// The counts after these edits of the names. Each name comes once, so that it leads where the map has it

@@ -1,5 +1,6 @@
 mod FirstEntries
 mod FirstHere
+pub mod InOrder
 mod Order
 pub mod Overlays
 pub mod Parts

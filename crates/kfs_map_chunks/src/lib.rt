@@ -22,7 +22,7 @@ mod rebuilt_parts;
 
 pub use chunk_list::ChunkList;
 pub use chunks::Chunks;
-pub use edit::KeyEdit;
+pub use edit::{KeyEdit, push_above};
 pub use key::Key;
 pub use nested::EditChunks;
 pub use overlay::{Overlay, key_edits};

@@ -1,6 +1,6 @@
 use Rattle.std.proofs.Common.{◌++◌, ◌∷◌, [], false, ap, ◌∙◌, slice_index_or}
+use Rattle.kfs_map_chunks.proofs.InOrder.{one_made, all_made}
 use Rattle.kfs_image_nodes.proofs.NodeEdits.{rows_left}
-use Rattle.kfs_image_nodes.proofs.SortedRows.{one_made, all_made}
 use Rattle.kfs_c.specs.Opening.{AreRowsRefused, client_of}
 use Rattle.kfs_c.specs.declared.numbers.ClientRow.{ClientRow}
 use Rattle.kfs_c.proofs.Refusals.{passed_on, row_refused}

@@ -4,10 +4,9 @@ use Rattle.kfs_entry_value.specs.declared.header.Header.{Header}
 use Rattle.kfs_entry_value.specs.declared.plan.NodeRow.{NodeRow}
 use Rattle.kfs_map_pages.specs.declared.edit.NumberEdit.{NumberEdit}
 use Rattle.kfs_map_pages.specs.Edits.{AreEdits}
+use Rattle.kfs_map_chunks.proofs.InOrder.{ascends_further, none_ascends, one_made, all_made}
 use Rattle.kfs_image_nodes.specs.NodeEdits.{node_edit, IsNumber}
-use Rattle.kfs_image_nodes.proofs.InOrder.{ascends_further, none_ascends}
 use Rattle.kfs_image_nodes.proofs.NodeEdits.{rows_left}
-use Rattle.kfs_image_nodes.proofs.SortedRows.{one_made, all_made}
 use Rattle.kfs_image_nodes.proofs.edits.edits_in_order.Goals as goal
 
 abbrev Edit : Type 0

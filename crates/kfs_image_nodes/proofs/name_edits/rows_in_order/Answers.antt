@@ -5,10 +5,9 @@ use Rattle.kfs_model.specs.Spelling.{IsName}
 use Rattle.kfs_model.specs.Tree.{name_order}
 use Rattle.kfs_map_chunks.specs.declared.edit.KeyEdit.{KeyEdit}
 use Rattle.kfs_map_chunks.specs.Edits.{KeysAscend}
+use Rattle.kfs_map_chunks.proofs.InOrder.{none_ascends, one_made, all_made}
 use Rattle.kfs_image_nodes.specs.NameEdits.{name_edit}
-use Rattle.kfs_image_nodes.proofs.InOrder.{ascends_further, none_ascends}
 use Rattle.kfs_image_nodes.proofs.NodeEdits.{rows_left}
-use Rattle.kfs_image_nodes.proofs.SortedRows.{one_made, all_made}
 use Rattle.kfs_image_nodes.proofs.name_edits.rows_in_order.Goals as goal
 
 abbrev Edit : Type 0
@@ -32,12 +31,10 @@ loop-row-preserved g c =
     let edit : Edit = record { key = c.name_key-key.result; value = c.target_of.result } in
     let next : drop i rows ≡ row ∷ drop (i + 1) rows = rows_left rows i _ c.loop-row-test.true ∙ sym (ap (λ r. r ∷ drop (i + 1) rows) c.row-item.is) in
     let is : edit ≡ name_edit row = ap (λ key. record { key = key; value = c.target_of.result }) c.name_key-key.ensures.key ∙ ap (λ value. record { key = (row.dir, row.name); value = value }) c.target_of.ensures in
-    let items = c.in_ok-push.ensures.items in
+    let items = c.in_ok-push_above.ensures.added c.if-not-branch.false in
     record {
-      made = one_made name_edit rows i row old c.push.new.self.items _ next (items ∙ ap (λ e. old ++ e ∷ []) is) c.loop-row.invariant.made;
-      ascend =
-          subst (KeysAscend name_order.compare) (sym items)
-          (ascends_further (λ (x y : Edit). name_order.compare x.key y.key ≡ Less) old edit c.loop-row.invariant.ascend (subst (All (λ (e : Edit). name_order.compare e.key edit.key ≡ Less)) c.deref.ensures.value (c.is_above.ensures c.if-not-is_above.false)));
+      made = one_made name_edit rows i row old c.push_above.new.edits.items _ next (items ∙ ap (λ e. old ++ e ∷ []) is) c.loop-row.invariant.made;
+      ascend = c.push_above.ensures.ascend;
       named = subst (All (λ (e : Edit). IsName e.key.1)) (sym items) (All-push (λ (e : Edit). IsName e.key.1) old edit c.loop-row.invariant.named c.name_key-key.ensures.name);
     }
 

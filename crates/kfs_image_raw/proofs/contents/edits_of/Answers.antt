@@ -1,8 +1,8 @@
 use Rattle.std.proofs.Common.{◌++◌, map, ap}
 use Rattle.kfs_entry_value.specs.declared.header.Kind.TheVariants as kinds
 use Rattle.kfs_image_codec.specs.declared.raw.RawNode.{RawNode}
+use Rattle.kfs_map_chunks.proofs.InOrder.{one_made, all_made}
 use Rattle.kfs_image_nodes.proofs.NodeEdits.{rows_left}
-use Rattle.kfs_image_nodes.proofs.SortedRows.{one_made, all_made}
 use Rattle.kfs_image_raw.specs.Rows.{header_edit}
 use Rattle.kfs_image_raw.proofs.contents.edits_of.Goals as goal
 
