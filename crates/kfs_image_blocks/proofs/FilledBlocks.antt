@@ -15,7 +15,7 @@ use Rattle.kfs_image_tier.proofs.TierLists.{rest_at}
 use Rattle.kfs_image_blocks.specs.declared.fill.BlockRun.{BlockRun}
 use Rattle.kfs_image_blocks.specs.declared.fill.BlockRow.{BlockRow}
 use Rattle.kfs_image_blocks.specs.Blocks.{BlocksShown, CanChange, changed as changed_blocks}
-use Rattle.kfs_image_blocks.specs.Fill.{is_in, is_in_one, less, mapped_by, written_by, placement_after, filled, CanFill, row_part, new_part}
+use Rattle.kfs_image_blocks.specs.Fill.{is_in, is_in_one, less, mapped_by, written_by, placement_after, filled, CanFill, row_edit, row_part, new_part}
 use Rattle.kfs_image_blocks.specs.Moves.{BlockEdit}
 
 -- ---- less the blocks in runs
@@ -64,6 +64,12 @@ module _ (released : List BlockRun) (i : ℕ) where
 -- ---- mapped by rows, and made of them
 
 module _ {A : Type 0} where
+  -- the rows' edits map their blocks, one after the other
+  pub edits_map : (rows : List (BlockRow A)) (t : Placement) → table_after t (map row_edit rows) ≡ mapped_by rows t
+  unfolding table_after mapped_by
+  edits_map [] t = refl
+  edits_map (row ∷ rows) t = edits_map rows (changed t (row.number, row.block) (Some row.place))
+
   -- one row more has become a block
   pub next_row : (row : BlockRow A) (block : NewBlock A) (old new : List (NewBlock A)) (left later : List (BlockRow A)) (all : List (Place × List ℕ)) → left ≡ row ∷ later → new ≡ old ++ block ∷ [] → new_part block ≡ row_part row
       → map new_part old ++ map row_part left ≡ all

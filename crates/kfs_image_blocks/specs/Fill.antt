@@ -9,6 +9,7 @@ use Rattle.kfs_image_tier.specs.declared.change.NewBlock.{NewBlock}
 use Rattle.kfs_image_blocks.specs.declared.fill.BlockRun.{BlockRun}
 use Rattle.kfs_image_blocks.specs.declared.fill.BlockRow.{BlockRow}
 use Rattle.kfs_image_blocks.specs.Blocks.{BlocksShown}
+use Rattle.kfs_image_blocks.specs.Moves.{BlockEdit}
 
 -- whether the block, given as file number and block, is in the run
 abbrev pub is_in : BlockRun → ℕ × ℕ → Bool
@@ -47,6 +48,10 @@ module _ {A : Type 0} where
     pub laid : IsLaid blocks.sizes (placement_after released rows blocks.placement)
     pub in_tier : All (λ r. r.place.place < tier_size blocks.sizes r.place.tier) rows
     pub whole : All (λ r. vec_len r.bytes ≡ block_size) rows
+
+  -- the edit of the placement that maps the row's block to its place
+  abbrev pub row_edit : BlockRow A → BlockEdit
+  row_edit row = record { key = (row.number, row.block); value = Some row.place }
 
   -- the part of a row that a block to be written has too: the place and the bytes
   abbrev pub row_part : BlockRow A → Place × List ℕ

@@ -3,11 +3,11 @@ ghost use Rattle.std.specs.Prelude.{◌≡◌, ◌∷◌, [], ◌≤◌, ◌<◌
 ghost use Rattle.kfs_model.specs.Table.{pairs, numbers};
 ghost use Rattle.kfs_map_chunks.specs.Edits.{KeysAscend};
 ghost use Rattle.kfs_map_chunks.specs.Tables.{table_after};
-ghost use Rattle.kfs_image_blocks.specs.Fill.{less, placement_after, new_part, row_part};
+ghost use Rattle.kfs_image_blocks.specs.Fill.{less, mapped_by, placement_after, new_part, row_edit, row_part};
 ghost use Rattle.kfs_image_blocks.specs.Walks.{AreUnmapped, placed, seen, SeesMapped};
 
 use kfs_image_tier::{NewBlock, Place};
-use kfs_map_chunks::{Chunks, KeyEdit, Overlay, key_edits};
+use kfs_map_chunks::{Chunks, KeyEdit, Overlay, key_edits, push_above};
 use std::alloc::{AllocError, Allocator};
 use std::ops::Bound;
 
@@ -49,6 +49,41 @@ pub(crate) fn fill_edits<A: Allocator + Clone>(
     for run in released {
         unmap(&mut overlay, placement, run)?;
     }
+    if overlay.latest.is_empty()
+        && let Some(edits) = rows_in_order(placement.allocator(), rows)?
+    {
+        return Ok(edits);
+    }
+    edits_over(overlay, placement, rows)
+}
+
+/// The rows as edits, or none where their blocks don't ascend.
+fn rows_in_order<A: Allocator + Clone>(
+    alloc: &A,
+    rows: &[BlockRow<A>],
+) -> Result<Option<Vec<KeyEdit<(u32, u32), Place>, A>>, AllocError>
+    ensures rows { IfOk result (λ made. IfSome made (λ edits. edits.items ≡ map row_edit rows.now)) }
+    ensures ascend { IfOk result (λ made. IfSome made (λ edits. KeysAscend (pairs numbers numbers).compare edits.items)) }
+{
+    let mut edits = Vec::with_capacity(alloc.clone()?, rows.len())?;
+    for row in rows {
+        if !push_above(&mut edits, (row.number, row.block), Some(row.place))? {
+            return Ok(None);
+        }
+    }
+    Ok(Some(edits))
+}
+
+/// The changes of the overlay, and then those that map the rows' blocks.
+fn edits_over<A: Allocator + Clone>(
+    overlay: Overlay<(u32, u32), Place, A>,
+    placement: &Chunks<(u32, u32), Place, A>,
+    rows: &[BlockRow<A>],
+) -> Result<Vec<KeyEdit<(u32, u32), Place>, A>, AllocError>
+    ensures ascend { IfOk result (λ edits. KeysAscend (pairs numbers numbers).compare edits.items) }
+    ensures placed { IfOk result (λ edits. table_after (placed placement.now) edits.items ≡ mapped_by rows.now (seen overlay placement.now)) }
+{
+    let mut overlay = overlay;
     for row in rows {
         overlay.set((row.number, row.block), Some(row.place))?;
     }

@@ -1,11 +1,13 @@
-use Rattle.std.proofs.Common.{ap, ◌∙◌, Some}
+use Rattle.std.proofs.Common.{◌≡◌, map, sym, ap, ◌∙◌, subst}
+use Rattle.std.proofs.lemmas.List.{nil_from_length}
+use Rattle.std.specs.Prelude.{IfOk, IfSome}
 use Rattle.kfs_model.specs.Table.{pairs, numbers, get}
 use Rattle.kfs_model.specs.Placement.{Placement}
-use Rattle.kfs_map_chunks.specs.Tables.{table}
-use Rattle.kfs_map_chunks.proofs.Overlays.{overlaid_none, overlaid_set, table_after_said}
-use Rattle.kfs_image_blocks.specs.Fill.{less, mapped_by, placement_after}
-use Rattle.kfs_image_blocks.specs.Walks.{seen}
-use Rattle.kfs_image_blocks.proofs.FilledBlocks.{less_run, less_all, still_unmapped, mapped_row, mapped_all}
+use Rattle.kfs_map_chunks.specs.Tables.{table, table_after}
+use Rattle.kfs_map_chunks.proofs.Overlays.{overlaid_none}
+use Rattle.kfs_image_blocks.specs.Fill.{less, mapped_by, placement_after, row_edit}
+use Rattle.kfs_image_blocks.specs.Walks.{placed, seen}
+use Rattle.kfs_image_blocks.proofs.FilledBlocks.{edits_map, less_run, less_all, still_unmapped}
 use Rattle.kfs_image_blocks.proofs.fill.fill_edits.Goals as goal
 
 pub loop-run-init : goal.loop-run-init
@@ -27,18 +29,18 @@ loop-run-preserved g c = record {
   sees = λ block none. still_unmapped c.args.released.now c.loop-run.run-index _ (seen c.loop-run.overlay c.args.placement.now) (seen c.unmap.new.overlay c.args.placement.now) c.in_ok-unmap.ensures block (c.loop-run.invariant.sees block none);
 }
 
-pub loop-row-init : goal.loop-row-init
-loop-row-init g c =
-    ap (mapped_by c.args.rows.now) (less_all c.args.released.now c.loop-run.run-index (seen c.loop-run.overlay c.args.placement.now) _ c.loop-run-test.false c.loop-run.invariant.less)
-
-pub loop-row-preserved : goal.loop-row-preserved
-loop-row-preserved g c =
-    let row = c.row-item.result in
-    mapped_row c.args.rows.now c.loop-row.row-index row (seen c.loop-row.overlay c.args.placement.now) (seen c.set.new.self c.args.placement.now)
-    (placement_after c.args.released.now c.args.rows.now (table (pairs numbers numbers) c.args.placement.now)) c.loop-row-test.true c.row-item.is
-    (overlaid_set (table (pairs numbers numbers) c.args.placement.now) c.loop-row.overlay.latest c.set.new.self.latest (row.number, row.block) (Some row.place) c.in_ok-set.ensures) c.loop-row.invariant
-
+-- nothing is laid over the placement, so the runs have no mapped block
 pub returns-clause-placed : goal.returns-clause-placed
 returns-clause-placed g c =
-    table_after_said (table (pairs numbers numbers) c.args.placement.now) c.in_ok-edits.edits.items c.loop-row.overlay.latest c.in_ok-edits.ensures.said
-    ∙ mapped_all c.args.rows.now c.loop-row.row-index (seen c.loop-row.overlay c.args.placement.now) _ c.loop-row-test.false c.loop-row.invariant
+    let placement = placed c.args.placement.now in
+    let rows = c.args.rows.now in
+    let none = nil_from_length c.loop-run.overlay.latest.entries (c.is_empty.ensures.0 c.if-is_empty.true) in
+    let nothing = overlaid_none placement c.loop-run.overlay.latest.entries none in
+    let less_is : seen c.loop-run.overlay c.args.placement.now ≡ less c.args.released.now placement = less_all c.args.released.now c.loop-run.run-index (seen c.loop-run.overlay c.args.placement.now) _ c.loop-run-test.false c.loop-run.invariant.less in
+    let made : c.in-Some.edits.items ≡ map row_edit rows = subst (λ made. IfSome made (λ edits. edits.items ≡ map row_edit rows)) c.in-Some.is c.in_ok-edits.ensures.rows in
+    ap (table_after placement) made ∙ edits_map rows placement ∙ ap (mapped_by rows) (sym nothing ∙ less_is)
+
+pub returns-2-clause-placed : goal.returns-2-clause-placed
+returns-2-clause-placed g c =
+    subst (λ (seen_now : Placement). IfOk c.edits_over.result (λ edits. table_after (placed c.args.placement.now) edits.items ≡ mapped_by c.args.rows.now seen_now))
+    (less_all c.args.released.now c.loop-run.run-index (seen c.loop-run.overlay c.args.placement.now) _ c.loop-run-test.false c.loop-run.invariant.less) c.edits_over.ensures.placed

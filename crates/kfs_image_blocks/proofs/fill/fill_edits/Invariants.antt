@@ -1,7 +1,7 @@
 use Rattle.std.proofs.Common.{◌≡◌, drop}
 use Rattle.kfs_model.specs.Table.{pairs, numbers}
 use Rattle.kfs_map_chunks.specs.Tables.{table}
-use Rattle.kfs_image_blocks.specs.Fill.{less, mapped_by, placement_after}
+use Rattle.kfs_image_blocks.specs.Fill.{less}
 use Rattle.kfs_image_blocks.specs.Walks.{seen, SeesMapped}
 use Rattle.kfs_image_blocks.proofs.fill.fill_edits.Given as goal
 
@@ -11,7 +11,3 @@ invariant-loop-run g l = record {
   less : less (drop l.run-index l.released) (seen l.overlay l.placement) ≡ less l.released (table (pairs numbers numbers) l.placement);
   sees : SeesMapped l.placement l.overlay;
 }
-
--- and so do the rows
-abbrev pub invariant-loop-row : goal.invariant-loop-row
-invariant-loop-row g l = mapped_by (drop l.row-index l.rows) (seen l.overlay l.placement) ≡ placement_after l.released l.rows (table (pairs numbers numbers) l.placement)
