@@ -28,8 +28,8 @@ impl<A: Allocator + Clone> Moves<A> {
         ensures given { IfOk result (λ moves. moves.given.items ≡ given_by (table (pairs numbers numbers) placement.now) edits.now) }
         ensures taken { IfOk result (λ moves. moves.taken.items ≡ taken_by (table (pairs numbers numbers) placement.now) edits.now) }
     {
-        let mut given = Vec::new(alloc.clone()?);
-        let mut taken = Vec::new(alloc.clone()?);
+        let mut given = Vec::with_capacity(alloc.clone()?, edits.len())?;
+        let mut taken = Vec::with_capacity(alloc.clone()?, edits.len())?;
         let mut near = Near::start();
         for edit in edits {
             let was = placement.get_near(&mut near, &edit.key).copied();

@@ -32,12 +32,12 @@ fn bytes_before<A: Allocator>(
 
 /// These bytes, copied into this memory.
 fn copy_into<A: Allocator>(memory: Vec<u8, A>, from: &[u8]) -> Result<Vec<u8, A>, AllocError>
-    ensures { IfOk result (λ bytes. bytes.items ≡ from.now) }
+    ensures { IfOk result (λ copy. copy.items ≡ from.now) }
 {
-    let mut bytes = memory;
-    bytes.clear();
-    bytes.extend_from_slice(from)?;
-    Ok(bytes)
+    let mut copy = memory;
+    copy.clear();
+    copy.extend_from_slice(from)?;
+    Ok(copy)
 }
 
 /// The bytes of a block of a file after the log, in this memory; what it holds doesn't matter. Where one

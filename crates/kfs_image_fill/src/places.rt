@@ -17,7 +17,7 @@ pub fn free_places<A: Allocator>(
     ensures chosen { IfOk result (λ places. CanBeChosen image.now.sizes image.now.placement places.items) }
 {
     let size = image.tier_size(0);
-    let mut places = Vec::new(alloc);
+    let mut places = Vec::with_capacity(alloc, count.min(image.free(0) as usize))?;
     let mut from = 0;
     while places.len() < count && from < size {
         let Some(place) = image.next_free(0, from) else {
