@@ -73,8 +73,8 @@ impl<T: Drop> From<AllocFailed<T>> for RowsFault {
 }
 
 /// Reads `count` rows of this version from position `at` on, and answers them with the position after
-/// the last. The list grows as rows are read: `count` comes from the input, and room is made for four
-/// rows at most before the first is read.
+/// the last. The list grows as rows are read: `count` comes from the input and reserves nothing. Behind
+/// the first row there is room for four at most, and for no more than the count.
 pub fn read_rows<R: SpelledRow, A: Allocator>(
     alloc: A,
     version: u8,
@@ -86,12 +86,15 @@ pub fn read_rows<R: SpelledRow, A: Allocator>(
     ensures found { IfOk result (λ x. AreRead (R.fits version source.now) (R.spelling source.now) source.now at count x.0.items x.1) }
     ensures missing { IfErr result (RowMissing (R.fits version source.now) (R.spelling source.now) (R.begins version) count (drop at source.now)) }
 {
-    let mut rows = Vec::with_capacity(alloc, count.min(4) as usize)?;
+    let mut rows = Vec::new(alloc);
     let mut end = at;
     for k in 0..count {
         let Some((row, after)) = R::read(version, source, end) else {
             return Err(RowsFault::BadRow(k));
         };
+        if k == 0 {
+            rows.reserve_exact(count.min(4) as usize)?;
+        }
         if rows.push(row).is_err() {
             return Err(RowsFault::OutOfMemory);
         }
