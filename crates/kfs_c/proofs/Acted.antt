@@ -7,7 +7,7 @@ use Rattle.kfs_plan.specs.declared.answers.Done.{Done}
 use Rattle.kfs_plan.specs.declared.answers.Unanswered.{Unanswered}
 use Rattle.kfs_plan.specs.declared.answers.Unanswered.TheVariants as unanswered
 use Rattle.kfs_desk.specs.Machine.{Desk, IsCallOf}
-use Rattle.kfs_c_handle.specs.Submission.{IsFull}
+use Rattle.kfs_c_submission.specs.Submission.{IsFull}
 use Rattle.kfs_c.specs.Calls.{IsCalled}
 use Rattle.kfs_c.specs.Told.{act_told}
 use Rattle.kfs_c.specs.declared.numbers.ActNumbers.{ActNumbers}

@@ -15,7 +15,7 @@ use Rattle.kfs_desk.specs.Opening.{begin_fault}
 use Rattle.kfs_plan.specs.declared.answers.BeginFault.{BeginFault}
 use Rattle.kfs_plan.specs.declared.answers.BeginFault.TheVariants as beginnings
 use Rattle.kfs_c.specs.declared.numbers.ClientRow.{ClientRow}
-use Rattle.kfs_c_handle.specs.declared.numbers.FaultNumbers.{FaultNumbers}
+use Rattle.kfs_c_submission.specs.declared.numbers.FaultNumbers.{FaultNumbers}
 use Rattle.kfs_c.specs.declared.opening.Unopened.{Unopened}
 use Rattle.kfs_c.specs.declared.opening.Unopened.TheVariants.{NoMemory, Refused}
 use Rattle.kfs_c.specs.Opening.{AreClientsRefused, AreRowsRefused, BreaksRule, IsNoImage, IsRowRefused, IsRefusedAs, broken_as, unbegun_as, unread_as}

@@ -14,10 +14,10 @@ use Rattle.kfs_plan.specs.Judging.{submission_of, submission_with}
 use Rattle.kfs_desk.specs.Docket.{is_rejudged}
 use Rattle.kfs_desk.specs.Machine.{Desk, IsActed, IsAnswered, IsCurrent}
 use Rattle.kfs_workers_verdict.specs.Verdict.{IsVerdictOn, verdict_of}
-use Rattle.kfs_c_handle.specs.Holding.{OnVerdict}
-use Rattle.kfs_c_handle.specs.Told.{reply_told}
-use Rattle.kfs_c_handle.specs.declared.held.Held.{Held}
-use Rattle.kfs_c_handle.specs.declared.numbers.ReplyNumbers.{ReplyNumbers}
+use Rattle.kfs_c.specs.Holding.{OnVerdict}
+use Rattle.kfs_c_submission.specs.Told.{reply_told}
+use Rattle.kfs_c.specs.declared.held.Held.{Held}
+use Rattle.kfs_c_submission.specs.declared.numbers.ReplyNumbers.{ReplyNumbers}
 use Rattle.kfs_c.specs.declared.numbers.ActNumbers.{ActNumbers}
 use Rattle.kfs_c.specs.declared.numbers.MoveRow.{MoveRow}
 use Rattle.kfs_c.specs.Told.{act_told}

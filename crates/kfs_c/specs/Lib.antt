@@ -1,4 +1,6 @@
 pub mod Calls
+pub mod Handle
+pub mod Holding
 pub mod Opening
 pub mod Reading
 pub mod Told

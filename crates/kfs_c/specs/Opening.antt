@@ -22,10 +22,10 @@ use Rattle.kfs_desk.specs.Opening.{begin_fault}
 use Rattle.kfs_plan.specs.declared.answers.BeginFault.{BeginFault}
 use Rattle.kfs_plan.specs.declared.answers.BeginFault.TheVariants as beginnings
 use Rattle.kfs_c.specs.declared.numbers.ClientRow.{ClientRow}
-use Rattle.kfs_c_handle.specs.declared.numbers.FaultNumbers.{FaultNumbers}
+use Rattle.kfs_c_submission.specs.declared.numbers.FaultNumbers.{FaultNumbers}
 use Rattle.kfs_c.specs.declared.opening.Unopened.{Unopened}
 use Rattle.kfs_c.specs.declared.opening.Unopened.TheVariants.{NoMemory, Refused}
-use Rattle.kfs_c_handle.specs.Told.{numbers}
+use Rattle.kfs_c_submission.specs.Told.{numbers}
 
 -- the groups of a row, out of the list of all
 abbrev pub groups_of : (groups : List ℕ) → ClientRow → List ℕ

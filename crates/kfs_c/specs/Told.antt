@@ -12,8 +12,8 @@ use Rattle.kfs_plan.specs.declared.answers.ActFault.TheVariants as acts
 use Rattle.kfs_plan.specs.declared.answers.ActReply.{ActReply}
 use Rattle.kfs_plan.specs.declared.answers.Done.{Done}
 use Rattle.kfs_plan.specs.declared.answers.Done.TheVariants as dones
-use Rattle.kfs_c_handle.specs.declared.numbers.FaultNumbers.{FaultNumbers}
-use Rattle.kfs_c_handle.specs.Told.{no_fault, numbers}
+use Rattle.kfs_c_submission.specs.declared.numbers.FaultNumbers.{FaultNumbers}
+use Rattle.kfs_c_submission.specs.Told.{no_fault, numbers}
 use Rattle.kfs_c.specs.declared.numbers.ActNumbers.{ActNumbers}
 use Rattle.kfs_c.specs.declared.numbers.NodeNumbers.{NodeNumbers}
 

@@ -2,12 +2,13 @@
 ghost use Rattle.std.specs.Prelude.{◌≡◌, ◌↔◌, ◌≤◌, ◌<◌, ◌⊎◌, None, Err, length, IfOk, IsErrOf, OnErr};
 ghost use Rattle.kfs_model.specs.Lease.{row_of};
 ghost use Rattle.kfs_program_plan.specs.PlanMade.{IsPlanMade};
-ghost use Rattle.kfs_c_handle.specs.Holding.{HoldsNoDesk, OnDesk};
+ghost use Rattle.kfs_c.specs.Holding.{HoldsNoDesk, OnDesk};
 ghost use Rattle.kfs_c.specs.Reading.{AreLonger, BeginsWith, HasNoNode, HasNoPlanFor, IsDirectoryAt, IsPlanFor, IsPlanLonger, IsPlanned, IsRead, LacksPlan, saved_bytes};
-ghost use Rattle.kfs_c_handle.specs.Status as status;
+ghost use Rattle.kfs_c_loose.specs.Status as status;
 
-use kfs_c_handle::status::{DONE, NO_MEMORY, NOTHING, REFUSED, SHORT};
-use kfs_c_handle::{Handle, on_desk};
+use crate::handle::Handle;
+use crate::on_desk;
+use kfs_c_loose::status::{DONE, NO_MEMORY, NOTHING, REFUSED, SHORT};
 use kfs_desk::Desk;
 use kfs_image::{ReadFault, read_file};
 use kfs_image_encode::encode_image;

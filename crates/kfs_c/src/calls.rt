@@ -1,10 +1,12 @@
 //! Submissions.
 ghost use Rattle.std.specs.Prelude.{◌≡◌, ◌↔◌, ◌≤◌, ◌<◌, None};
-ghost use Rattle.kfs_c_handle.specs.Holding.{HoldsNoDesk, OnDesk, OnDesks};
-ghost use Rattle.kfs_c_handle.specs.Status as status;
-ghost use Rattle.kfs_c_handle.specs.Submission.{IsFull, IsSubmitted};
+ghost use Rattle.kfs_c.specs.Holding.{HoldsNoDesk, OnDesk, OnDesks};
+ghost use Rattle.kfs_c_loose.specs.Status as status;
+ghost use Rattle.kfs_c_submission.specs.Submission.{IsFull, IsSubmitted};
 
-use kfs_c_handle::{Handle, ReplyNumbers, submit};
+use crate::handle::Handle;
+use crate::on_desk;
+use kfs_c_submission::{ReplyNumbers, submit};
 use std::alloc::Global;
 
 /// Judges a submission against the state now and lands it (`Desk::submit_bytes`). It is answered by `DONE`
@@ -25,5 +27,5 @@ pub extern "C" fn kfs_submit(
     ensures wrong { (result ≡ status.wrong_kind) ↔ HoldsNoDesk handle.old.value }
     ensures range { result < status.closed → result ≤ status.full }
 {
-    submit(alloc, handle, client, log, plan, reply)
+    on_desk!(alloc, handle, &mut desk => submit(desk, client, log, plan, reply))
 }

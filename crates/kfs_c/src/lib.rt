@@ -1,15 +1,18 @@
 //! The desk for hosts that aren't Rattle: what C calls.
 //!
-//! It stands on `kfs_c_handle`, which has the handle and the frame of a call; nothing stands on it.
-//! include/kfs.h says the same to C. Begin with `calls.rt` and `acts.rt`.
+//! Nothing stands on it. include/kfs.h says the same to C. Begin with `slot.rt`, which has the frame of a
+//! call, then `calls.rt` and `acts.rt`.
 #![tactic(auto)]
 
 mod acts;
 mod bytes;
 mod calls;
+mod handle;
+mod held;
 mod listing;
 mod look_ups;
 mod numbers;
 mod opening;
+mod slot;
 mod told;
 mod views;

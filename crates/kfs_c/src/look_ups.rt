@@ -3,14 +3,15 @@ ghost use Rattle.std.specs.Prelude.{◌≡◌, ◌↔◌, ◌≤◌, ◌<◌, �
 ghost use Rattle.kfs_entry_value.specs.Views.{header_of};
 ghost use Rattle.kfs_model.specs.Table.{get};
 ghost use Rattle.kfs_model.specs.Tree.{headers};
-ghost use Rattle.kfs_c_handle.specs.Holding.{HoldsNoDesk, OnDesk};
+ghost use Rattle.kfs_c.specs.Holding.{HoldsNoDesk, OnDesk};
 ghost use Rattle.kfs_c.specs.Reading.{HasNoNode, IsNode, IsPlaced, IsUnplaced, free_places};
-ghost use Rattle.kfs_c_handle.specs.Status as status;
+ghost use Rattle.kfs_c_loose.specs.Status as status;
 
+use crate::handle::Handle;
 use crate::numbers::NodeNumbers;
+use crate::on_desk;
 use crate::told::node_numbers;
-use kfs_c_handle::status::{DONE, NOTHING};
-use kfs_c_handle::{Handle, on_desk};
+use kfs_c_loose::status::{DONE, NOTHING};
 use kfs_desk::Desk;
 use kfs_image::{Answer, Cell, Header, look};
 use std::alloc::Global;
@@ -102,15 +103,10 @@ pub extern "C" fn kfs_free(alloc: Global, handle: &mut Handle, tier: u8, count: 
     ensures wrong { (result ≡ status.wrong_kind) ↔ HoldsNoDesk handle.old.value }
     ensures only { result < status.closed → result ≡ status.done }
 {
-    on_desk!(alloc, handle, &desk => count_free(desk, tier, count))
-}
-
-fn count_free(desk: &Desk<Global>, tier: u8, count: &mut u32) -> u32
-    ensures counted { count.new ≡ free_places tier desk.now }
-    ensures always { result ≡ status.done }
-{
-    *count = desk.image().free(tier);
-    DONE
+    on_desk!(alloc, handle, &desk => {
+        *count = desk.image().free(tier);
+        DONE
+    })
 }
 
 /// Tells how many rows the docket has.
@@ -123,13 +119,8 @@ pub extern "C" fn kfs_docket_len(alloc: Global, handle: &mut Handle, count: &mut
     ensures wrong { (result ≡ status.wrong_kind) ↔ HoldsNoDesk handle.old.value }
     ensures only { result < status.closed → result ≡ status.done }
 {
-    on_desk!(alloc, handle, &desk => count_rows(desk, count))
-}
-
-fn count_rows(desk: &Desk<Global>, count: &mut u32) -> u32
-    ensures counted { count.new ≡ length desk.now.docket }
-    ensures always { result ≡ status.done }
-{
-    *count = desk.docket().len();
-    DONE
+    on_desk!(alloc, handle, &desk => {
+        *count = desk.docket().len();
+        DONE
+    })
 }

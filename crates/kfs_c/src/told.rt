@@ -3,7 +3,7 @@ ghost use Rattle.std.specs.Prelude.{◌≡◌};
 ghost use Rattle.kfs_c.specs.Told.{act_fault_told, act_told, done_told, header_told, is_directory_kind, lease_fault_told, move_fault_told};
 
 use crate::numbers::{ActNumbers, NodeNumbers};
-use kfs_c_handle::{FaultNumbers, NO_FAULT, fault};
+use kfs_c_submission::{FaultNumbers, NO_FAULT, fault};
 use kfs_image::{Header, Kind};
 use kfs_lease::LeaseFault;
 use kfs_migrate_value::MoveFault;

@@ -2,15 +2,17 @@
 //! lands under it again.
 ghost use Rattle.std.specs.Prelude.{◌≡◌, ◌↔◌, ◌≤◌, ◌<◌, None, ⊤};
 ghost use Rattle.kfs_c.specs.Calls.{HasLanded, IsJudged, IsLanded};
-ghost use Rattle.kfs_c_handle.specs.Holding.{HoldsNoDesk, HoldsNoView, OnDesk, OnDesks, OnVerdict, OnView};
-ghost use Rattle.kfs_c_handle.specs.Status as status;
-ghost use Rattle.kfs_c_handle.specs.Submission.{IsFull};
+ghost use Rattle.kfs_c.specs.Holding.{HoldsNoDesk, HoldsNoView, OnDesk, OnDesks, OnVerdict, OnView};
+ghost use Rattle.kfs_c_loose.specs.Status as status;
+ghost use Rattle.kfs_c_submission.specs.Submission.{IsFull};
 
+use crate::handle::Handle;
+use crate::held::Held;
+use crate::on_desk;
 use crate::opening::let_go;
-use kfs_c_handle::status::{DONE, NO_MEMORY, WRONG_KIND, closed};
-use kfs_c_handle::{
-    Handle, Held, ReplyNumbers, on_desk, put_in, reply_numbers, take_out, why_number,
-};
+use crate::slot::{put_in, take_out};
+use kfs_c_loose::status::{DONE, NO_MEMORY, WRONG_KIND, closed};
+use kfs_c_submission::{ReplyNumbers, reply_numbers, why_number};
 use kfs_desk::Desk;
 use kfs_plan::{Judged, Submission};
 use kfs_workers_verdict::DeskView;
@@ -28,15 +30,7 @@ pub extern "C" fn kfs_look(alloc: Global, handle: &mut Handle, view: &mut Handle
     ensures range { result < status.closed → result ≤ status.no_memory }
 {
     let_go(alloc, view);
-    let Some(held) = take_out(alloc, handle) else {
-        return closed();
-    };
-    let status = match &*held {
-        Held::Desk(desk) => look(alloc, desk, view),
-        Held::View(_) | Held::Verdict(_) => WRONG_KIND,
-    };
-    put_in(handle, held);
-    status
+    on_desk!(alloc, handle, &desk => look(alloc, desk, view))
 }
 
 fn look(alloc: Global, desk: &Desk<Global>, view: &mut Handle) -> u32

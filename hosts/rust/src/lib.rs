@@ -110,7 +110,7 @@ impl From<raw::Reply> for Reply {
 /// What a handle holds is freed with it.
 struct Held(Handle);
 
-// SAFETY: what a handle holds may go to another thread: crates/kfs_c_handle proves `Send` of it.
+// SAFETY: what a handle holds may go to another thread: crates/kfs_c proves `Send` of it.
 unsafe impl Send for Held {}
 
 impl Drop for Held {

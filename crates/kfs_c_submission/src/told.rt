@@ -1,6 +1,6 @@
 //! Replies and their faults as the numbers that C is told.
 ghost use Rattle.std.specs.Prelude.{◌≡◌};
-ghost use Rattle.kfs_c_handle.specs.Told.{fault_told, numbers, reason_told, reply_told, row_told, spelling_told};
+ghost use Rattle.kfs_c_submission.specs.Told.{fault_told, numbers, reason_told, reply_told, row_told, spelling_told};
 
 use crate::numbers::{FaultNumbers, ReplyNumbers};
 use kfs_entry::SpellFault;

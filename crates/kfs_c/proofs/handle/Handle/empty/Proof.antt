@@ -10,10 +10,10 @@ use denote.Triple.Entry.{on_entry}
 use denote.Triple.Walked.{walk_of, says, ends_at}
 use Rattle.std.specs.Prelude.{None}
 use Rattle.std.proofs.raw_atomic.Walks.{proved}
-use Rattle.kfs_c_handle.proofs.Values.{word, wraps}
-use Rattle.kfs_c_handle.specs.contracts.handle.Handle.empty as f
-use Rattle.kfs_c_handle.proofs.handle.Handle.empty.Statement.{statement}
-use Rattle.kfs_c_handle.proofs.handle.Handle.empty.Code as code
+use Rattle.kfs_c.proofs.Values.{word, wraps}
+use Rattle.kfs_c.specs.contracts.handle.Handle.empty as f
+use Rattle.kfs_c.proofs.handle.Handle.empty.Statement.{statement}
+use Rattle.kfs_c.proofs.handle.Handle.empty.Code as code
 
 pub empty_spec : {M : Type 1} → statement M
 empty_spec 𝓤 𝓛 𝓜 𝓡 wired =

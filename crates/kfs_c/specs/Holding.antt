@@ -1,11 +1,12 @@
 -- What is said of the desk, the view or the verdict that a handle holds.
-use Rattle.std.specs.Prelude.{Option, None, Some}
+use Rattle.std.specs.Prelude.{◌≡◌, ◌⊎◌, ℕ, Option, None, Some}
 use Rattle.kfs_model.specs.Judgement.{State}
 use Rattle.kfs_desk.specs.Machine.{Desk}
 use Rattle.kfs_plan.specs.Judged.{Judged}
 use Rattle.std.specs.Global.{Global}
-use Rattle.kfs_c_handle.specs.declared.held.Held.{Held}
-use Rattle.kfs_c_handle.specs.declared.held.Held.TheVariants as helds
+use Rattle.kfs_c_loose.specs.Status.{closed, wrong_kind}
+use Rattle.kfs_c.specs.declared.held.Held.{Held}
+use Rattle.kfs_c.specs.declared.held.Held.TheVariants as helds
 
 -- the handle holds a desk, and this is said of it
 abbrev pub OnDesk : Option Held → (Desk → Type 0) → Type 0
@@ -45,3 +46,17 @@ HoldsNoView None = ⊥
 HoldsNoView (Some (helds.Desk desk)) = Unit {0}
 HoldsNoView (Some (helds.View view)) = ⊥
 HoldsNoView (Some (helds.Verdict verdict)) = Unit {0}
+
+-- it is a desk
+abbrev pub IsDesk : Held → Type 0
+IsDesk (helds.Desk desk) = Unit {0}
+IsDesk (helds.View view) = ⊥
+IsDesk (helds.Verdict verdict) = ⊥
+
+-- the handle holds a view or a verdict, and this is it
+abbrev pub IsOther : Option Held → Type 0
+IsOther held = ((view : State) × (held ≡ Some (helds.View view))) ⊎ ((verdict : Judged Global) × (held ≡ Some (helds.Verdict verdict)))
+
+-- the handle holds no desk, and the status says so
+abbrev pub IsRefusal : Option Held → (status : ℕ) → Type 0
+IsRefusal held status = ((status ≡ closed) × (held ≡ None)) ⊎ ((status ≡ wrong_kind) × IsOther held)

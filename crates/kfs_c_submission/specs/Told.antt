@@ -10,8 +10,8 @@ use Rattle.kfs_plan.specs.declared.rows.RowFault.{RowFault}
 use Rattle.kfs_plan.specs.declared.rows.RowFault.TheVariants as rows
 use Rattle.kfs_plan.specs.declared.submission.Fault.{Fault}
 use Rattle.kfs_plan.specs.declared.submission.Fault.TheVariants as faults
-use Rattle.kfs_c_handle.specs.declared.numbers.FaultNumbers.{FaultNumbers}
-use Rattle.kfs_c_handle.specs.declared.numbers.ReplyNumbers.{ReplyNumbers}
+use Rattle.kfs_c_submission.specs.declared.numbers.FaultNumbers.{FaultNumbers}
+use Rattle.kfs_c_submission.specs.declared.numbers.ReplyNumbers.{ReplyNumbers}
 
 abbrev pub numbers : (code reason index detail : ℕ) → FaultNumbers
 numbers code reason index detail = record { code = code; reason = reason; index = index; detail = detail }

@@ -22,11 +22,11 @@ use Rattle.std.specs.contracts.alloc.Global as heap
 use Rattle.std.proofs.alloc.Global.TheLaws.{the_row_laws}
 use Rattle.std.specs.contracts.impls.GlobalAllocator.TheImpl.{ghosts}
 use Rattle.kfs_c_loose.proofs.Values as loose
-use Rattle.kfs_c_handle.specs.Handle.{the_held}
-use Rattle.kfs_c_handle.proofs.Values.{Boxed, word, wraps}
-use Rattle.kfs_c_handle.specs.contracts.handle.Handle.full as f
-use Rattle.kfs_c_handle.proofs.handle.Handle.full.Statement.{statement}
-use Rattle.kfs_c_handle.proofs.handle.Handle.full.Code as code
+use Rattle.kfs_c.specs.Handle.{the_held}
+use Rattle.kfs_c.proofs.Values.{Boxed, word, wraps}
+use Rattle.kfs_c.specs.contracts.handle.Handle.full as f
+use Rattle.kfs_c.proofs.handle.Handle.full.Statement.{statement}
+use Rattle.kfs_c.proofs.handle.Handle.full.Code as code
 
 abbrev Given : RattleType
 Given = loose.Loose the_held heap.the_row the_row_laws ghosts

@@ -3,8 +3,8 @@ use Rattle.std.specs.Prelude.{◌≡◌, ℕ, false, List, length}
 use Rattle.kfs_plan.specs.declared.answers.Reply.{Reply}
 use Rattle.kfs_plan.specs.Judging.{submission_with}
 use Rattle.kfs_desk.specs.Machine.{Desk, IsAnswered}
-use Rattle.kfs_c_handle.specs.declared.numbers.ReplyNumbers.{ReplyNumbers}
-use Rattle.kfs_c_handle.specs.Told.{reply_told}
+use Rattle.kfs_c_submission.specs.declared.numbers.ReplyNumbers.{ReplyNumbers}
+use Rattle.kfs_c_submission.specs.Told.{reply_told}
 
 -- the docket has as many rows as it may have
 abbrev pub IsFull : Desk → Type 0

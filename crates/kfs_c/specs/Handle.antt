@@ -6,8 +6,8 @@ use denote.RattleType.{RattleType}
 use Rattle.std.specs.Box.Ownership.{box_owns}
 use Rattle.std.specs.Global.{Global}
 use Rattle.std.specs.contracts.impls.GlobalAllocator.TheImpl.{ghosts}
-use Rattle.kfs_c_handle.specs.contracts.held.Held as held
-use Rattle.kfs_c_handle.specs.declared.held.Held.{Held}
+use Rattle.kfs_c.specs.contracts.held.Held as held
+use Rattle.kfs_c.specs.declared.held.Held.{Held}
 use Rattle.kfs_c_loose.specs.declared.Loose.{Loose}
 
 abbrev pub the_held : RattleType

@@ -10,7 +10,7 @@ use Rattle.kfs_plan.specs.contracts.judged.Judged as Judged
 use Rattle.kfs_plan.proofs.judged.Judged.TheSendSync as judged
 use Rattle.kfs_workers_threads.proofs.Sent.{desk_send}
 use Rattle.kfs_workers_verdict.specs.contracts.desk_view.DeskView as DeskView
-use Rattle.kfs_c_handle.specs.contracts.held.Held as Held
+use Rattle.kfs_c.specs.contracts.held.Held as Held
 
 -- a view of a desk, and a claim about it that has no bytes
 pub look_send : IsSend (DeskView.the_row Heap.the_row ghosts)

@@ -1,14 +1,11 @@
-//! A submission to the desk that a handle holds.
-ghost use Rattle.std.specs.Prelude.{◌≡◌, ◌↔◌, ◌≤◌, ◌<◌, None};
-ghost use Rattle.kfs_c_handle.specs.Holding.{HoldsNoDesk, OnDesk, OnDesks};
-ghost use Rattle.kfs_c_handle.specs.Submission.{IsFull, IsSubmitted};
+//! A submission to a desk.
+ghost use Rattle.std.specs.Prelude.{◌≡◌, ◌↔◌, ◌≤◌};
+ghost use Rattle.kfs_c_submission.specs.Submission.{IsFull, IsSubmitted};
 ghost use Rattle.kfs_c_loose.specs.Status as status;
 
-use crate::handle::Handle;
 use crate::numbers::ReplyNumbers;
-use crate::on_desk;
-use crate::status::{DONE, FULL, NO_MEMORY};
 use crate::told::reply_numbers;
+use kfs_c_loose::status::{DONE, FULL, NO_MEMORY};
 use kfs_desk::Desk;
 use kfs_plan::Why;
 use std::alloc::Global;
@@ -16,25 +13,6 @@ use std::alloc::Global;
 /// Judges a submission against the state now and lands it (`Desk::submit_bytes`). It is answered by `DONE`
 /// and a reply, or not at all, by `NO_MEMORY` or `FULL`, and then nothing has changed.
 pub fn submit(
-    alloc: Global,
-    handle: &mut Handle,
-    client: u32,
-    log: &[u8],
-    plan: &[u8],
-    reply: &mut ReplyNumbers,
-) -> u32
-    ensures answered { result ≡ status.done → OnDesks handle.old.value handle.new.value (IsSubmitted client log.now plan.now reply.new) }
-    ensures unanswered { 1 ≤ result → (handle.new.value ≡ handle.old.value) × (reply.new ≡ reply.old) }
-    ensures full { result ≡ status.full → OnDesk handle.old.value IsFull }
-    ensures closed { (result ≡ status.closed) ↔ (handle.old.value ≡ None) }
-    ensures wrong { (result ≡ status.wrong_kind) ↔ HoldsNoDesk handle.old.value }
-    ensures range { result < status.closed → result ≤ status.full }
-{
-    on_desk!(alloc, handle, &mut desk => submit_to(desk, client, log, plan, reply))
-}
-
-/// Hands in bytes of the host's.
-fn submit_to(
     desk: &mut Desk<Global>,
     client: u32,
     log: &[u8],

@@ -24,9 +24,9 @@ use Rattle.std.specs.Prelude.{Option, None, Some}
 use Rattle.std.specs.Box.Ownership.{box_owns}
 use Rattle.std.specs.Global.{Global}
 use Rattle.std.specs.contracts.impls.GlobalAllocator.TheImpl.{ghosts}
-use Rattle.kfs_c_handle.specs.declared.held.Held.{Held}
-use Rattle.kfs_c_handle.specs.Handle.{handle_owns, the_held}
-use Rattle.kfs_c_handle.specs.contracts.handle.Handle as handle
+use Rattle.kfs_c.specs.declared.held.Held.{Held}
+use Rattle.kfs_c.specs.Handle.{handle_owns, the_held}
+use Rattle.kfs_c.specs.contracts.handle.Handle as handle
 
 abbrev pub Handle : RattleType
 Handle = handle.the_row

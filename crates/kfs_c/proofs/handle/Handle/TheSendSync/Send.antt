@@ -8,10 +8,10 @@ use denote.RawPtr.{Ptr, block_ptr, null_ptr}
 use denote.Param.Send.{IsSend, part_keyless}
 use Rattle.std.specs.Prelude.{Option, None, Some}
 use Rattle.std.proofs.Crossing.{frees}
-use Rattle.kfs_c_handle.proofs.Sent.{held_send}
-use Rattle.kfs_c_handle.specs.Handle.{the_held, handle_owns}
-use Rattle.kfs_c_handle.specs.declared.held.Held.{Held}
-use Rattle.kfs_c_handle.specs.contracts.handle.Handle.{the_row}
+use Rattle.kfs_c.proofs.Sent.{held_send}
+use Rattle.kfs_c.specs.Handle.{the_held, handle_owns}
+use Rattle.kfs_c.specs.declared.held.Held.{Held}
+use Rattle.kfs_c.specs.contracts.handle.Handle.{the_row}
 
 keyless : (full : Bool) (at : Ptr) (value : Option Held) → Keyless (handle_owns full at value)
 keyless full at None = tt

@@ -1,7 +1,7 @@
 //! What C sees as `struct kfs`: a desk, a view, a verdict or nothing, in memory that the host owns.
 ghost use Rattle.std.specs.Prelude.{◌≡◌, None, Some, Option};
-ghost use Rattle.kfs_c_handle.specs.Handle.{handle_owns, taken};
-ghost use Rattle.kfs_c_handle.specs.declared.held.Held.{Held as HeldShown};
+ghost use Rattle.kfs_c.specs.Handle.{handle_owns, taken};
+ghost use Rattle.kfs_c.specs.declared.held.Held.{Held as HeldShown};
 
 use crate::held::Held;
 use kfs_c_loose::Loose;

@@ -1,0 +1,2 @@
+pub mod Submission
+pub mod Told
