@@ -1,7 +1,7 @@
-//! Tests of edits of an image: a tier that is full, each growth refused in turn, and the bytes after
-//! edits. The expected
-//! values come from docs/DEFINITIONS.md, never from the program's own output. The scripts of `kfs_rows`
-//! show what a landing does to blocks.
+//! Tests of edits of an image: a tier that is full, each growth refused in turn, the bytes after edits,
+//! and the memory that is kept of blocks that are written over. The expected values come from
+//! docs/DEFINITIONS.md and docs/DECISIONS.md, never from the program's own output. The scripts of
+//! `kfs_rows` show what a landing does to blocks.
 //!
 //! It stands on `kfs_image`, `kfs_plan` and `kfs_test_support`. Begin with `edits.rt`.
 //!
@@ -20,3 +20,5 @@ mod fits;
 mod landed;
 #[cfg(test)]
 mod refused;
+#[cfg(test)]
+mod spares;
