@@ -22,7 +22,7 @@ module _ {V : Type 0} where
   get-rewritten t [] q = refl
   get-rewritten t (e ∷ es) q = get-rewritten (changed t e.number e.value) es q ∙ ap (edited es q) (get-changed t e.number e.value q)
 
-  edited-append : (xs ys : List (NumberEdit V)) (n : ℕ) (v : Option V) → edited (xs ++ ys) n v ≡ edited ys n (edited xs n v)
+  pub edited-append : (xs ys : List (NumberEdit V)) (n : ℕ) (v : Option V) → edited (xs ++ ys) n v ≡ edited ys n (edited xs n v)
   edited-append [] ys n v = refl
   edited-append (x ∷ xs) ys n v = edited-append xs ys n (cond (eq_by_cmp nat_cmp n x.number) x.value v)
 

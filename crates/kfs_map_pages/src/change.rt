@@ -1,5 +1,5 @@
 //! A change of pages together with another change: memory is taken while the calls go inwards, values
-//! are set while they return.
+//! are set while they return. Many edits are made a few at a time, in groups that the caller can drop.
 ghost use Rattle.std.specs.Prelude.{◌≡◌, ℕ, ◌+◌, ◌*◌, ◌≤◌, ◌<◌, ◌++◌, [], ◌∷◌, All, IsSome, OnOk, OnErr, length};
 ghost use Rattle.kfs_map_pages.specs.Edits.{edited, Ascends, EditsAreWithin, IsOfPage};
 ghost use Rattle.kfs_map_pages.specs.Groups.{held, all_held, pages_of, laid_out, GroupsAreWhole};
@@ -7,9 +7,13 @@ ghost use Rattle.kfs_map_pages.specs.Shown.{slot_shows, HasIndex, AreIndexedFrom
 
 use crate::edit::{NumberEdit, page_of, run_of};
 use crate::group::{GROUP_LEN, Group};
+use crate::nested::Nothing;
 use crate::page::Page;
 use std::alloc::{AllocError, Allocator};
 use std::sync::Arc;
+
+/// How many edits are made together, at most. Each may take four calls within each other.
+pub(crate) const MOST_TOGETHER: usize = 32;
 
 /// A change that can be made together with a change of pages: both are made, or neither.
 pub trait Change {
@@ -62,6 +66,31 @@ fn found_group<V: Copy, A: Allocator + Clone>(
     if slot.is_none() {
         let group = Group::blank(alloc.clone()?)?;
         *slot = Some(Arc::new(alloc.clone()?, group)?);
+    }
+    Ok(())
+}
+
+/// Makes the edits in these groups, a few at a time. On `Err` some may have been made: the caller gives
+/// groups that it can drop.
+pub(crate) fn change_each<V: Copy, A: Allocator + Clone>(
+    alloc: &A,
+    groups: &mut [Option<Arc<Group<V, A>, A>>],
+    edits: &[NumberEdit<V>],
+) -> Result<(), AllocError>
+    requires count { length groups.old ≡ 32 }
+    requires ascends { Ascends edits.now }
+    requires within { EditsAreWithin 0 1024 edits.now }
+    requires whole { GroupsAreWhole (all_held groups.old) }
+    requires placed { AreIndexedFrom 0 (laid_out groups.old) }
+    ensures whole { GroupsAreWhole (all_held groups.new) }
+    ensures placed { AreIndexedFrom 0 (laid_out groups.new) }
+    ensures edited { OnOk result (Edited 0 edits.now (laid_out groups.old) (laid_out groups.new)) }
+{
+    let mut rest = edits;
+    while !rest.is_empty() {
+        let (mine, later) = rest.split_at(rest.len().min(MOST_TOGETHER));
+        change_groups(alloc, groups, 0, mine, &mut Nothing)?;
+        rest = later;
     }
     Ok(())
 }

@@ -6,7 +6,7 @@ ghost use Rattle.kfs_map_pages.specs.Values.{IsNextNumber};
 ghost use Rattle.kfs_map_pages.specs.Edits.{rewritten, AreEdits};
 ghost use Rattle.kfs_map_pages.specs.Shown.{part};
 
-use crate::change::{Change, change_groups};
+use crate::change::{Change, MOST_TOGETHER, change_each, change_groups};
 use crate::edit::{NumberEdit, page_of};
 use crate::group::{GROUP_LEN, Group, nothing, page_at};
 use crate::page::Page;
@@ -18,8 +18,9 @@ use std::sync::Arc;
 const GROUPS: u32 = 32;
 
 /// A map from the numbers 1 to 65,536 to values. Copies share groups of pages, and each keeps showing
-/// what it showed when it was made. A change copies the list of groups, and only those groups' lists
-/// and pages that it touches and that a copy shares.
+/// what it showed when it was made. A change of few numbers copies only those groups' lists and pages
+/// that it touches and that a copy shares. A change of many copies the list of groups, and those groups'
+/// lists and pages that it touches.
 #[derive(Drop)]
 pub struct Pages<V: Copy, A: Allocator> {
     groups: Vec<Option<Arc<Group<V, A>, A>>, A>,
@@ -121,6 +122,13 @@ impl<V: Copy, A: Allocator + Clone> Pages<V, A> {
         ensures kept { OnErr result (T.kept then.old then.new) }
     {
         let alloc = self.groups.allocator().clone()?;
-        change_groups(&alloc, self.groups.as_mut_slice(), 0, edits, then)
+        if edits.len() <= MOST_TOGETHER {
+            return change_groups(&alloc, self.groups.as_mut_slice(), 0, edits, then);
+        }
+        let mut groups = self.groups.clone()?;
+        change_each(&alloc, groups.as_mut_slice(), edits)?;
+        then.make()?;
+        self.groups = groups;
+        Ok(())
     }
 }
