@@ -5,7 +5,7 @@ program. The encoders are those of tools/fuzzing.
 """
 from typing import NamedTuple
 
-from fuzzing.codec import DIRECTORY, FILE, ZERO
+from fuzzing.codec import BLOCK, DIRECTORY, FILE, ZERO
 from fuzzing.codec import Chmod, Create, Header, Link, Log, NameRow, NodeRow, Piece, Plan, RawImage, RawNode, Regroup, Rename, Truncate, Unlink, Write
 from fuzzing.codec import encode_image, encode_log, encode_plan
 
@@ -13,6 +13,8 @@ ROOT, CLIENT, USER, GROUP = 1, 7, 1000, 2000
 LAST_NUMBER, LATEST = 65_536, 2
 NEVER = 1 << 40
 MOST_MOVES = 1_024
+# With 4,096 files these are all blocks of a tier.
+BLOCKS_EACH = 16
 OPEN = Header(DIRECTORY, 0o777, 0, 0, 1, 0)
 # Each sixteenth number is free, so that new nodes lie between the others.
 FREE_EACH = 16
@@ -27,6 +29,8 @@ class Sizes(NamedTuple):
 
 
 FULL = Sizes(60_000, 4_096, 60_000)
+# As many entries as a map takes edits in place, and half of that: a Rename makes two edits of names.
+FEW, FEWER = FULL._replace(log=32), FULL._replace(log=16)
 SMALL = Sizes(600, 40, 500)
 
 
@@ -189,6 +193,30 @@ def creates(rows, kind=FILE):
     return RightLog(entries, rows, [NodeRow(row.number, header) for row in rows])
 
 
+def written_at(number, index, block, size):
+    """Returns an entry that writes the last byte of a block of a file, and its pieces: what lies before it is zero."""
+    start = (block + 1) * BLOCK - 1
+    return Write(number, start, b"w"), [Piece(number, size, start - size, ZERO), Piece(number, start, 1, (index, 0))]
+
+
+def writes_at(files, block, size):
+    """Writes in each of these files, which have this size."""
+    written = [written_at(number, index, block, size) for index, (_, number) in enumerate(files)]
+    nodes = [NodeRow(number, file_header(size=(block + 1) * BLOCK)) for _, number in files]
+    return RightLog([entry for entry, _ in written], (), nodes, [piece for _, pieces in written for piece in pieces])
+
+
+def writes_in(number, blocks, size):
+    """Writes in these blocks of one file, which has this size."""
+    entries, all_pieces = [], []
+    for index, block in enumerate(blocks):
+        entry, pieces = written_at(number, index, block, size)
+        entries.append(entry)
+        all_pieces += pieces
+        size = (block + 1) * BLOCK
+    return RightLog(entries, (), [NodeRow(number, file_header(size=size))], all_pieces)
+
+
 def unlinks(files):
     entries = [Unlink(ROOT, name, FILE) for name, _ in files]
     return RightLog(entries, [NameRow(ROOT, name, 0) for name, _ in files], [NodeRow(number, None) for _, number in files])
@@ -267,6 +295,26 @@ def unlinked_written(tree):
     session = tree.begun(f"{tree.sizes.log:,} Unlinks of files with a block", tree.some())
     session.submit(writes(tree.some()), len(tree.some()))
     session.submit(unlinks(tree.some()))
+    return session
+
+
+def unlinked_long(tree):
+    """The files have all blocks of a tier, as many each."""
+    session = tree.begun(f"{tree.sizes.log:,} Unlinks of files with {BLOCKS_EACH} blocks", tree.some())
+    for index in range(BLOCKS_EACH):
+        session.submit(writes_at(tree.some(), 2 * index, max(0, (2 * index - 1) * BLOCK)), len(tree.some()))
+    session.submit(unlinks(tree.some()))
+    return session
+
+
+def cut_long(tree):
+    """One file has all blocks of a tier, with holes between them, and loses them by one entry."""
+    files, each = tree.some()[:1], 2 * tree.sizes.log
+    session = tree.begun(f"a Truncate that frees {BLOCKS_EACH * tree.sizes.log:,} blocks", files)
+    for index in range(BLOCKS_EACH):
+        blocks = range(index * each, (index + 1) * each, 2)
+        session.submit(writes_in(files[0][1], blocks, max(0, (blocks[0] - 1) * BLOCK)), len(blocks))
+    session.submit(truncates(files, 0))
     return session
 
 
@@ -393,9 +441,12 @@ def planned_by_words(tree):
 
 
 OF_WIDE = (
-    created, created_directories, unlinked, unlinked_all_leased, unlinked_written, linked, written, grown, cut, changed_modes, changed_groups,
-    moved, ticked, dropped, by_workers, judged_again, planned, saved, listed, checked, shown, planned_by_words,
-)  # fmt: skip
+    created, created_directories, unlinked, unlinked_all_leased, unlinked_written, unlinked_long, linked, written, grown, cut, cut_long,
+    changed_modes, changed_groups, moved, ticked, dropped, by_workers, judged_again, planned, saved, listed, checked, shown,
+    planned_by_words,
+)
+
+OF_SHORT = (created, unlinked_all_leased, unlinked_written, linked, written, cut, changed_modes)
 
 
 # ---- Sessions of two directories
@@ -415,6 +466,73 @@ def renamed_over(tree):
 
 
 OF_TWO = (renamed, renamed_over)
+
+
+# ---- Sessions of files that stand in directories of their own: a log that changes some of them changes each of the maps
+
+class Apart:
+    """Directories in the root directory, each with a file `f` in it."""
+
+    def __init__(self, sizes):
+        self.sizes = sizes
+        numbers = numbers_between(sizes.others)
+        self.pairs = list(zip(numbers[::2], numbers[1::2]))
+        nodes = [row for holder, number in self.pairs for row in (directory(holder), RawNode(number, file_header()))]
+        names = [NameRow(ROOT, self.name(holder), holder) for holder, _ in self.pairs]
+        self.image = image_of(nodes, names + [NameRow(holder, b"f", number) for holder, number in self.pairs])
+
+    @staticmethod
+    def name(holder):
+        return b"d%05d" % holder
+
+    def some(self, count):
+        return spread(self.pairs, count)
+
+    def begun(self, title, pairs):
+        """Leases these directories and the files in them."""
+        session = Session(title)
+        session.begin(self.image)
+        for holder, number in pairs:
+            path = "/" + self.name(holder).decode()
+            session.lease(path, holder)
+            session.lease(f"{path}/f", number)
+        return session
+
+
+def unlinked_apart(tree):
+    pairs = tree.some(tree.sizes.log)
+    session = tree.begun(f"{len(pairs):,} Unlinks, each in a directory of its own", pairs)
+    session.submit(writes([(b"f", number) for _, number in pairs]), len(pairs))
+    entries = [Unlink(holder, b"f", FILE) for holder, _ in pairs]
+    rows = [NameRow(holder, b"f", 0) for holder, _ in pairs]
+    session.submit(RightLog(entries, rows, [NodeRow(number, None) for _, number in pairs]))
+    return session
+
+
+def created_apart(tree):
+    pairs = tree.some(tree.sizes.log)
+    session = tree.begun(f"{len(pairs):,} Creates, each in a directory of its own", pairs)
+    rows = [NameRow(holder, b"g", number) for (holder, _), number in zip(pairs, free_numbers(len(pairs)))]
+    entries = [Create(row.directory, row.name, row.number, FILE, 0o644) for row in rows]
+    session.submit(RightLog(entries, rows, [NodeRow(row.number, file_header()) for row in rows]))
+    return session
+
+
+def renamed_apart(tree):
+    """Each file with a block takes the place of another one with a block, which goes."""
+    pairs = tree.some(2 * tree.sizes.log)
+    sources, targets = pairs[::2], pairs[1::2]
+    session = tree.begun(f"{len(sources):,} Renames over files, each between directories of its own", pairs)
+    for part in (sources, targets):
+        session.submit(writes([(b"f", number) for _, number in part]), len(part))
+    both = list(zip(sources, targets))
+    entries = [Rename(old, b"f", new, b"f") for (old, _), (new, _) in both]
+    rows = [row for (old, number), (new, _) in both for row in (NameRow(old, b"f", 0), NameRow(new, b"f", number))]
+    session.submit(RightLog(entries, rows, [NodeRow(gone, None) for _, gone in targets]))
+    return session
+
+
+OF_APART = (unlinked_apart, created_apart, renamed_apart)
 
 
 # ---- Deep trees
@@ -579,10 +697,18 @@ def climbs(sizes):
 # ---- All
 
 def sessions(sizes):
-    """Yields all sessions, one at a time: each has megabytes of text."""
-    tree = Wide(sizes)
-    yield from (make(tree) for make in OF_WIDE)
-    tree = TwoDirectories(sizes)
-    yield from (make(tree) for make in OF_TWO)
+    """Yields all sessions of these sizes, one at a time: each has megabytes of text."""
+    for kind, makers in ((Wide, OF_WIDE), (TwoDirectories, OF_TWO), (Apart, OF_APART)):
+        tree = kind(sizes)
+        yield from (make(tree) for make in makers)
     tree = Chain(sizes.depth)
     yield from (make(tree) for make in OF_CHAIN)
+
+
+def short_sessions():
+    """Yields sessions of short logs: up to some count of edits a map is changed in place."""
+    for sizes in (FEW, FEWER):
+        tree = Wide(sizes)
+        yield from (make(tree) for make in OF_SHORT)
+        tree = Apart(sizes)
+        yield from (make(tree) for make in OF_APART)
