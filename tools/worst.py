@@ -31,7 +31,7 @@ class Sizes(NamedTuple):
 FULL = Sizes(60_000, 4_096, 60_000)
 # As many entries as a map takes edits in place, and half of that: a Rename makes two edits of names.
 FEW, FEWER = FULL._replace(log=32), FULL._replace(log=16)
-SMALL = Sizes(600, 40, 500)
+SMALL, TINY = Sizes(600, 40, 500), Sizes(128, 8, 20)
 
 
 def file_header(mode=0o644, group=USER, links=1, size=0):
