@@ -1,4 +1,5 @@
 """Which functions of the crates a function calls, as far as names and types of the text tell (tools/descents)."""
+import itertools
 import re
 from typing import NamedTuple
 
@@ -170,11 +171,13 @@ class Locals:
             elif word == "match":
                 self.arms(words, at + 1)
             elif word == "|":
-                for name in words[at + 1 : at + 8]:
-                    if name == "|":
-                        break
-                    if re.fullmatch(r"[a-z_]\w*", name) and name not in ("mut", "ref"):
-                        self.names.setdefault(name, None)
+                self.closure(words[at + 1 : at + 8])
+
+    def closure(self, words):
+        """The names that stand before the next bar: the text tells no type of them."""
+        for name in itertools.takewhile(lambda it: it != "|", words):
+            if re.fullmatch(r"[a-z_]\w*", name) and name not in ("mut", "ref"):
+                self.names.setdefault(name, None)
 
     def bind(self, words, at, mark):
         end, depth = at, 0

@@ -9,7 +9,6 @@ TOP = os.path.dirname(os.path.dirname(os.path.dirname(os.path.realpath(__file__)
 NOISE = re.compile(r'//[^\n]*|b?"(?:[^"\\]|\\.)*"|b?\'(?:[^\'\\]|\\.[^\']*)\'', re.S)
 TOKEN = re.compile(r"\w+|::|->|=>|\.\.=?|&&|\|\||[^\s\w]")
 OPENERS, CLOSERS = {"(": ")", "[": "]", "{": "}"}, {")", "]", "}"}
-WORDS = {"if", "while", "match", "return", "for", "in", "let", "else", "move", "loop", "break", "mut", "ref", "as", "where", "unsafe", "dyn"}
 
 # What stands for the value within: a call on it is one on that value, where the holder has no such method itself.
 HOLDERS = {"Arc", "Box"}
@@ -253,8 +252,9 @@ class Reader:
         for key, traits in bounds_of(result[where + 1 :]).items():
             bounds.setdefault(key, set()).update(traits)
         end = closing(self.tokens, at)
-        made = Function(self.crate, self.file, line, self.module(at), owner, trait, name, parameters, tuple(result[1:where]), bounds, tuple(self.words(at + 1, end)), cycle)
-        self.source.functions.append(made)
+        body = tuple(self.words(at + 1, end))
+        place = (self.crate, self.file, line, self.module(at))
+        self.source.functions.append(Function(*place, owner, trait, name, parameters, tuple(result[1:where]), bounds, body, cycle))
         return end + 1
 
 
