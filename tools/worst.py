@@ -446,7 +446,7 @@ OF_WIDE = (
     planned_by_words,
 )
 
-OF_SHORT = (created, unlinked_all_leased, unlinked_written, linked, written, cut, changed_modes)
+OF_SHORT = (created, unlinked_all_leased, unlinked_written, linked, written, cut, changed_modes, moved)
 
 
 # ---- Sessions of two directories
