@@ -8,8 +8,9 @@ use std::alloc::{AllocError, Allocator};
 use std::collections::BTreeSet;
 use std::hash::{BuildHasherDefault, FoldHasher};
 
-/// So many steps of a judgement's climbs aren't kept. A judgement with no more takes no memory for them.
-const STEPS_NOT_KEPT: u32 = 1024;
+/// So many steps of a climb aren't kept, as long as none is. A judgement whose climbs are no longer takes
+/// no memory for them.
+const STEPS_NOT_KEPT: u32 = 256;
 
 /// The directories that climbs have passed, each once. Up to each stop, a directory's parent in the view
 /// stands at the next place, so that a later climb passes the whole stretch in one step.
@@ -24,7 +25,7 @@ pub(crate) struct Climbs<A: Allocator> {
     next: Option<u32>,
     /// The directories that were given stops because an entry has written their parent.
     moved: Vec<u32, A>,
-    /// How many steps were made, as long as none is kept.
+    /// How many steps this climb has made, as long as none is kept.
     steps: u32,
 }
 
@@ -52,8 +53,8 @@ impl<A: Allocator + Copy> Climbs<A> {
         }
     }
 
-    /// Gives a stop to each of these directories, whose parents the entries so far have written. What
-    /// was kept is forgotten where they don't go on from the earlier ones.
+    /// Begins a climb: gives a stop to each of these directories, whose parents the entries so far have
+    /// written. What was kept is forgotten where they don't go on from the earlier ones.
     pub(crate) fn follow(&mut self, moved: &[u32]) -> Result<(), AllocError>
         requires { StopsAt (is_taken self.old) self.old }
         ensures links { (parent : ℕ → Option ℕ) → LinksHold parent self.old → LinksHold parent self.new }
@@ -88,6 +89,7 @@ impl<A: Allocator + Copy> Climbs<A> {
         self.stops.clear();
         self.next = None;
         self.moved.clear();
+        self.steps = 0;
     }
 
     /// Gives a stop to a directory whose parent an entry has written.
