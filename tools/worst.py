@@ -29,8 +29,8 @@ class Sizes(NamedTuple):
 
 
 FULL = Sizes(60_000, 4_096, 60_000)
-# As many entries as a map takes edits in place, and half of that: a Rename makes two edits of names.
-FEW, FEWER = FULL._replace(log=32), FULL._replace(log=16)
+# As many entries as a map takes edits in place, and a third of that: a Rename over a file makes three edits of uplinks.
+FEW, FEWER = FULL._replace(log=16), FULL._replace(log=5)
 SMALL, TINY = Sizes(600, 40, 500), Sizes(128, 8, 20)
 
 
