@@ -14,7 +14,7 @@ use Rattle.kfs_model_device.specs.Canonical.{canonical_bytes}
 use Rattle.kfs_entry_value.specs.Views.{header_of}
 use Rattle.kfs_entry_value.specs.declared.header.Header.{Header}
 use Rattle.kfs_desk.specs.Machine.{Desk}
-use Rattle.kfs_program_plan.specs.PlanMade.{HasNoPlan, HasTooManyPieces, IsPlanMade}
+use Rattle.kfs_program_plan.specs.PlanMade.{HasNoPlan, IsPlanMade}
 use Rattle.kfs_c.specs.declared.numbers.NodeNumbers.{NodeNumbers}
 use Rattle.kfs_c.specs.Told.{header_told}
 
@@ -66,7 +66,7 @@ IsPlanFor number log bytes desk =
 
 -- the desk's client has no plan for the log
 abbrev pub LacksPlan : Client → (log : List ℕ) → Desk → Type 0
-LacksPlan client log desk = HasNoPlan client desk.state.tree log ⊎ HasTooManyPieces client desk.state.tree log
+LacksPlan client log desk = HasNoPlan client desk.state.tree log
 
 abbrev pub HasNoPlanFor : (number : ℕ) (log : List ℕ) → Desk → Type 0
 HasNoPlanFor number log desk = (client : Client) × (row_of desk.state.clients number ≡ Some client) × LacksPlan client log desk

@@ -1,11 +1,12 @@
 //! Right pieces of a log whose entries were judged.
-ghost use Rattle.std.specs.Prelude.{◌≤◌, IfOk, IsOk, length, map};
+ghost use Rattle.std.specs.Prelude.{◌≤◌, ◌+◌, ◌*◌, IfOk, IsOk, length, map};
 ghost use Rattle.std.specs.List.{AllByRecursion};
 ghost use Rattle.kfs_model.specs.Access.{Client as ClientRow};
 ghost use Rattle.kfs_model.specs.Limits.{entry_limit};
 ghost use Rattle.kfs_entry_value.specs.Views.{piece_of, IsSpanned};
 ghost use Rattle.kfs_judge.specs.Walks.{HasOrderedSizes, IsWalkOf};
 ghost use Rattle.kfs_plan.specs.PlanCheck.{ArePiecesOf};
+ghost use Rattle.kfs_plan_sweep.specs.RangeCounts.{grown_count};
 
 use kfs_entry::{Log, Piece};
 use kfs_judge::Walk;
@@ -28,6 +29,8 @@ pub fn sweep<A: Allocator + Copy>(
     // They are right pieces of the log at every sound tree, with all leases, that agrees with the
     // walk's reads.
     ensures right { IfOk result (λ out. (client : ClientRow) → IsWalkOf client log.now walk.now → ArePiecesOf client log.now walk.now (map piece_of out.items)) }
+    // They are at most two for each file that grew and for each entry.
+    ensures few { IfOk result (λ out. length out.items ≤ 2 * (grown_count walk.now.sizes.items + length log.now.entries)) }
 {
     let out = kfs_plan_sweep::sweep(alloc, walk.sizes.as_slice(), log.entries.as_slice())?;
     Ok(out)

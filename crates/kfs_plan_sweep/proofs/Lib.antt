@@ -9,6 +9,7 @@ pub mod Following
 pub mod ChangedMarks
 pub mod Made
 pub mod Fits
+pub mod FewRanges
 pub mod Counting
 pub mod ListedBlocks
 pub mod WrittenLists

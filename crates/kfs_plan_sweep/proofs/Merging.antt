@@ -9,16 +9,16 @@ use Rattle.kfs_plan_sweep.specs.ByteRanges.{has_byte, origin_at, AreFrom, ends_b
 
 -- ---- over plain numbers
 
-ends_from : (k e n p : ℕ) → (ltb k n || (eqb k n && leb e p)) ≡ true → (k < n) ⊎ ((k ≡ n) × (e ≤ p))
+pub ends_from : (k e n p : ℕ) → (ltb k n || (eqb k n && leb e p)) ≡ true → (k < n) ⊎ ((k ≡ n) × (e ≤ p))
 ends_from k e n p h = grind (arith, nat_tests)
 
-begins_from : (k s n p : ℕ) → (eqb k n && ltb s p) ≡ true → (k ≡ n) × (s < p)
+pub begins_from : (k s n p : ℕ) → (eqb k n && ltb s p) ≡ true → (k ≡ n) × (s < p)
 begins_from k s n p h = grind (arith, nat_tests)
 
-goes_past : (k e n p : ℕ) → (ltb k n || (eqb k n && leb e p)) ≡ false → k ≡ n → p < e
+pub goes_past : (k e n p : ℕ) → (ltb k n || (eqb k n && leb e p)) ≡ false → k ≡ n → p < e
 goes_past k e n p h i = grind (arith, nat_tests)
 
-lies_behind : (k s e n p : ℕ) → (ltb k n || (eqb k n && leb e p)) ≡ false → (eqb k n && ltb s p) ≡ false → (n < k) ⊎ ((n ≡ k) × (p ≤ s))
+pub lies_behind : (k s e n p : ℕ) → (ltb k n || (eqb k n && leb e p)) ≡ false → (eqb k n && ltb s p) ≡ false → (n < k) ⊎ ((n ≡ k) × (p ≤ s))
 lies_behind k s e n p h i = grind (arith, nat_tests)
 
 -- the front of a range has its bytes before the cut, the back those behind it
@@ -63,7 +63,7 @@ module _ (n p : ℕ) where
           (from.0, parts.1, subst (λ k. AreFrom k p rest) (sym parts.0) behind)
       at false ends false begins more = from_weaker m q n p rest h behind
 
-  cut_from_from : (m q : ℕ) (ls : List ByteRange) → AreFrom m q ls → AreFrom n p (cut_from n p ls)
+  pub cut_from_from : (m q : ℕ) (ls : List ByteRange) → AreFrom m q ls → AreFrom n p (cut_from n p ls)
   unfolding cut_from
   cut_from_from m q [] from = tt
   cut_from_from m q (s ∷ ss) from = at (ends_by n p s) refl (begins_before n p s) refl (cut_from_from s.number s.end ss from.2)

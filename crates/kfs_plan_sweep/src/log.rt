@@ -1,11 +1,12 @@
 //! Which bytes of files the entries of a log change.
-ghost use Rattle.std.specs.Prelude.{◌≡◌, ◌≤◌, ◌++◌, IfOk, IfSome, length, map};
+ghost use Rattle.std.specs.Prelude.{◌≡◌, ◌≤◌, ◌+◌, ◌*◌, ◌++◌, IfOk, IfSome, length, map};
 ghost use Rattle.std.specs.List.{AllByRecursion};
 ghost use Rattle.kfs_model.specs.Limits.{entry_limit};
 ghost use Rattle.kfs_entry_value.specs.Views.{piece_of, IsSpanned};
 ghost use Rattle.kfs_plan_sweep.specs.Lefts.{IsFilled, PieceIsInRange};
 ghost use Rattle.kfs_plan_sweep.specs.Made.{IsFit, made, range_of};
 ghost use Rattle.kfs_plan_sweep.specs.Parts.{AreByNumber};
+ghost use Rattle.kfs_plan_sweep.specs.RangeCounts.{grown_count};
 ghost use Rattle.kfs_plan_sweep.specs.Sizes.{AreRightFrom, SizesAscend, IsSize, growth_of, growths, length_after, reach_in};
 
 use crate::byte_range::{ByteRange, Origin};
@@ -108,6 +109,8 @@ pub fn sweep<A: Allocator + Copy>(
     ensures whole { IfOk result (λ out. AllByRecursion PieceIsInRange out.items) }
     ensures filled { IfOk result (λ out. AllByRecursion IsFilled out.items) }
     ensures order { IfOk result (λ out. AreByNumber 0 out.items) }
+    // They are at most two for each file that grew and for each entry.
+    ensures few { IfOk result (λ out. length out.items ≤ 2 * (grown_count sizes.now + length entries.now)) }
 {
     let ranges = ranges_of(alloc, sizes, entries)?;
     let out = right_pieces(alloc, ranges.as_slice())?;

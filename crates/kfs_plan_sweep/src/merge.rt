@@ -1,8 +1,9 @@
 //! Lists of byte ranges, one laid over another.
-ghost use Rattle.std.specs.Prelude.{◌≡◌, ◌++◌, IfOk, ℕ, List, [], ◌∷◌, drop};
+ghost use Rattle.std.specs.Prelude.{◌≡◌, ◌≤◌, ◌*◌, ◌++◌, IfOk, ℕ, List, [], ◌∷◌, drop};
 ghost use Rattle.kfs_plan_sweep.specs.ByteRanges.{AreFrom, begins_before, cut_below, cut_from, ends_by, last_origin, merged, origin_at};
 ghost use Rattle.std.specs.List.{AllByRecursion};
 ghost use Rattle.kfs_plan_sweep.specs.Made.{IsFit};
+ghost use Rattle.kfs_plan_sweep.specs.RangeCounts.{edge_count, filled_count};
 ghost use Rattle.kfs_plan_sweep.specs.Rests.{rest_of};
 
 use crate::byte_range::ByteRange;
@@ -148,6 +149,8 @@ pub fn last_of_all<A: Allocator + Copy>(
     ensures order { IfOk result (λ out. AreFrom 0 0 out.items) }
     ensures says { IfOk result (λ out. (number place : ℕ) → origin_at out.items number place ≡ last_origin ranges.now number place) }
     ensures fit { IfOk result (λ out. AllByRecursion IsFit ranges.now → AllByRecursion IsFit out.items) }
+    // They are at most two for each range, since they begin and end only where ranges do.
+    ensures few { IfOk result (λ out. edge_count 0 0 out.items ≤ 2 * filled_count ranges.now) }
 {
     match ranges {
         [] => Ok(Vec::new(alloc)),
@@ -167,6 +170,7 @@ fn alone<A: Allocator>(alloc: A, range: &ByteRange) -> Result<Vec<ByteRange, A>,
     ensures order { IfOk result (λ out. AreFrom 0 0 out.items) }
     ensures says { IfOk result (λ out. (number place : ℕ) → origin_at out.items number place ≡ last_origin (range.now ∷ []) number place) }
     ensures fit { IfOk result (λ out. IsFit range.now → AllByRecursion IsFit out.items) }
+    ensures few { IfOk result (λ out. edge_count 0 0 out.items ≤ 2 * filled_count (range.now ∷ [])) }
 {
     let mut out = Vec::new(alloc);
     if range.start < range.end {

@@ -1,11 +1,12 @@
 //! Right pieces of a log, made from byte ranges.
-ghost use Rattle.std.specs.Prelude.{◌≡◌, ◌<◌, ℕ, IfOk, map};
+ghost use Rattle.std.specs.Prelude.{◌≡◌, ◌<◌, ◌≤◌, ◌*◌, ℕ, IfOk, length, map};
 ghost use Rattle.std.specs.List.{AllByRecursion};
 ghost use Rattle.kfs_entry_value.specs.Views.{piece_of};
 ghost use Rattle.kfs_plan_sweep.specs.Lefts.{IsFilled, PieceIsInRange};
 ghost use Rattle.kfs_plan_sweep.specs.Made.{AreRightOf, IsFit, piece_made, pieces_made};
 ghost use Rattle.kfs_plan_sweep.specs.Parts.{AreByNumber};
 ghost use Rattle.kfs_plan_sweep.specs.ByteRanges.{AreFrom};
+ghost use Rattle.kfs_plan_sweep.specs.RangeCounts.{filled_count};
 
 use crate::byte_range::{ByteRange, Origin};
 use crate::merge::last_of_all;
@@ -62,6 +63,7 @@ pub fn right_pieces<A: Allocator + Copy>(
     ensures whole { IfOk result (λ out. AllByRecursion PieceIsInRange out.items) }
     ensures filled { IfOk result (λ out. AllByRecursion IsFilled out.items) }
     ensures order { IfOk result (λ out. AreByNumber 0 out.items) }
+    ensures few { IfOk result (λ out. length out.items ≤ 2 * filled_count ranges.now) }
 {
     let laid = last_of_all(alloc, ranges)?;
     let out = pieces_from(alloc, laid.as_slice())?;

@@ -1,13 +1,18 @@
 -- Rows in the order of their keys, each with a listed key, are no more than the list is long.
-use Rattle.std.proofs.Common.{◌≡◌, ◌+◌, ◌≤◌, ◌||◌, Bool, true, false, cond, T, List, [], ◌∷◌, length, Option, Some, refl, sym, ap, subst, ◌∙◌, arith}
+use Rattle.std.proofs.Common.{◌≡◌, ℕ, ◌+◌, ◌<◌, ◌≤◌, nat_eq, nat_lt, count_by, ◌||◌, Bool, true, false, cond, T, List, [], ◌∷◌, length, Option, Some, refl, sym, ap, subst, ◌∙◌, arith}
 use Rattle.std.specs.Cmp.{tied_itself}
 use Rattle.std.specs.List.{AllByRecursion, list_any}
 use Rattle.std.specs.Ordering.{is_lt}
+use Rattle.std.proofs.lemmas.Bool.Decides.{nat_tests}
+use Rattle.std.proofs.lemmas.List.Sums.{sum_by-cons}
 use Rattle.std.specs.FinMap.Entries.{below_all, find, is_sorted}
 use Rattle.kfs_model.specs.Plan.{AreDifferences}
-use Rattle.kfs_model.specs.Table.{Order}
-use Rattle.kfs_model.proofs.Exact.{IsExact}
+use Rattle.kfs_model.specs.Table.{Order, numbers}
+use Rattle.kfs_model.proofs.Exact.{IsExact, numbers-exact}
 use Rattle.kfs_model.proofs.Tables.{find_behind, find_head, left_part, right_part}
+use Rattle.kfs_plan_sweep.specs.declared.sizes.FileSize.{FileSize}
+use Rattle.kfs_plan_sweep.specs.RangeCounts.{grown_count}
+use Rattle.kfs_plan_sweep.specs.Sizes.{SizesAscend}
 
 pub none_first : (a b : Bool) → (a || b) ≡ false → a ≡ false
 none_first true b none = none
@@ -84,3 +89,35 @@ module _ {K : Type 0} (R : Order K) (same : K → K → Bool) (exact : IsExact s
       at : (key : K) (value : Y) → find R.compare key rows ≡ Some value → (b : Bool) → list_any (same key) ks ≡ b → b ≡ true
       at key value is true listed = refl
       at key value is false listed = let none = differs.unchanged key (kept key listed) in cc
+
+-- ---- files that grew
+
+-- the file is listed if it grew
+abbrev pub IsListedGrown : List ℕ → FileSize → Type 0
+IsListedGrown ks s = s.before < s.after → list_any (nat_eq s.number) ks ≡ true
+
+listed_later : (k least : ℕ) (ss : List FileSize) (ks : List ℕ) → k < least → SizesAscend least ss → AllByRecursion (IsListedGrown ks) ss → AllByRecursion (IsListedGrown (without numbers nat_eq numbers-exact k ks)) ss
+listed_later k least [] ks h ascend all = tt
+listed_later k least (s ∷ ss) ks h ascend all =
+    let low = ascend.0 in
+    let apart : nat_eq s.number k ≡ false = grind (arith, nat_tests) in
+    (λ grew. still_listed numbers nat_eq numbers-exact k s.number ks apart (all.0 grew), listed_later k (s.number + 1) ss ks (omega arith) ascend.1 all.1)
+
+abbrev one_if : Bool → ℕ
+one_if b = cond b 1 0
+
+-- files that grew, each once, are no more than the numbers among which theirs are
+pub few_grown : (least : ℕ) (ss : List FileSize) (ks : List ℕ) → SizesAscend least ss → AllByRecursion (IsListedGrown ks) ss → grown_count ss ≤ length ks
+few_grown least [] ks ascend all = omega arith
+few_grown least (s ∷ ss) ks ascend all = at (nat_lt s.before s.after) refl (λ ks all. few_grown (s.number + 1) ss ks ascend.1 all)
+  where
+    counts : grown_count (s ∷ ss) ≡ one_if (nat_lt s.before s.after) + grown_count ss
+    counts = sum_by-cons (λ (s : FileSize). one_if (nat_lt s.before s.after)) s ss
+
+    at : (b : Bool) → nat_lt s.before s.after ≡ b → ((ks : List ℕ) → AllByRecursion (IsListedGrown ks) ss → grown_count ss ≤ length ks) → grown_count (s ∷ ss) ≤ length ks
+    at true is rest =
+        let grew : s.before < s.after = grind (arith, nat_tests) in
+        let here : s.number < s.number + 1 = omega arith in
+        let fewer = rest (without numbers nat_eq numbers-exact s.number ks) (listed_later s.number (s.number + 1) ss ks here ascend.1 all.1) in
+        omega (arith, counts, ap one_if is, fewer, shorter numbers nat_eq numbers-exact s.number ks (all.0 grew))
+    at false is rest = omega (arith, counts, ap one_if is, rest ks all.1)

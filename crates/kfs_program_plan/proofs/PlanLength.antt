@@ -1,5 +1,6 @@
--- The rows of a log's net: at most two names and four nodes for each entry.
-use Rattle.std.proofs.Common.{◌≡◌, ℕ, ◌*◌, ◌≤◌, ◌||◌, nat_eq, Bool, true, false, List, [], ◌∷◌, ◌++◌, length, Option, Some, None, Ok, refl, sym, ap, subst, ◌∙◌, inr, arith, length-append, append_assoc, eq-eqb}
+-- The rows of a log's net, at most two names and four nodes for each entry, and the files that grew, at
+-- most four.
+use Rattle.std.proofs.Common.{◌≡◌, ℕ, ◌*◌, ◌<◌, ◌≤◌, min, ◌||◌, nat_eq, Bool, true, false, List, [], ◌∷◌, ◌++◌, length, Option, Some, None, Ok, refl, sym, ap, subst, ◌∙◌, inr, arith, length-append, append_assoc, eq-eqb}
 use Rattle.std.specs.List.{AllByRecursion, list_any, flat_map}
 use Rattle.std.proofs.lemmas.List.Folds.{list_any-append}
 use Rattle.std.proofs.lemmas.Bool.{or_right}
@@ -8,6 +9,7 @@ use Rattle.kfs_model.specs.CleanStep.{Fits}
 use Rattle.kfs_model.specs.Header.{Header}
 use Rattle.kfs_model.specs.Entry.{Entry, Create, Write, Truncate, Link, Unlink, Rename, Chmod, Regroup}
 use Rattle.kfs_model.specs.FirstWrong.{same_place}
+use Rattle.kfs_model.specs.Limits.{size_limit}
 use Rattle.kfs_model.specs.Plan.{AreDifferences, header_now, number_now}
 use Rattle.kfs_model.specs.Run.{run, over_bytes}
 use Rattle.kfs_model.specs.Sight.{ClientSight, sight}
@@ -15,9 +17,12 @@ use Rattle.kfs_model.specs.Table.{numbers}
 use Rattle.kfs_model.specs.Tree.{Tree, name_order}
 use Rattle.kfs_model.proofs.Exact.{numbers-exact, places-exact}
 use Rattle.kfs_model.proofs.SeenRun.{bytes_faithful}
+use Rattle.kfs_plan_sweep.specs.declared.sizes.FileSize.{FileSize}
+use Rattle.kfs_plan_sweep.specs.RangeCounts.{grown_count}
+use Rattle.kfs_plan_sweep.specs.Sizes.{AreSizesBetween, SizesAscend, size_in}
 use Rattle.kfs_program_plan.specs.AskedLeases.{HoldsNamed, listed, numbers_named}
 use Rattle.kfs_program_plan.proofs.ChangedKeys.{entry_apart, entry_elsewhere, names_moved, run_keeps}
-use Rattle.kfs_program_plan.proofs.FewRows.{few_differences, none_first, none_rest}
+use Rattle.kfs_program_plan.proofs.FewRows.{IsListedGrown, few_differences, few_grown, none_first, none_rest}
 use Rattle.kfs_program_plan.proofs.LeasedRuns.{NamesAreKnown, parts, still_known}
 
 -- ---- how many keys there are
@@ -90,16 +95,43 @@ module _ (client : Client) (before : ClientSight) (t after : Tree ℕ) (entries 
       0 [] t entries fits.sound fits.fitting tt (each_apart (same_place key) names_moved entries apart) after ran)) in
       omega (arith, few, few_in_all names_moved 2 few_moved entries)
 
-  pub few_nodes : (rows : List (ℕ × Option Header)) → AreDifferences numbers header_now (sight t).head (sight after).head rows → length rows ≤ length entries * 4
+  -- the numbers that the entries name
+  abbrev keys : List ℕ
+  keys = flat_map (numbers_named (sight t).name) entries
+
+  -- the header of a node that no entry names stays
+  head_kept : (n : ℕ) → among keys n ≡ false → (sight t).head n ≡ (sight after).head n
   unfolding among
-  few_nodes rows differs =
+  head_kept n free =
       let name = (sight t).name in
-      let keys = flat_map (numbers_named name) entries in
       let all : AllByRecursion (HoldsNamed (among keys) name) entries = each_held (among keys) name entries (back_is_among [] keys) in
-      let few = few_differences numbers nat_eq numbers-exact header_now (sight t).head (sight after).head rows keys differs (λ n free.
       sym (run_keeps over_bytes bytes_faithful client fits.in_range before fits.version
       (λ now. now.head n) (NamesAreKnown client (sight t) (among keys)) (HoldsNamed (among keys) name)
       (λ now entry known named. entry_elsewhere client (sight t) (among keys) n free now entry known named)
       (λ now entry known named. still_known client (sight t) (among keys) now entry named known)
-      0 [] t entries fits.sound fits.fitting (λ d m number is. inr is) all after ran)) in
-      omega (arith, few, few_in_all (numbers_named name) 4 (few_named name) entries)
+      0 [] t entries fits.sound fits.fitting (λ d m number is. inr is) all after ran)
+
+  few_keys : length keys ≤ length entries * 4
+  few_keys = few_in_all (numbers_named (sight t).name) 4 (few_named (sight t).name) entries
+
+  pub few_nodes : (rows : List (ℕ × Option Header)) → AreDifferences numbers header_now (sight t).head (sight after).head rows → length rows ≤ length entries * 4
+  unfolding among
+  few_nodes rows differs = omega (arith, few_differences numbers nat_eq numbers-exact header_now (sight t).head (sight after).head rows keys differs head_kept, few_keys)
+
+  -- a file that grew is one that an entry names
+  each_grown : (sizes : List FileSize) → AllByRecursion (λ (s : FileSize). (s.before ≡ size_in (sight t) s.number) × (s.after ≡ min (size_in (sight after) s.number) size_limit)) sizes → AllByRecursion (IsListedGrown keys) sizes
+  unfolding among
+  each_grown [] all = tt
+  each_grown (s ∷ ss) all = (λ grew. at grew (among keys s.number) refl, each_grown ss all.1)
+    where
+      at : s.before < s.after → (b : Bool) → among keys s.number ≡ b → b ≡ true
+      at grew true is = refl
+      at grew false free =
+          let size : size_in (sight t) s.number ≡ size_in (sight after) s.number = ap {B = ℕ} (λ (head : Option Header). elim head [ None ↦ 0 | Some header ↦ header.size ]) (head_kept s.number free) in
+          let first = all.0.0 in
+          let last = all.0.1 in
+          let never : ⊥ = omega (arith, grew, size, first, last) in
+          absurd never
+
+  pub few_files : (sizes : List FileSize) → SizesAscend 0 sizes → AreSizesBetween (sight t) (sight after) entries sizes → grown_count sizes ≤ length entries * 4
+  few_files sizes ascend right = omega (arith, few_grown 0 sizes keys ascend (each_grown sizes right.own), few_keys)

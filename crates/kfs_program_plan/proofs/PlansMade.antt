@@ -18,18 +18,18 @@ use Rattle.kfs_entry_value.specs.Views.{entry_of, name_row_of, node_row_of, piec
 use Rattle.kfs_entry_value.specs.declared.entry.Log.{Log as CodeLog}
 use Rattle.kfs_entry_value.specs.declared.plan.Plan.{Plan as CodePlan}
 use Rattle.kfs_image_nodes.specs.declared.net.Net.{Net}
-use Rattle.kfs_judge.specs.Walks.{ComesToTree, fault_of}
+use Rattle.kfs_judge.specs.Walks.{ComesToTree, HasOrderedSizes, fault_of}
 use Rattle.kfs_judge.specs.declared.walk.EntryFault.{EntryFault as CodeEntryFault}
 use Rattle.kfs_judge.specs.declared.walk.Walk.{Walk}
 use Rattle.kfs_judge_step.specs.Nets.{IsNetOf}
 use Rattle.kfs_judge_step.specs.Rows.{keyed_name_row, keyed_node_row}
 use Rattle.kfs_plan.proofs.MarkedRuns.{ends_beside}
 use Rattle.kfs_program_plan.specs.AskedLeases.{sight_with_leases}
-use Rattle.kfs_program_plan.specs.PlanMade.{HasNoPlan, HasTooManyPieces, IsOwnLog, IsPlanOf}
-use Rattle.kfs_program_plan.specs.Rows.{IsTooLong}
+use Rattle.kfs_program_plan.specs.PlanMade.{HasNoPlan, IsOwnLog, IsPlanOf}
+use Rattle.kfs_program_plan.specs.Rows.{IsShort}
 use Rattle.kfs_program_plan.specs.Walks.{HasRowsOf, IsLogFrom, IsWalkWithLeases}
 use Rattle.kfs_program_plan.proofs.LeasedRuns.{clean_run_from, same_marked_run, same_run}
-use Rattle.kfs_program_plan.proofs.PlanLength.{few_names, few_nodes}
+use Rattle.kfs_program_plan.proofs.PlanLength.{few_files, few_names, few_nodes}
 
 -- a net's rows are right for the run over marks that ends beside
 module _ {A : Type 0} (t after : Tree ℕ) (net : Net A) (differs : IsNetOf (sight t) (sight after) net) (end : Tree Mark) where
@@ -97,35 +97,23 @@ module _ {A : Type 0} (client : Client) (t : Tree ℕ) (source : List ℕ) (log 
         only = only_end client t entries end.marked_after ran;
       }
 
-  -- the walk's rows of names and nodes are fewer than a plan may have
-  pub rows_are_few : (net : Net A) → walk.outcome ≡ Ok net → (plan : CodePlan A) → HasRowsOf log walk plan → (length (plan_of plan).names < 2 ^ 16) × (length (plan_of plan).nodes < 2 ^ 16)
-  rows_are_few net is plan rows =
+  -- the parts of a plan of the walk's rows are as short as their counts ask
+  pub plan_is_short : HasOrderedSizes walk → (net : Net A) → walk.outcome ≡ Ok net → (plan : CodePlan A) → HasRowsOf log walk plan → IsShort plan
+  plan_is_short ordered net is plan rows =
       let came : ComesToTree client leased.held t entries (Ok net) walk.sizes.items = subst (λ o. ComesToTree client leased.held t entries o walk.sizes.items) is comes in
       let same = subst (λ o. IfOk o (λ (net : Net A). (plan.names ≡ net.names.items) × (plan.nodes ≡ net.nodes.items))) is rows.net in
       let before = client_sight t leased.held in
       let names = few_names client before t came.0 entries fits came.1 (map keyed_name_row net.names.items) came.4.names in
       let nodes = few_nodes client before t came.0 entries fits came.1 (map keyed_node_row net.nodes.items) came.4.nodes in
+      let files = few_files client before t came.0 entries fits came.1 walk.sizes.items ordered.ascending came.5 in
       let entry_count = length-map log.entries (entry_of source) in
       let name_count = length-map net.names.items keyed_name_row in
       let node_count = length-map net.nodes.items keyed_node_row in
-      let plan_names = length-map plan.names name_row_of in
-      let plan_nodes = length-map plan.nodes node_row_of in
       let same_names = ap length same.0 in
       let same_nodes = ap length same.1 in
       let short = from.short in
-      (omega (arith, names, entry_count, name_count, plan_names, same_names, short), omega (arith, nodes, entry_count, node_count, plan_nodes, same_nodes, short))
-
-  -- a plan of the walk's rows that is too long has too many pieces
-  pub too_many_pieces : (net : Net A) → walk.outcome ≡ Ok net → (plan : CodePlan A) → HasRowsOf log walk plan → IsTooLong (plan_of plan) → HasTooManyPieces client t source
-  too_many_pieces net is plan rows long = record {
-    log = log_of source log;
-    own = own_spelled;
-    plan = plan_of plan;
-    right = plan_is_right net is plan rows;
-    many = at long (rows_are_few net is plan rows);
-  }
-    where
-      at : IsTooLong (plan_of plan) → (length (plan_of plan).names < 2 ^ 16) × (length (plan_of plan).nodes < 2 ^ 16) → 2 ^ 32 ≤ length (plan_of plan).pieces
-      at (inl names) few = let b : ⊥ = omega (arith, names, few.0) in absurd b
-      at (inr (inl nodes)) few = let b : ⊥ = omega (arith, nodes, few.1) in absurd b
-      at (inr (inr pieces)) few = pieces
+      record {
+        names = omega (arith, names, entry_count, name_count, same_names, short);
+        nodes = omega (arith, nodes, entry_count, node_count, same_nodes, short);
+        pieces = omega (arith, files, entry_count, rows.few, short);
+      }

@@ -4,7 +4,7 @@ use Rattle.hex.specs.Hex.{encode_lower}
 use Rattle.kfs_model.specs.Access.{Client}
 use Rattle.kfs_model.specs.Tree.{Tree}
 use Rattle.kfs_program_text.specs.Parts.{line_of}
-use Rattle.kfs_program_plan.specs.PlanMade.{HasNoPlan, HasTooManyPieces, IsPlanMade}
+use Rattle.kfs_program_plan.specs.PlanMade.{HasNoPlan, IsPlanMade}
 
 -- a plan's bytes in hexadecimal
 abbrev pub plan_text : (bytes : List ℕ) → List ℕ
@@ -18,7 +18,7 @@ pub record IsPlanSaid (client : Client) (t : Tree ℕ) (source line : List ℕ) 
 
 -- the line says that there is none
 pub record IsNoPlanSaid (client : Client) (t : Tree ℕ) (source line : List ℕ) : Type 0 where
-  pub none : HasNoPlan client t source ⊎ HasTooManyPieces client t source
+  pub none : HasNoPlan client t source
   pub is : line ≡ codes "plan none"
 
 abbrev pub SaysPlan : Client → Tree ℕ → (source line : List ℕ) → Type 0

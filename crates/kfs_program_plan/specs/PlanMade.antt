@@ -1,5 +1,5 @@
 -- What a plan is made for: a client's log, over a tree.
-use Rattle.std.specs.Prelude.{◌≡◌, ℕ, ◌^◌, ◌≤◌, Bool, List, length, IfOk, IsErr, Ok}
+use Rattle.std.specs.Prelude.{◌≡◌, ℕ, Bool, List, IfOk, IsErr, Ok}
 use Rattle.kfs_model.specs.Access.{Client}
 use Rattle.kfs_model.specs.Entry.{Entry, Log}
 use Rattle.kfs_model.specs.Plan.{IsRight}
@@ -36,11 +36,3 @@ pub record IsPlanMade (client : Client) (t : Tree ℕ) (source bytes : List ℕ)
 -- the bytes are no log of the client, or an entry has a fault while the client holds every node
 abbrev pub HasNoPlan : Client → Tree ℕ → (source : List ℕ) → Type 0
 HasNoPlan client t source = (log : Log) → IsOwnLog client source log → IsErr (run over_bytes client (sight_with_leases t) t log.entries)
-
--- a right plan for the client's log has more pieces than its count can say
-pub record HasTooManyPieces (client : Client) (t : Tree ℕ) (source : List ℕ) : Type 0 where
-  pub log : Log
-  pub own : IsOwnLog client source log
-  pub plan : Plan
-  pub right : IsPlanOf client t log.entries plan
-  pub many : 2 ^ 32 ≤ length plan.pieces

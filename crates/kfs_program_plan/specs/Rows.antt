@@ -1,6 +1,5 @@
--- Plans of the code whose rows can be spelled, and such that are too long for it.
-use Rattle.std.specs.Prelude.{◌^◌, ◌≤◌, ◌⊎◌, All, length}
-use Rattle.kfs_model.specs.PlanRow.{Plan}
+-- Plans of the code that can be spelled.
+use Rattle.std.specs.Prelude.{◌^◌, ◌<◌, All, length}
 use Rattle.kfs_model.specs.Spelling.{IsNameRow, IsNodeRow, IsPiece}
 use Rattle.kfs_entry_value.specs.Views.{name_row_of, node_row_of, piece_of}
 use Rattle.kfs_entry_value.specs.declared.plan.NameRow.{NameRow}
@@ -14,6 +13,8 @@ pub record RowsFit {A : Type 0} (plan : CodePlan A) : Type 0 where
   pub nodes : All (λ (row : NodeRow). IsNodeRow (node_row_of row)) plan.nodes
   pub pieces : All (λ (row : Piece). IsPiece (piece_of row)) plan.pieces
 
--- a part of the plan has more rows than its count can say
-abbrev pub IsTooLong : Plan → Type 0
-IsTooLong plan = (2 ^ 16 ≤ length plan.names) ⊎ (2 ^ 16 ≤ length plan.nodes) ⊎ (2 ^ 32 ≤ length plan.pieces)
+-- each part of the plan has as few rows as its count can say
+pub record IsShort {A : Type 0} (plan : CodePlan A) : Type 0 where
+  pub names : length plan.names < 2 ^ 16
+  pub nodes : length plan.nodes < 2 ^ 16
+  pub pieces : length plan.pieces < 2 ^ 32

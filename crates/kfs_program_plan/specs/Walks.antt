@@ -1,5 +1,5 @@
 -- A client's log as the code has it, and its walk with the leases that it may ask for.
-use Rattle.std.specs.Prelude.{◌≡◌, ◌≢◌, ℕ, ◌≤◌, Bool, List, map, length, IfOk, Ok}
+use Rattle.std.specs.Prelude.{◌≡◌, ◌≢◌, ℕ, ◌+◌, ◌*◌, ◌≤◌, Bool, List, map, length, IfOk, Ok}
 use Rattle.std.specs.List.{AllByRecursion}
 use Rattle.kfs_entry.specs.Answers.{AreSpanned, SpansAreWithin, log_of}
 use Rattle.kfs_entry_value.specs.Views.{entry_of, piece_of}
@@ -16,6 +16,7 @@ use Rattle.kfs_model.specs.Sight.{sight, client_sight}
 use Rattle.kfs_model.specs.Spelling.{LogAnswer}
 use Rattle.kfs_model.specs.Tree.{Tree}
 use Rattle.kfs_plan.specs.PlanCheck.{ArePiecesOf}
+use Rattle.kfs_plan_sweep.specs.RangeCounts.{grown_count}
 use Rattle.kfs_program_plan.specs.AskedLeases.{HoldsNamed}
 
 module _ {A : Type 0} where
@@ -36,11 +37,13 @@ module _ {A : Type 0} where
     pub agrees : Agrees walk.reads.entries (client_sight t held)
     pub walks : IsWalkOf client log walk
 
-  -- the plan has the log's version, the names and nodes of the walk's net, and right pieces of the log
+  -- the plan has the log's version, the names and nodes of the walk's net, and right pieces of the log,
+  -- at most two for each file that grew and for each entry
   pub record HasRowsOf (log : CodeLog A) (walk : Walk A) (plan : CodePlan A) : Type 0 where
     pub version : plan.version ≡ log.version
     pub net : IfOk walk.outcome (λ (net : Net A). (plan.names ≡ net.names.items) × (plan.nodes ≡ net.nodes.items))
     pub pieces : (client : Client) → IsWalkOf client log walk → ArePiecesOf client log walk (map piece_of plan.pieces)
+    pub few : length plan.pieces ≤ 2 * (grown_count walk.sizes.items + length log.entries)
 
 -- the bytes spell no log with this client's number
 abbrev pub HasNoLog : (number : ℕ) (source : List ℕ) → Type 0

@@ -1,5 +1,5 @@
 //! The plan of a client's log, made from the walk over its entries.
-ghost use Rattle.std.specs.Prelude.{◌≡◌, ◌≢◌, ◌≤◌, ◌⊎◌, ◌∷◌, [], length, Ok, None, IfOk, IfSome, IsOk};
+ghost use Rattle.std.specs.Prelude.{◌≡◌, ◌≢◌, ◌≤◌, ◌∷◌, [], length, Ok, None, IfOk, IfSome, IsOk};
 ghost use Rattle.kfs_model.specs.Limits.{entry_limit};
 ghost use Rattle.kfs_model.specs.Spelling.{IsVersion, PlanAnswer};
 ghost use Rattle.kfs_model_device.specs.ShownTree.{IsLawful, shown_tree};
@@ -7,8 +7,8 @@ ghost use Rattle.kfs_entry.specs.Answers.{AreSpanned, plan_of};
 ghost use Rattle.kfs_image.specs.Image as images;
 ghost use Rattle.kfs_judge.specs.Walks.{HasOrderedSizes};
 ghost use Rattle.kfs_judge_check.specs.View.{clients_of, contents_of, leases_of};
-ghost use Rattle.kfs_program_plan.specs.PlanMade.{HasNoPlan, HasTooManyPieces, IsPlanMade};
-ghost use Rattle.kfs_program_plan.specs.Rows.{IsTooLong};
+ghost use Rattle.kfs_program_plan.specs.PlanMade.{HasNoPlan, IsPlanMade};
+ghost use Rattle.kfs_program_plan.specs.Rows.{IsShort};
 ghost use Rattle.kfs_program_plan.specs.Walks.{HasNoLog, HasRowsOf, IsLogFrom, IsWalkWithLeases};
 
 use crate::fits::tell_rows;
@@ -35,7 +35,7 @@ pub fn make_plan<A: Allocator + Copy>(
 ) -> Result<Option<Vec<u8, A>>, AllocError>
     ensures made { IfOk result (λ answer. IfSome answer (λ bytes. IsPlanMade client.now (shown_tree image.now) source.now bytes.items)) }
     // There is a plan, memory aside, where the log has no fault while the client holds every node.
-    ensures none { result ≡ Ok None → HasNoPlan client.now (shown_tree image.now) source.now ⊎ HasTooManyPieces client.now (shown_tree image.now) source.now }
+    ensures none { result ≡ Ok None → HasNoPlan client.now (shown_tree image.now) source.now }
 {
     let Some(log) = own_log(alloc, client.number(), source)? else {
         return Ok(None);
@@ -46,7 +46,7 @@ pub fn make_plan<A: Allocator + Copy>(
     }
     let plan = plan_from(alloc, &log, walk)?;
     let bytes = encoded(alloc, &plan)?;
-    Ok(bytes)
+    Ok(Some(bytes))
 }
 
 /// The log that the bytes spell, if they spell one with this client's number.
@@ -156,19 +156,13 @@ fn plan_from<A: Allocator + Copy>(
     })
 }
 
-/// The bytes of a plan; none where a part of it has more rows than its count can say.
-fn encoded<A: Allocator + Copy>(alloc: A, plan: &Plan<A>) -> Result<Option<Vec<u8, A>>, AllocError>
+/// The bytes of a plan.
+fn encoded<A: Allocator + Copy>(alloc: A, plan: &Plan<A>) -> Result<Vec<u8, A>, AllocError>
     requires version { IsVersion plan.now.version }
-    ensures spelled { IfOk result (λ answer. IfSome answer (λ bytes. PlanAnswer bytes.items (Ok (plan_of plan.now)))) }
-    ensures none { result ≡ Ok None → IsTooLong (plan_of plan.now) }
+    requires short { IsShort plan.now }
+    ensures { IfOk result (λ bytes. PlanAnswer bytes.items (Ok (plan_of plan.now))) }
 {
-    let names = plan.names.as_slice().len();
-    let nodes = plan.nodes.as_slice().len();
-    let pieces = plan.pieces.as_slice().len();
-    if names >= 65_536 || nodes >= 65_536 || pieces >= 4_294_967_296 {
-        return Ok(None);
-    }
     tell_rows(plan);
     let bytes = encode_plan(alloc, plan)?;
-    Ok(Some(bytes))
+    Ok(bytes)
 }

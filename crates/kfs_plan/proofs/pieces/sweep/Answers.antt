@@ -1,10 +1,11 @@
 -- The pieces are right ones of the run, whose sizes the walk tells.
-use Rattle.std.proofs.Common.{◌≡◌, map, Result, Ok, Err, refl, subst}
+use Rattle.std.proofs.Common.{◌≡◌, ap, arith, length, map, Result, Ok, Err, refl, subst}
 use Rattle.std.specs.Prelude.{IsOk}
 use Rattle.kfs_model.specs.Sight.{client_sight}
 use Rattle.kfs_entry_value.specs.Views.{entry_of, piece_of}
 use Rattle.kfs_plan_sweep.specs.Sizes.{AreRightFrom}
 use Rattle.kfs_judge.specs.Walks.{ComesToTree}
+use Rattle.kfs_plan_sweep.specs.RangeCounts.{grown_count}
 use Rattle.kfs_plan.proofs.PlanChecked.{pieces_at_end}
 use Rattle.kfs_plan.proofs.pieces.sweep.Goals as goal
 
@@ -12,14 +13,15 @@ value_of : {X E : Type 0} (result : Result X E) → IsOk result → (x : X) × (
 value_of (Ok x) is = (x, refl)
 value_of (Err e) is = cc
 
-pub returns : goal.returns
-returns g c = record {
-  right = λ client walk source within tree held fits agrees.
-      let entries = map (entry_of source) c.args.log.now.entries in
-      let sizes = c.args.walk.now.sizes.items in
-      let pieces = map piece_of c.in_ok-out.out.items in
-      let (net, is) = value_of c.args.walk.now.outcome c.requires.walked in
-      let comes = subst (λ outcome. ComesToTree client held tree entries outcome sizes) is (walk source within tree held fits agrees) in
-      let right : AreRightFrom sizes c.args.log.now.entries pieces = subst (λ all. AreRightFrom all c.args.log.now.entries pieces) c.as_slice.ensures.value (subst (λ es. AreRightFrom c.as_slice.result.now es pieces) c.as_slice-2.ensures c.in_ok-out.ensures.right) in
-      pieces_at_end client held tree entries sizes net comes pieces (right source within client (client_sight tree held) tree refl);
-}
+pub returns-clause-right : goal.returns-clause-right
+returns-clause-right g c client walk source within tree held fits agrees =
+    let entries = map (entry_of source) c.args.log.now.entries in
+    let sizes = c.args.walk.now.sizes.items in
+    let pieces = map piece_of c.in_ok-out.out.items in
+    let (net, is) = value_of c.args.walk.now.outcome c.requires.walked in
+    let comes = subst (λ outcome. ComesToTree client held tree entries outcome sizes) is (walk source within tree held fits agrees) in
+    let right : AreRightFrom sizes c.args.log.now.entries pieces = subst (λ all. AreRightFrom all c.args.log.now.entries pieces) c.as_slice.ensures.value (subst (λ es. AreRightFrom c.as_slice.result.now es pieces) c.as_slice-2.ensures c.in_ok-out.ensures.right) in
+    pieces_at_end client held tree entries sizes net comes pieces (right source within client (client_sight tree held) tree refl)
+
+pub returns-clause-few : goal.returns-clause-few
+returns-clause-few g c = omega (arith, c.in_ok-out.ensures.few, ap grown_count c.as_slice.ensures.value, ap length c.as_slice-2.ensures)

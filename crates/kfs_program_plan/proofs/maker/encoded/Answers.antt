@@ -1,17 +1,18 @@
-use Rattle.std.proofs.Common.{◌<◌, length, map, ap, arith}
+use Rattle.std.proofs.Common.{◌<◌, length, map, arith}
 use Rattle.std.proofs.lemmas.List.{length-map}
 use Rattle.std.proofs.lemmas.List.Elements.{recursion_from_All, All-map}
 use Rattle.kfs_model.specs.Spelling.{IsNameRow, IsNodeRow, IsPiece}
 use Rattle.kfs_entry_value.specs.Views.{name_row_of, node_row_of, piece_of}
 use Rattle.kfs_program_plan.proofs.maker.encoded.Goals as goal
 
-pub returns-clause-spelled : goal.returns-clause-spelled
-returns-clause-spelled g c =
+pub returns : goal.returns
+returns g c =
     let plan = c.args.plan.now in
     let rows = c.tell_rows.ensures in
-    let names : length (map name_row_of plan.names) < 65536 = omega (arith, length-map plan.names name_row_of, ap length c.as_slice-names.ensures, c.if-names-ge65536.false) in
-    let nodes : length (map node_row_of plan.nodes) < 65536 = omega (arith, length-map plan.nodes node_row_of, ap length c.as_slice-nodes.ensures, c.if-nodes-ge65536.false) in
-    let pieces : length (map piece_of plan.pieces) < 4294967296 = omega (arith, length-map plan.pieces piece_of, ap length c.as_slice-pieces.ensures, c.if-pieces-ge4294967296.false) in (
+    let short = c.requires.short in
+    let names : length (map name_row_of plan.names) < 65536 = omega (arith, length-map plan.names name_row_of, short.names) in
+    let nodes : length (map node_row_of plan.nodes) < 65536 = omega (arith, length-map plan.nodes node_row_of, short.nodes) in
+    let pieces : length (map piece_of plan.pieces) < 4294967296 = omega (arith, length-map plan.pieces piece_of, short.pieces) in (
       (
         (c.requires.version, names, nodes, pieces),
         recursion_from_All IsNameRow (map name_row_of plan.names) (All-map IsNameRow name_row_of plan.names rows.names),

@@ -4,19 +4,15 @@ use Rattle.std.specs.Prelude.{IfSome, IsErr, is_err}
 use Rattle.kfs_entry.specs.Answers.{log_of, plan_of}
 use Rattle.kfs_model_device.specs.ShownTree.{shown_tree}
 use Rattle.kfs_program_plan.specs.Walks.{IsLogFrom}
-use Rattle.kfs_program_plan.proofs.PlansMade.{no_plan, plan_is_right, too_many_pieces}
+use Rattle.kfs_program_plan.proofs.PlansMade.{no_plan, plan_is_right, plan_is_short}
 use Rattle.kfs_program_plan.proofs.maker.make_plan.Goals as goal
 
 value_of : {X E : Type 0} (result : Result X E) → is_err result ≡ false → (x : X) × (result ≡ Ok x)
 value_of (Ok x) is = (x, refl)
 value_of (Err e) is = cc
 
-if_some : {X : Type 0} (P Q : X → Type 0) → ((x : X) → P x → Q x) → (o : Option X) → IfSome o P → IfSome o Q
-if_some P Q weaker None held = tt
-if_some P Q weaker (Some x) held = weaker x held
-
 pub returns-in_default-clause-none : goal.returns-in_default-clause-none
-returns-in_default-clause-none g c is = inl (λ log own. absurd (c.in_ok-log.ensures.none (ap Ok c.in_default.is) log own.spelled (own.owner ∙ sym c.number.ensures.number)))
+returns-in_default-clause-none g c is = λ log own. absurd (c.in_ok-log.ensures.none (ap Ok c.in_default.is) log own.spelled (own.owner ∙ sym c.number.ensures.number))
 
 pub returns-then-is_err-clause-none : goal.returns-then-is_err-clause-none
 returns-then-is_err-clause-none g c is =
@@ -24,7 +20,7 @@ returns-then-is_err-clause-none g c is =
     let given = subst (λ o. IfSome o (IsLogFrom {A = g.row.A.Denot} c.number.result c.args.source.now)) c.in-Some.is c.in_ok-log.ensures.own in
     let from = subst (λ n. IsLogFrom {A = g.row.A.Denot} n c.args.source.now c.in-Some.log) c.number.ensures.number given in
     let bad : IsErr c.in_ok-walk.walk.outcome = sym c.is_err.ensures.value ∙ c.if-is_err.true in
-    inl (no_plan client (shown_tree c.args.image.now) c.args.source.now c.in-Some.log from c.number.ensures.in_range c.in_ok-walk.ensures.lawful.tree.sound c.in_ok-walk.walk c.in_ok-walk.ensures.walk bad)
+    no_plan client (shown_tree c.args.image.now) c.args.source.now c.in-Some.log from c.number.ensures.in_range c.in_ok-walk.ensures.lawful.tree.sound c.in_ok-walk.walk c.in_ok-walk.ensures.walk bad
 
 pub returns-clause-made : goal.returns-clause-made
 returns-clause-made g c =
@@ -33,19 +29,19 @@ returns-clause-made g c =
     let given = subst (λ o. IfSome o (IsLogFrom {A = g.row.A.Denot} c.number.result c.args.source.now)) c.in-Some.is c.in_ok-log.ensures.own in
     let from = subst (λ n. IsLogFrom {A = g.row.A.Denot} n c.args.source.now c.in-Some.log) c.number.ensures.number given in
     let net = value_of c.in_ok-walk.walk.outcome (sym c.is_err.ensures.value ∙ c.if-is_err.false) in
-    if_some _ _ (λ bytes spelled. record {
+    record {
       log = log_of c.args.source.now c.in-Some.log;
       own = record { spelled = from.spelled; owner = from.owner };
       plan = plan_of c.in_ok-plan.plan;
-      spelled = spelled;
+      spelled = c.in_ok-bytes.ensures;
       version = c.in_ok-plan.ensures.version;
       right = plan_is_right client tree c.args.source.now c.in-Some.log from c.number.ensures.in_range c.in_ok-walk.ensures.lawful.tree.sound c.in_ok-walk.walk c.in_ok-walk.ensures.walk net.0 net.1 c.in_ok-plan.plan c.in_ok-plan.ensures;
-    }) c.in_ok-bytes.bytes c.in_ok-bytes.ensures.spelled
+    }
 
-pub returns-clause-none : goal.returns-clause-none
-returns-clause-none g c is =
+pub encoded-requires-clause-short : goal.encoded-requires-clause-short
+encoded-requires-clause-short g c =
     let client = c.args.client.now in
     let given = subst (λ o. IfSome o (IsLogFrom {A = g.row.A.Denot} c.number.result c.args.source.now)) c.in-Some.is c.in_ok-log.ensures.own in
     let from = subst (λ n. IsLogFrom {A = g.row.A.Denot} n c.args.source.now c.in-Some.log) c.number.ensures.number given in
     let net = value_of c.in_ok-walk.walk.outcome (sym c.is_err.ensures.value ∙ c.if-is_err.false) in
-    inr (too_many_pieces client (shown_tree c.args.image.now) c.args.source.now c.in-Some.log from c.number.ensures.in_range c.in_ok-walk.ensures.lawful.tree.sound c.in_ok-walk.walk c.in_ok-walk.ensures.walk net.0 net.1 c.in_ok-plan.plan c.in_ok-plan.ensures (c.in_ok-bytes.ensures.none is))
+    plan_is_short client (shown_tree c.args.image.now) c.args.source.now c.in-Some.log from c.number.ensures.in_range c.in_ok-walk.ensures.lawful.tree.sound c.in_ok-walk.walk c.in_ok-walk.ensures.walk c.in_ok-walk.ensures.sizes net.0 net.1 c.in_ok-plan.plan c.in_ok-plan.ensures
