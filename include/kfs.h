@@ -30,6 +30,9 @@
 #include <stddef.h>
 #include <stdint.h>
 
+/* The version of the library, of this header and of the formats: the file VERSION. */
+#define KFS_VERSION "0.1.0"
+
 #ifdef __cplusplus
 extern "C" {
 #endif
