@@ -5,9 +5,11 @@
 #define _POSIX_C_SOURCE 200809L
 #include "kfs.h"
 #include <inttypes.h>
+#include <pthread.h>
 #include <stdio.h>
 #include <stdlib.h>
 #include <string.h>
+#include <time.h>
 
 enum { WORKERS = 8, CLIENTS = 4096, WORDS = 8192 };
 
@@ -25,8 +27,10 @@ static struct {
     struct kfs desk;
     struct kfs verdicts[WORKERS];
     bool held[WORKERS];
-    bool again;   /* a line for which memory is refused is answered again */
-    bool refused; /* memory was refused for this line */
+    bool again;     /* a line for which memory is refused is answered again */
+    bool refused;   /* memory was refused for this line */
+    bool times;     /* each line's time is told */
+    uint64_t spent; /* nanoseconds in the call that judged or landed */
 } server;
 
 /* ---- words */
@@ -177,6 +181,13 @@ static const char *const move_faults[] = {
     "?", "NotMapped(%" PRIu64 ")", "OutOfRange(%" PRIu64 ")", "NotFree(%" PRIu64 ")",
     "Overlap(%" PRIu64 ")", "TooManyMoves"
 };
+
+static uint64_t nanoseconds(void)
+{
+    struct timespec now;
+    clock_gettime(CLOCK_MONOTONIC, &now);
+    return (uint64_t)now.tv_sec * 1000000000u + (uint64_t)now.tv_nsec;
+}
 
 /* ---- lines before the desk is begun. False: a bad line */
 
@@ -334,7 +345,10 @@ static bool submit_line(void)
     struct kfs_reply reply;
     if (words_len != 4 || !number32(words[1], &client) || !bytes(words[2], &log, &log_len)
         || !bytes(words[3], &plan, &plan_len)) return false;
-    if (is_done(kfs_submit(&server.desk, client, log, log_len, plan, plan_len, &reply))) say_reply(&reply);
+    uint64_t begun = nanoseconds();
+    uint32_t status = kfs_submit(&server.desk, client, log, log_len, plan, plan_len, &reply);
+    server.spent = nanoseconds() - begun;
+    if (is_done(status)) say_reply(&reply);
     return true;
 }
 
@@ -348,8 +362,10 @@ static bool judge_line(void)
     if (words_len != 5 || !number32(words[1], &worker) || worker >= WORKERS || !number32(words[2], &client)
         || !bytes(words[3], &log, &log_len) || !bytes(words[4], &plan, &plan_len) || server.held[worker]) return false;
     status = kfs_look(&server.desk, &view);
+    uint64_t begun = nanoseconds();
     if (status == KFS_DONE)
         status = kfs_judge(&view, client, log, log_len, plan, plan_len, &server.verdicts[worker]);
+    server.spent = nanoseconds() - begun;
     kfs_close(&view);
     if (is_done(status)) {
         server.held[worker] = true;
@@ -364,7 +380,10 @@ static bool land_line(void)
     struct kfs_reply reply;
     if (words_len != 2 || !number32(words[1], &worker) || worker >= WORKERS || !server.held[worker]) return false;
     server.held[worker] = false;
-    if (is_done(kfs_land(&server.desk, &server.verdicts[worker], &reply))) say_reply(&reply);
+    uint64_t begun = nanoseconds();
+    uint32_t status = kfs_land(&server.desk, &server.verdicts[worker], &reply);
+    server.spent = nanoseconds() - begun;
+    if (is_done(status)) say_reply(&reply);
     return true;
 }
 
@@ -512,13 +531,12 @@ static bool answer(char *line, size_t len)
     return false;
 }
 
-/* `--again`: a line for which memory is refused is answered once more, by a copy. */
-int main(int argc, char **argv)
+/* Answers all lines. */
+static void *serve(void *nothing)
 {
     char *line = NULL, *copy = NULL;
     size_t room = 0, copy_room = 0;
     ssize_t len;
-    server.again = argc > 1 && !strcmp(argv[1], "--again");
     while ((len = getline(&line, &room, stdin)) > 0) {
         if (line[len - 1] == '\n') line[--len] = 0;
         do {
@@ -528,7 +546,9 @@ int main(int argc, char **argv)
             }
             memcpy(copy, line, (size_t)len + 1);
             server.refused = false;
+            server.spent = 0;
             if (!answer(copy, (size_t)len)) puts("bad line");
+            if (server.times) fprintf(stderr, "%" PRIu64 "\n", server.spent);
         } while (server.refused && server.again);
     }
     free(line);
@@ -536,5 +556,32 @@ int main(int argc, char **argv)
     free(server.image);
     kfs_close(&server.desk);
     for (size_t i = 0; i < WORKERS; i++) kfs_close(&server.verdicts[i]);
+    return nothing;
+}
+
+/* Has a thread with a stack of so many bytes answer all lines. */
+static int serve_in_thread(uint64_t stack)
+{
+    pthread_attr_t attributes;
+    pthread_t thread;
+    if (pthread_attr_init(&attributes) || pthread_attr_setstacksize(&attributes, stack)
+        || pthread_create(&thread, &attributes, serve, NULL)) return 1;
+    pthread_attr_destroy(&attributes);
+    return pthread_join(thread, NULL) != 0;
+}
+
+/* `--again`: a line for which memory is refused is answered once more, by a copy.
+ * `--stack BYTES`: in a thread with such a stack. `--times`: standard error tells the nanoseconds of each
+ * line's kfs_submit, kfs_judge or kfs_land, and 0 for the others. */
+int main(int argc, char **argv)
+{
+    uint64_t stack = 0;
+    for (int i = 1; i < argc; i++) {
+        if (!strcmp(argv[i], "--again")) server.again = true;
+        else if (!strcmp(argv[i], "--times")) server.times = true;
+        else if (strcmp(argv[i], "--stack") || ++i == argc || !number(argv[i], SIZE_MAX, &stack)) return 2;
+    }
+    if (stack) return serve_in_thread(stack);
+    serve(NULL);
     return 0;
 }
