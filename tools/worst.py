@@ -29,8 +29,8 @@ class Sizes(NamedTuple):
 
 
 FULL = Sizes(60_000, 4_096, 60_000)
-# As many entries as a map takes edits in place, and half of that: a Rename makes two edits of names.
-FEW, FEWER = FULL._replace(log=32), FULL._replace(log=16)
+# As many entries as a map takes edits in place, and a third of that: a Rename over a file makes three edits of uplinks.
+FEW, FEWER = FULL._replace(log=16), FULL._replace(log=5)
 SMALL, TINY = Sizes(600, 40, 500), Sizes(128, 8, 20)
 
 
@@ -666,27 +666,52 @@ def moved_near_the_top(sizes):
     return judged(session, RightLog([four[index % 4] for index in range(sizes.log - sizes.log % 4)]))
 
 
+class Spine:
+    """Directories that are leased in the root directory and then moved below the lowest one of a chain, each below the one before;
+    and one more in the first of them."""
+
+    def __init__(self, sizes):
+        lowest = sizes.depth + 1
+        self.numbers = range(lowest + 1, lowest + 1 + sizes.log)
+        self.moving = self.numbers[-1] + 1
+        nodes = [directory(number) for number in range(2, self.moving + 1)]
+        names = [NameRow(number - 1, b"a", number) for number in range(2, lowest + 1)]
+        names += [NameRow(ROOT, b"d%05d" % number, number) for number in self.numbers] + [NameRow(self.numbers[0], b"x", self.moving)]
+        self.image = image_of(nodes, names)
+        self.leased = [("/", ROOT), ("/a" * sizes.depth, lowest), *((f"/d{number:05}", number) for number in self.numbers)]
+        self.leased.append((f"/d{self.numbers[0]:05}/x", self.moving))
+
+    def begun(self, title):
+        session = Session(title)
+        session.begin(self.image)
+        for path, number in self.leased:
+            session.lease(path, number)
+        return session
+
+    def moved_down(self):
+        """Each climb of this log goes along all directories that the log has moved so far."""
+        down = [(NameRow(ROOT, b"d%05d" % number, 0), NameRow(number - 1, b"d%05d" % number, number)) for number in self.numbers]
+        entries = [Rename(old.directory, old.name, new.directory, new.name) for old, new in down]
+        return RightLog(entries, [row for pair in down for row in pair])
+
+
+def spine(sizes):
+    tree = Spine(sizes)
+    session = tree.begun(f"{sizes.log:,} Renames, each below the directory that was moved before, from depth {sizes.depth:,} on")
+    return judged(session, tree.moved_down())
+
+
 def comb(sizes):
-    """A directory goes one level deeper by each Rename. The lowest levels are leased in the root, and then moved down."""
-    lowest = sizes.depth + 1
-    spine = range(lowest + 1, lowest + 1 + sizes.log)
-    moving = spine[-1] + 1
-    nodes = [directory(number) for number in range(2, moving + 1)]
-    names = [NameRow(number - 1, b"a", number) for number in range(2, lowest + 1)]
-    names += [NameRow(ROOT, b"d%05d" % number, number) for number in spine] + [NameRow(spine[0], b"x", moving)]
-    session = Session(f"{sizes.log - 1:,} Renames, each one level deeper, from depth {sizes.depth:,} on")
-    session.begin(image_of(nodes, names))
-    leased = [("/", ROOT), ("/a" * sizes.depth, lowest), *((f"/d{number:05}", number) for number in spine), (f"/d{spine[0]:05}/x", moving)]
-    for at, number in leased:
-        session.lease(at, number)
-    down = [(NameRow(ROOT, b"d%05d" % number, 0), NameRow(number - 1, b"d%05d" % number, number)) for number in spine]
-    entries = [Rename(old.directory, old.name, new.directory, new.name) for old, new in down]
-    session.submit(RightLog(entries, [row for pair in down for row in pair]))
-    entries = [Rename(number, b"x", number + 1, b"x") for number in spine[:-1]]
-    return judged(session, RightLog(entries, [NameRow(spine[0], b"x", 0), NameRow(spine[-1], b"x", moving)]))
+    """A directory goes one level deeper by each Rename, along a spine that an earlier log has made."""
+    tree = Spine(sizes)
+    session = tree.begun(f"{sizes.log - 1:,} Renames, each one level deeper, from depth {sizes.depth:,} on")
+    session.submit(tree.moved_down())
+    entries = [Rename(number, b"x", number + 1, b"x") for number in tree.numbers[:-1]]
+    rows = [NameRow(tree.numbers[0], b"x", 0), NameRow(tree.numbers[-1], b"x", tree.moving)]
+    return judged(session, RightLog(entries, rows))
 
 
-CLIMBS = (judged_creates, judged_creates_between, climbs_of_two, branches, moved_near_the_top, comb)
+CLIMBS = (judged_creates, judged_creates_between, climbs_of_two, branches, moved_near_the_top, comb, spine)
 
 
 def climbs(sizes):

@@ -3,6 +3,7 @@ pub mod ReadsAgree
 pub mod Recording
 pub mod ViewShows
 pub mod Climbing
+pub mod Ways
 pub mod Failing
 pub mod Lists
 pub mod Looking

@@ -1,6 +1,10 @@
 -- The code's checks, reasons and points of a log as those of the definitions.
-use Rattle.std.specs.Prelude.{◌≡◌, ℕ, Bool, List, map, Option, Result}
-use Rattle.std.specs.Option.{option_map}
+use Rattle.std.specs.Prelude.{◌≡◌, ℕ, Bool, List, map, Option, None, Some, Result}
+use Rattle.std.specs.Option.{option_map, is_some}
+use Rattle.std.specs.Ordering.{nat_cmp}
+use Rattle.std.specs.BTreeMap.{get}
+use Rattle.kfs_judge_check.specs.Climbs.{IsWay, Follows}
+use Rattle.kfs_judge_check.specs.declared.climbs.Way.{Way}
 use Rattle.kfs_judge_check.specs.Recorders.{LooksAlong}
 use Rattle.kfs_model.specs.Check.{checks_of, first_failing, looked}
 use Rattle.kfs_model.specs.Entry.{Entry}
@@ -94,6 +98,19 @@ module _ {A : Type 0} (judge : EntryJudge A) where
   -- whether the client may take a name of the node out of the directory now
   abbrev pub may_remove_in : ClientSight → (directory number : ℕ) → Bool
   may_remove_in before directory number = checks.may_remove judge.client.now ((sight_in before).head directory) ((sight_in before).head number)
+
+  -- whether an entry has written the parent of the directory
+  abbrev pub is_moved_in : ℕ → Bool
+  is_moved_in n = is_some (get nat_cmp judge.draft.now.parents.map n)
+
+  -- the ways that the recorder keeps stop at each directory whose parent an entry has written
+  abbrev pub StopsAtMoved : Recorder A → Type 0
+  StopsAtMoved recorder = Follows is_moved_in recorder.climbs
+
+  -- so many steps lead to the last directory, unless one meets the node; or there is no parent
+  abbrev pub LeadsOn : (node from : ℕ) → Option Way → ClientSight → Type 0
+  LeadsOn node from None before = parent_in before from ≡ None
+  LeadsOn node from (Some way) before = IsWay (parent_in before) node way.steps from way.last
 
   -- the answer says whether a climb from the directory meets the node; only parents on the way were
   -- read

@@ -1,4 +1,5 @@
 pub mod Checks
+pub mod Climbs
 pub mod Kept
 pub mod Reads
 pub mod Recorders

@@ -1,5 +1,5 @@
 //! Judging one entry: which of its checks is the first to fail.
-ghost use Rattle.std.specs.Prelude.{◌≡◌, ◌+ℤ◌, pos, nat_lt, is_none, not, ◌&&◌, ◌||◌, map, [], ◌∷◌};
+ghost use Rattle.std.specs.Prelude.{◌≡◌, ◌+ℤ◌, pos, nat_lt, is_none, not, ◌&&◌, ◌||◌, ◌<◌, ◌≤◌, map, [], ◌∷◌, IfOk, IfSome};
 ghost use Rattle.std.specs.Option.{option_map};
 ghost use Rattle.std.specs.Ordering.{int_eq};
 ghost use Rattle.kfs_model.specs.Limits.{link_limit};
@@ -10,9 +10,10 @@ ghost use Rattle.kfs_model.specs.Sight as sight;
 ghost use Rattle.kfs_model.specs.Sight.{ClientSight, CountOf, LeaseOn, ParentOf};
 ghost use Rattle.kfs_mode.specs.Mode.{want_shown};
 ghost use Rattle.kfs_judge_check.specs.Recorders.{AnswersLook, LooksAtHeader, LooksAtHeaders, LooksAtName};
-ghost use Rattle.kfs_judge_check.specs.Checks.{check_of, reason_of, entry_context_in, AnswersClimb, JudgesAll, JudgesCheck, IsOfHeader, IsOfRight, is_granted_in, may_remove_in, parent_in, sight_in};
+ghost use Rattle.kfs_judge_check.specs.Checks.{check_of, reason_of, entry_context_in, AnswersClimb, JudgesAll, JudgesCheck, IsOfHeader, IsOfRight, LeadsOn, StopsAtMoved, is_granted_in, may_remove_in, parent_in, sight_in};
 
 use crate::check::{Check, Reason};
+use crate::climbs::Way;
 use crate::reads::Recorder;
 use kfs_entry_value::{CLIMB_LIMIT, LINK_LIMIT, SIZE_LIMIT};
 use kfs_image_nodes::{Header, Kind, Name};
@@ -248,16 +249,18 @@ impl<A: Allocator + Copy> EntryJudge<'_, A> {
 
     /// The directory's parent now, or none.
     fn parent(&self, recorder: &mut Recorder<'_, A>, number: u32) -> Result<Option<u32>, AllocError>
-        ensures { AnswersLook recorder.old recorder.new result (ParentOf number ∷ []) (λ parent before. parent_in self.now before number ≡ parent) }
+        requires { StopsAtMoved self.now recorder.old }
+        ensures looks { AnswersLook recorder.old recorder.new result (ParentOf number ∷ []) (λ parent before. parent_in self.now before number ≡ parent) }
+        ensures stops { StopsAtMoved self.now recorder.new }
     {
         match self.draft.parent(number) {
             Some(parent) => Ok(parent),
-            None => recorder.parent(number),
+            None => recorder.climb(number),
         }
     }
 
-    /// Whether a climb from the directory along its parents meets the node. It takes one step for each
-    /// level.
+    /// Whether a climb from the directory along its parents meets the node. A way that an earlier climb
+    /// went takes one step for each stretch of it, and else each level takes one.
     fn climb_meets(
         &self,
         recorder: &mut Recorder<'_, A>,
@@ -266,19 +269,47 @@ impl<A: Allocator + Copy> EntryJudge<'_, A> {
     ) -> Result<bool, AllocError>
         ensures { AnswersClimb self.now recorder.old recorder.new result node dir }
     {
+        recorder.follow(self.draft.moved())?;
         let mut current = dir;
-        let mut left = CLIMB_LIMIT;
+        let mut left = CLIMB_LIMIT as usize;
         while left > 0 {
             if current == node {
                 return Ok(true);
             }
-            let Some(up) = self.parent(recorder, current)? else {
+            let Some(way) = self.climb_on(recorder, node, current, left)? else {
                 return Ok(false);
             };
-            current = up;
-            left -= 1;
+            current = way.last;
+            left -= way.steps;
         }
         Ok(current == node)
+    }
+
+    /// Where a climb goes on from a directory, in at most `left` steps: along a way that is kept, or to
+    /// the parent. None where it has no parent.
+    fn climb_on(
+        &self,
+        recorder: &mut Recorder<'_, A>,
+        node: u32,
+        from: u32,
+        left: usize,
+    ) -> Result<Option<Way>, AllocError>
+        requires other { from ≡ node → ⊥ }
+        requires left { 0 < left }
+        requires stops { StopsAtMoved self.now recorder.old }
+        ensures looks { AnswersLook recorder.old recorder.new result (ParentOf from ∷ []) (LeadsOn self.now node from) }
+        ensures steps { IfOk result (λ way. IfSome way (λ w. (0 < w.steps) × (w.steps ≤ left))) }
+        ensures stops { StopsAtMoved self.now recorder.new }
+    {
+        let way = recorder.way(from, node);
+        if way.steps > 0 && way.steps <= left {
+            return Ok(Some(way));
+        }
+        let parent = self.parent(recorder, from)?;
+        match parent {
+            Some(up) => Ok(Some(Way { steps: 1, last: up })),
+            None => Ok(None),
+        }
     }
 
     fn is_number_free(

@@ -5,6 +5,7 @@
 #![tactic(auto)]
 
 mod check;
+mod climbs;
 mod entry_judge;
 mod reads;
 mod record;

@@ -1,14 +1,15 @@
 //! What a judgement reads of a view. Where reads are kept, each is made once.
 
-ghost use Rattle.std.specs.Prelude.{◌≡◌, ℕ, ℤ, pos, Bool, [], ◌∷◌, Option};
+ghost use Rattle.std.specs.Prelude.{◌≡◌, ℕ, ℤ, pos, Bool, true, false, [], ◌∷◌, Option, OnOk};
+ghost use Rattle.std.proofs.Props.{props};
 ghost use Rattle.std.specs.Option.{option_map};
 ghost use Rattle.kfs_entry_value.specs.Views.{header_of};
 ghost use Rattle.kfs_model.specs.Header.{Header as HeaderShown};
 ghost use Rattle.kfs_model.specs.Sight.{answer, Head, Number, Count, Held, CountOf, ParentOf, LeaseOn};
 ghost use Rattle.kfs_judge_check.specs.Reads.{cell_of, answer_of};
-ghost use Rattle.kfs_judge_check.specs.Recorders.{seen_by, AnswersLook, LooksAtHeader, LooksAtName};
-ghost use Rattle.kfs_judge_check.specs.View.{client_sight_in};
+ghost use Rattle.kfs_judge_check.specs.Climbs.{ClimbsHold};
 
+use crate::climbs::{Climbs, Way};
 use crate::record::Reads;
 use crate::view::View;
 use kfs_image_nodes::{Answer, Cell, Header, Name, Near};
@@ -40,11 +41,17 @@ pub struct Recorder<'a, A: Allocator> {
     client: u32,
     reads: Reads<A>,
     near: Near,
+    climbs: Climbs<A>,
+    ghost ways: { ClimbsHold reads.entries climbs } by { Prim.hlevel props },
 }
 
 impl<'a, A: Allocator + Copy> Recorder<'a, A> {
+    ghost use Rattle.kfs_judge_check.specs.Climbs.{is_among, is_taken, IsWayOver, Follows};
+    ghost use Rattle.kfs_judge_check.specs.Recorders.{seen_by, AnswersLook, GoesOn, Known, LooksAtHeader, LooksAtName};
+    ghost use Rattle.kfs_judge_check.specs.View.{client_sight_in};
+
     /// For the client with this number, with the reads so far. Takes no memory.
-    pub fn new(view: &'a View<A>, client: u32, reads: Reads<A>) -> Recorder<'a, A>
+    pub fn new(alloc: A, view: &'a View<A>, client: u32, reads: Reads<A>) -> Recorder<'a, A>
         ensures reads { result.reads ≡ reads }
         ensures seen { seen_by result ≡ client_sight_in view.now client }
     {
@@ -53,6 +60,7 @@ impl<'a, A: Allocator + Copy> Recorder<'a, A> {
             client,
             reads,
             near: Near::start(),
+            climbs: Climbs::new(alloc),
         }
     }
 
@@ -60,7 +68,8 @@ impl<'a, A: Allocator + Copy> Recorder<'a, A> {
     /// kept, it is the view's.
     #[inline(always)]
     fn read(&mut self, read: Read) -> Result<ReadAnswer, AllocError>
-        ensures { AnswersLook self.old self.new result (cell_of read ∷ []) (λ told before. answer before (cell_of read) ≡ answer_of told) }
+        ensures climbs { self.new.climbs ≡ self.old.climbs }
+        ensures looks { AnswersLook self.old self.new result (cell_of read ∷ []) (λ told before. answer before (cell_of read) ≡ answer_of told) }
     {
         if self.reads.are_kept() {
             return self.read_kept(read);
@@ -75,7 +84,8 @@ impl<'a, A: Allocator + Copy> Recorder<'a, A> {
     // without the frame of this function.
     #[inline(never)]
     fn read_kept(&mut self, read: Read) -> Result<ReadAnswer, AllocError>
-        ensures { AnswersLook self.old self.new result (cell_of read ∷ []) (λ told before. answer before (cell_of read) ≡ answer_of told) }
+        ensures climbs { self.new.climbs ≡ self.old.climbs }
+        ensures looks { AnswersLook self.old self.new result (cell_of read ∷ []) (λ told before. answer before (cell_of read) ≡ answer_of told) }
     {
         if let Some(answer) = self.reads.get(&read) {
             return Ok(answer);
@@ -142,10 +152,42 @@ impl<'a, A: Allocator + Copy> Recorder<'a, A> {
 
     /// The directory's parent, or none.
     pub fn parent(&mut self, number: u32) -> Result<Option<u32>, AllocError>
-        ensures { AnswersLook self.old self.new result (ParentOf number ∷ []) (λ parent before. before.sight.parent number ≡ parent) }
+        ensures climbs { self.new.climbs ≡ self.old.climbs }
+        ensures looks { AnswersLook self.old self.new result (ParentOf number ∷ []) (λ parent before. before.sight.parent number ≡ parent) }
     {
         let answer = self.read(Read::Look(Cell::Parent(number)))?;
         Ok(number_in(answer))
+    }
+
+    /// The directory's parent, or none. The step to it is kept for later climbs.
+    pub(crate) fn climb(&mut self, number: u32) -> Result<Option<u32>, AllocError>
+        requires { is_taken self.old.climbs number ≡ false }
+        ensures looks { AnswersLook self.old self.new result (ParentOf number ∷ []) (λ parent before. before.sight.parent number ≡ parent) }
+        ensures follows { (are : ℕ → Bool) → are number ≡ false → Follows are self.old.climbs → Follows are self.new.climbs }
+    {
+        let parent = self.parent(number)?;
+        if let Some(up) = parent {
+            self.climbs.keep(number, up)?;
+        }
+        Ok(parent)
+    }
+
+    /// Before a climb: the ways that are kept stop at each of these directories, whose parents the
+    /// entries so far have written.
+    pub(crate) fn follow(&mut self, moved: &[u32]) -> Result<(), AllocError>
+        ensures goes { GoesOn self.old self.new }
+        ensures reads { self.new.reads.entries ≡ self.old.reads.entries }
+        ensures follows { OnOk result (Follows (is_among moved.now) self.new.climbs) }
+    {
+        self.climbs.follow(moved)
+    }
+
+    /// The way that is kept from the one directory on, up to `node` if that is on it. It is right where
+    /// the parents of all directories but those that have stops are the view's.
+    pub(crate) fn way(&self, from: u32, node: u32) -> Way
+        ensures { (are : ℕ → Bool) → Follows are self.now.climbs → Known self.now (IsWayOver are node result.steps from result.last) }
+    {
+        self.climbs.way(from, node)
     }
 
     /// Whether the client holds a live write lease on the node.

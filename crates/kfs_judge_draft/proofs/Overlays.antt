@@ -18,6 +18,7 @@ use Rattle.kfs_model.proofs.Overlay as laid
 use Rattle.kfs_entry_value.specs.Views.{header_of}
 use Rattle.kfs_entry_value.specs.declared.header.Header.{Header as CodeHeader}
 use Rattle.kfs_judge_draft.specs.declared.draft.Draft.{Draft}
+use Rattle.kfs_judge_draft.specs.declared.parents.Parents.{Parents}
 use Rattle.kfs_judge_draft.specs.Overlay.{over, has_header, KeepsHeaders, shift_of, with_header, with_target, with_more_names, with_parent, PutsAt, ShiftsBy}
 
 number_tie : (a b : ℕ) → eq_by_cmp nat_cmp a b ≡ (b == a)
@@ -40,7 +41,7 @@ overlay_of draft = record {
   heads = λ n. option_map (option_map header_of) (get nat_cmp draft.heads n);
   names = λ d m. get name_order.compare draft.names (d, m);
   shift = shift_of draft;
-  parents = get nat_cmp draft.parents;
+  parents = get nat_cmp draft.parents.map;
 }
 
 -- what a draft shows is its overlay, laid over the state
@@ -55,7 +56,7 @@ with_heads draft heads = record draft { heads = heads }
 abbrev pub with_names : {A : Type 0} → Draft A → BTreeMap (ℕ × List ℕ) (Option ℕ) → Draft A
 with_names draft names = record draft { names = names }
 
-abbrev pub with_parents : {A : Type 0} → Draft A → BTreeMap ℕ (Option ℕ) → Draft A
+abbrev pub with_parents : {A : Type 0} → Draft A → Parents A → Draft A
 with_parents draft parents = record draft { parents = parents }
 
 abbrev pub with_shifts : {A : Type 0} → Draft A → BTreeMap ℕ ℤ → Draft A
@@ -98,7 +99,7 @@ module _ {A : Type 0} (old : Draft A) where
       name_at : (e : ℕ) (k : List ℕ) → (over (with_names old names) s).name e k ≡ put_name d m target (over old s).name e k
       name_at e k = put_read (λ t. unwrap_or t (s.name e k)) _ _ _ (same_place (e, k) (d, m)) target (puts (e, k)) (place_tie_turned (d, m) (e, k))
 
-  pub parent_shown : (parents : BTreeMap ℕ (Option ℕ)) (n : ℕ) (parent : Option ℕ) → PutsAt nat_cmp old.parents parents n parent
+  pub parent_shown : (parents : Parents A) (n : ℕ) (parent : Option ℕ) → PutsAt nat_cmp old.parents.map parents.map n parent
       → (s : Sight) → over (with_parents old parents) s ≡ with_parent n parent (over old s)
   parent_shown parents n parent puts s = λ i. record {
     head = (over old s).head;

@@ -29,7 +29,7 @@ module _ {A : Type 0} where
     head = λ n. unwrap_or (option_map (option_map header_of) (get nat_cmp draft.heads n)) (s.head n);
     name = λ d m. unwrap_or (get name_order.compare draft.names (d, m)) (s.name d m);
     count = λ d. s.count d +ℤ shift_of draft d;
-    parent = λ n. unwrap_or (get nat_cmp draft.parents n) (s.parent n);
+    parent = λ n. unwrap_or (get nat_cmp draft.parents.map n) (s.parent n);
   }
 
   abbrev pub has_created : Draft A → ℕ → Bool

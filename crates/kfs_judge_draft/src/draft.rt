@@ -1,7 +1,8 @@
 //! What the entries of a log have changed so far, over the state that the log began with.
 
 ghost use Rattle.std.specs.Prelude.{◌≡◌, ℕ, ◌+◌, ◌==◌, ◌||◌, pos, negsuc, ◌+ℤ◌, ◌≤ℤ◌, FitsSigned, unwrap_or, OnOk, IsTrue, false, List, [], Contains};
-ghost use Rattle.std.specs.Option.{option_map};
+ghost use Rattle.std.specs.Option.{option_map, is_some};
+ghost use Rattle.std.specs.List.{list_any};
 ghost use Rattle.std.specs.Int.{w32};
 ghost use Rattle.kfs_entry_value.specs.Views.{header_of, kind_of};
 ghost use Rattle.kfs_model.specs.Sight.{Sight, Cell, HeaderOf, NameIn};
@@ -11,6 +12,7 @@ ghost use Rattle.kfs_model.specs.Tree.{name_order};
 ghost use Rattle.kfs_judge_draft.specs.Overlay.{has_created, has_header, over, KeepsCreated, KeepsHeaders, KeepsShifts, ShiftsBy, ShiftsFurther, HasRoom, PutsAt, ChangesAreAmong, WritesNameAndHeader, WritesTwoNames, shift_of};
 ghost use Rattle.kfs_judge_draft.specs.Overlay.{with_header, with_target, with_more_names, with_parent, with_directory_in, with_node, with_name, without_name, with_name_moved, shift_of};
 
+use crate::parents::Parents;
 use kfs_entry_value::{Header, Kind, Name};
 use std::alloc::{AllocError, Allocator};
 use std::collections::{BTreeMap, BTreeSet};
@@ -24,7 +26,7 @@ pub struct Draft<A: Allocator> {
     /// The number that each written name leads to.
     names: BTreeMap<(u32, Name), Option<u32>, A>,
     /// The parent of each directory that was written.
-    parents: BTreeMap<u32, Option<u32>, A>,
+    parents: Parents<A>,
     /// By how much each directory's count of names has changed.
     shifts: BTreeMap<u32, i32, A>,
     /// The numbers that the log created.
@@ -42,7 +44,7 @@ impl<A: Allocator + Copy> Draft<A> {
         Draft {
             heads: BTreeMap::new(alloc),
             names: BTreeMap::new(alloc),
-            parents: BTreeMap::new(alloc),
+            parents: Parents::new(alloc),
             shifts: BTreeMap::new(alloc),
             created: BTreeSet::new(alloc),
         }
@@ -168,7 +170,7 @@ impl<A: Allocator + Copy> Draft<A> {
         ensures kept { OnOk result (KeepsHeaders self.old self.new) }
         ensures shifts { OnOk result (KeepsShifts self.old self.new) }
     {
-        put(&mut self.parents, number, parent)?;
+        self.parents.set(number, parent)?;
         Ok(())
     }
 
@@ -247,9 +249,16 @@ impl<A: Allocator> Draft<A> {
 
     /// The directory's parent now, if an entry wrote it. An inner none means that it has none.
     pub fn parent(&self, number: u32) -> Option<Option<u32>>
-        ensures { result ≡ get nat_cmp self.now.parents number }
+        ensures { result ≡ get nat_cmp self.now.parents.map number }
     {
-        self.parents.get(&number).copied()
+        self.parents.get(number)
+    }
+
+    /// The numbers whose parent an entry wrote, in the order in which each was first written.
+    pub fn moved(&self) -> &[u32]
+        ensures { (n : ℕ) → list_any (λ m. m == n) result.now ≡ is_some (get nat_cmp self.now.parents.map n) }
+    {
+        self.parents.written()
     }
 
     /// By how much the directory's count of names has changed.

@@ -7,6 +7,7 @@
 
 mod draft;
 mod header;
+mod parents;
 
 pub use draft::Draft;
 pub use header::{linked, unlinked};

@@ -67,7 +67,7 @@ impl<'a, A: Allocator + Copy> LogJudge<'a, A> {
         LogJudge {
             client,
             draft: Draft::new(alloc),
-            recorder: Recorder::new(view, client.number(), reads),
+            recorder: Recorder::new(alloc, view, client.number(), reads),
         }
     }
 

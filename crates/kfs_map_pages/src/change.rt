@@ -12,7 +12,7 @@ use crate::page::Page;
 use std::alloc::{AllocError, Allocator};
 use std::sync::Arc;
 
-/// How many edits are made together, at most. Each may take four calls within each other.
+/// How many edits are made together, at most. Each may take five calls within each other.
 pub(crate) const MOST_TOGETHER: usize = 16;
 
 /// A change that can be made together with a change of pages: both are made, or neither.

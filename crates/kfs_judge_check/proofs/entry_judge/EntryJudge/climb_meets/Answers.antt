@@ -1,10 +1,31 @@
--- A node is met where the climb stands, or behind its parent.
-use Rattle.std.proofs.Common.{◌≡◌, ◌-◌, suc, arith, ◌∙◌}
+-- A node is met where the climb stands, or behind the next part of its way.
+use Rattle.std.proofs.Common.{◌≡◌, ◌+◌, ◌-◌, ◌<◌, ◌≤◌, suc, arith, ◌∙◌, sym, subst, refl}
+use Rattle.std.specs.Prelude.{IfSome}
 use Rattle.kfs_model.specs.Sight.{climb_limit}
-use Rattle.kfs_judge_check.specs.Checks.{climbed_cells, parent_in}
-use Rattle.kfs_judge_check.proofs.Climbing.{climb-meets_here, climb-ends, climb-at_top, climb-goes_on, climbed_here, climbed_behind}
-use Rattle.kfs_judge_check.proofs.Recording.{cut_short, goes_then, within_then, within_wider}
+use Rattle.kfs_judge_check.specs.declared.climbs.Way.{Way}
+use Rattle.kfs_judge_check.specs.Reads.{Within}
+use Rattle.kfs_judge_check.specs.Checks.{climbed_cells, parent_in, LeadsOn}
+use Rattle.kfs_judge_check.proofs.Climbing.{climb-meets_here, climb-ends, climb-at_top, climbed_here}
+use Rattle.kfs_judge_check.proofs.Ways.{climb_meets_behind, climbed_behind_way}
+use Rattle.kfs_judge_check.proofs.Recording.{cut_short, goes_then, within_same, within_then, within_wider}
 use Rattle.kfs_judge_check.proofs.entry_judge.EntryJudge.climb_meets.Goals as goal
+
+pub returns-in_err-follow : goal.returns-in_err-follow
+returns-in_err-follow g c = cut_short c.in_err-follow.ensures.goes _ _ _ c.from_residual.ensures.0
+
+pub loop-left-init : goal.loop-left-init
+loop-left-init g c = record {
+  goes = c.in_ok-follow.ensures.goes;
+  climb = λ state agrees. refl;
+  part = λ state agrees cell there. there;
+  among = λ state agrees.
+      let cells = climbed_cells (parent_in c.args.self.now state) climb_limit c.args.dir in
+      subst (λ entries. Within c.args.recorder.now.reads.entries entries cells) (sym c.in_ok-follow.ensures.reads) (within_same c.args.recorder.now.reads.entries cells);
+  stops = record {
+    stops = λ place inside is. c.in_ok-follow.ensures.follows.stops place inside (c.moved.ensures _ ∙ is);
+    taken = λ n is. sym (c.moved.ensures n) ∙ c.in_ok-follow.ensures.follows.taken n is;
+  };
+}
 
 pub returns-then-current-node : goal.returns-then-current-node
 returns-then-current-node g c = record {
@@ -13,40 +34,47 @@ returns-then-current-node g c = record {
   among = c.loop-left.invariant.among;
 }
 
-pub returns-in_err-up : goal.returns-in_err-up
-returns-in_err-up g c = cut_short (goes_then c.loop-left.invariant.goes c.in_err-up.ensures.goes) _ _ _ c.from_residual.ensures.0
+pub returns-in_err-way : goal.returns-in_err-way
+returns-in_err-way g c = cut_short (goes_then c.loop-left.invariant.goes c.in_err-way.ensures.looks.goes) _ _ _ c.from_residual-in_err-way.ensures.0
 
 pub returns-in_default : goal.returns-in_default
 returns-in_default g c =
     let one_more : c.loop-left.left ≡ suc (c.loop-left.left - 1) = omega (arith, c.loop-left-test.true) in
     record {
-      goes = goes_then c.loop-left.invariant.goes c.in_ok-up.ensures.goes;
+      goes = goes_then c.loop-left.invariant.goes c.in_ok-way.ensures.looks.goes;
       known = λ state agrees.
-          c.loop-left.invariant.climb state (c.in_ok-up.ensures.goes.grows state agrees)
-          ∙ climb-at_top (parent_in c.args.self.now state) c.loop-left.left (c.loop-left.left - 1) c.args.node c.loop-left.current one_more c.if-current-node.false (c.in_ok-up.ensures.known state agrees ∙ c.in_default.is);
+          let top = subst (λ way. LeadsOn c.args.self.now c.args.node c.loop-left.current way state) c.in_default.is (c.in_ok-way.ensures.looks.known state agrees) in
+          c.loop-left.invariant.climb state (c.in_ok-way.ensures.looks.goes.grows state agrees)
+          ∙ climb-at_top (parent_in c.args.self.now state) c.loop-left.left (c.loop-left.left - 1) c.args.node c.loop-left.current one_more c.if-current-node.false top;
       among = λ state agrees.
-          let before = c.in_ok-up.ensures.goes.grows state agrees in
+          let before = c.in_ok-way.ensures.looks.goes.grows state agrees in
           let parent = parent_in c.args.self.now state in
           within_then (c.loop-left.invariant.among state before)
-          (within_wider (climbed_here parent c.loop-left.left c.loop-left.current (climbed_cells parent climb_limit c.args.dir) (c.loop-left.invariant.part state before)) c.in_ok-up.ensures.among);
+          (within_wider (climbed_here parent c.loop-left.left c.loop-left.current (climbed_cells parent climb_limit c.args.dir) (c.loop-left.invariant.part state before)) c.in_ok-way.ensures.looks.among);
     }
 
 pub loop-left-preserved : goal.loop-left-preserved
 loop-left-preserved g c =
-    let one_more : c.loop-left.left ≡ suc (c.loop-left.left - 1) = omega (arith, c.loop-left-test.true) in
+    let steps = c.in-Some.way.steps in
+    let last = c.in-Some.way.last in
+    let fits = subst (λ way. IfSome way (λ (w : Way). (0 < w.steps) × (w.steps ≤ c.loop-left.left))) c.in-Some.is c.in_ok-way.ensures.steps in
+    let both : c.loop-left.left ≡ steps + (c.loop-left.left - steps) = omega (arith, fits.1) in
     record {
-      goes = goes_then c.loop-left.invariant.goes c.in_ok-up.ensures.goes;
+      goes = goes_then c.loop-left.invariant.goes c.in_ok-way.ensures.looks.goes;
       climb = λ state agrees.
-          c.loop-left.invariant.climb state (c.in_ok-up.ensures.goes.grows state agrees)
-          ∙ climb-goes_on (parent_in c.args.self.now state) c.loop-left.left (c.loop-left.left - 1) c.args.node c.loop-left.current c.in-Some.up one_more c.if-current-node.false (c.in_ok-up.ensures.known state agrees ∙ c.in-Some.is);
+          let way = subst (λ way. LeadsOn c.args.self.now c.args.node c.loop-left.current way state) c.in-Some.is (c.in_ok-way.ensures.looks.known state agrees) in
+          c.loop-left.invariant.climb state (c.in_ok-way.ensures.looks.goes.grows state agrees)
+          ∙ climb_meets_behind (parent_in c.args.self.now state) c.loop-left.left c.args.node steps (c.loop-left.left - steps) c.loop-left.current last both way;
       part = λ state agrees cell there.
-          c.loop-left.invariant.part state (c.in_ok-up.ensures.goes.grows state agrees) cell
-          (climbed_behind (parent_in c.args.self.now state) c.loop-left.left (c.loop-left.left - 1) c.loop-left.current c.in-Some.up one_more (c.in_ok-up.ensures.known state agrees ∙ c.in-Some.is) cell there);
+          let way = subst (λ way. LeadsOn c.args.self.now c.args.node c.loop-left.current way state) c.in-Some.is (c.in_ok-way.ensures.looks.known state agrees) in
+          c.loop-left.invariant.part state (c.in_ok-way.ensures.looks.goes.grows state agrees) cell
+          (climbed_behind_way (parent_in c.args.self.now state) c.loop-left.left c.args.node steps (c.loop-left.left - steps) c.loop-left.current last both way cell there);
       among = λ state agrees.
-          let before = c.in_ok-up.ensures.goes.grows state agrees in
+          let before = c.in_ok-way.ensures.looks.goes.grows state agrees in
           let parent = parent_in c.args.self.now state in
           within_then (c.loop-left.invariant.among state before)
-          (within_wider (climbed_here parent c.loop-left.left c.loop-left.current (climbed_cells parent climb_limit c.args.dir) (c.loop-left.invariant.part state before)) c.in_ok-up.ensures.among);
+          (within_wider (climbed_here parent c.loop-left.left c.loop-left.current (climbed_cells parent climb_limit c.args.dir) (c.loop-left.invariant.part state before)) c.in_ok-way.ensures.looks.among);
+      stops = c.in_ok-way.ensures.stops;
     }
 
 pub returns : goal.returns

@@ -4,10 +4,11 @@ use mathlib.Core.Bool.{true≢false}
 use Rattle.kfs_judge_check.specs.Kept.{ReadsShown}
 use Rattle.kfs_judge_check.proofs.ReadsAgree.{grows_by_one, known_at_end, agrees_by_one}
 use Rattle.kfs_judge_check.proofs.Recording.{within_one}
+use Rattle.kfs_judge_check.proofs.Ways.{hold_further}
 use Rattle.kfs_judge_check.proofs.reads.Recorder.read.Goals as goal
 
-pub returns : goal.returns
-returns g c =
+pub returns-clause-looks : goal.returns-clause-looks
+returns-clause-looks g c =
     let last = ap (λ (r : ReadsShown). r.entries) c.see.ensures in
     let unkept = sym c.are_kept.ensures ∙ c.if-are_kept.false in
     record {
@@ -21,3 +22,8 @@ returns g c =
       known = known_at_end _ _ _ _ last;
       among = within_one _ _ _ _ last;
     }
+
+pub invariant_of-self : goal.invariant_of-self
+invariant_of-self g c =
+    let last = ap (λ (r : ReadsShown). r.entries) c.see.ensures in
+    record { ways = hold_further c.args.self.now.reads.entries c.see.new.self.entries c.args.self.now.climbs (grows_by_one _ _ _ _ last) c.args.self.now.ways }

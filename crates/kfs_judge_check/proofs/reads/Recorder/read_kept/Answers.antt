@@ -3,18 +3,19 @@ use Rattle.std.proofs.Common.{◌∷◌, [], ap, sym, refl}
 use Rattle.kfs_judge_check.specs.Kept.{ReadsShown}
 use Rattle.kfs_judge_check.proofs.ReadsAgree.{known_by_key, grows_by_one, known_at_end, agrees_by_one, once_by_one}
 use Rattle.kfs_judge_check.proofs.Recording.{goes_nowhere, within_same, within_one}
+use Rattle.kfs_judge_check.proofs.Ways.{hold_added}
 use Rattle.kfs_judge_check.specs.Reads.{cell_of}
 use Rattle.kfs_judge_check.proofs.reads.Recorder.read_kept.Goals as goal
 
-pub returns-in-Some : goal.returns-in-Some
-returns-in-Some g c = record {
+pub returns-in-Some-clause-looks : goal.returns-in-Some-clause-looks
+returns-in-Some-clause-looks g c = record {
   goes = goes_nowhere c.args.self.now;
   known = known_by_key _ _ _ (sym c.in-Some.ensures.found);
   among = within_same c.args.self.now.reads.entries (cell_of c.args.read ∷ []);
 }
 
-pub returns : goal.returns
-returns g c =
+pub returns-clause-looks : goal.returns-clause-looks
+returns-clause-looks g c =
     let last = ap (λ (r : ReadsShown). r.entries) c.in_ok-add.ensures.ok in
     record {
       goes = record {
@@ -27,3 +28,6 @@ returns g c =
       known = known_at_end _ _ _ _ last;
       among = within_one _ _ _ _ last;
     }
+
+pub invariant_of-self : goal.invariant_of-self
+invariant_of-self g c = record { ways = hold_added c.args.self.now.climbs c.add.result c.args.self.now.reads c.add.new.self c.args.read c.view_answer-answer.result c.add.ensures.ok c.add.ensures.err c.args.self.now.ways }

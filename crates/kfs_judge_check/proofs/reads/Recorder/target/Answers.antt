@@ -11,7 +11,13 @@ use Rattle.kfs_image_nodes.specs.declared.cell.Cell.TheVariants.{Name}
 use Rattle.kfs_image_nodes.specs.declared.cell.Answer.TheVariants as looks
 use Rattle.kfs_judge_check.proofs.ReadsAgree.{grows_by_one, known_at_end, agrees_by_one}
 use Rattle.kfs_judge_check.proofs.Recording.{within_one}
+use Rattle.kfs_judge_check.proofs.Ways.{hold_further}
 use Rattle.kfs_judge_check.proofs.reads.Recorder.target.Goals as goal
+
+pub invariant_of-self : goal.invariant_of-self
+invariant_of-self g c =
+    let last = ap (λ (r : ReadsShown). r.entries) c.see.ensures in
+    record { ways = hold_further c.args.self.now.reads.entries c.see.new.self.entries c.args.self.now.climbs (grows_by_one _ _ _ _ last) c.args.self.now.ways }
 
 pub returns : goal.returns
 returns g c =

@@ -10,7 +10,14 @@ use Rattle.kfs_image_nodes.specs.declared.cell.Cell.TheVariants.{Name}
 use Rattle.kfs_image_nodes.specs.declared.cell.Answer.TheVariants as looks
 use Rattle.kfs_judge_check.proofs.ReadsAgree.{known_by_key, grows_by_one, known_at_end, agrees_by_one, once_by_one}
 use Rattle.kfs_judge_check.proofs.Recording.{goes_nowhere, within_same, within_one}
+use Rattle.kfs_judge_check.proofs.Ways.{hold_added}
 use Rattle.kfs_judge_check.proofs.reads.Recorder.target_kept.Goals as goal
+
+pub invariant_of-self : goal.invariant_of-self
+invariant_of-self g c =
+    let read = Look (Name c.args.key.now.0 c.args.key.now.1) in
+    let told = answers.Look (looks.Name c.target_near-number.result) in
+    record { ways = hold_added c.args.self.now.climbs c.add.result c.args.self.now.reads c.add.new.self read told c.add.ensures.ok c.add.ensures.err c.args.self.now.ways }
 
 pub returns-in-Some : goal.returns-in-Some
 returns-in-Some g c =

@@ -3,7 +3,7 @@ use Rattle.kfs_judge_draft.proofs.Overlays.{parent_shown}
 use Rattle.kfs_judge_draft.proofs.draft.Draft.set_parent.Goals as goal
 
 pub returns-clause-shown : goal.returns-clause-shown
-returns-clause-shown g c s = parent_shown c.args.self.now c.put.new.map c.args.number c.args.parent c.in_ok-put.ensures s
+returns-clause-shown g c s = parent_shown c.args.self.now c.set.new.self c.args.number c.args.parent c.in_ok-set.ensures s
 
 pub returns-clause-written : goal.returns-clause-written
 returns-clause-written g c among written = record { names = written.names; heads = written.heads }
