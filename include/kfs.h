@@ -30,6 +30,9 @@
 #include <stddef.h>
 #include <stdint.h>
 
+/* The version of the library, of this header and of the formats: the file VERSION. */
+#define KFS_VERSION "0.1.0"
+
 #ifdef __cplusplus
 extern "C" {
 #endif
@@ -44,7 +47,7 @@ struct kfs {
 enum {
     KFS_DONE = 0,       /* the call was made; a reply says what came of it */
     KFS_NO_MEMORY = 1,  /* memory was refused; the desk is as it was; the same call may be tried again */
-    KFS_FULL = 2,       /* the docket has `limit` rows; the desk is as it was, and never answers again */
+    KFS_FULL = 2,       /* the docket has `limit` rows; the desk is as it was; it takes no more rows */
     KFS_NOTHING = 3,    /* there is no such node, name, block or plan */
     KFS_REFUSED = 4,    /* refused; see the call */
     KFS_SHORT = 5,      /* the buffer is too short; the length that is needed is told */

@@ -2,50 +2,49 @@
 import os
 import re
 import shutil
-import struct
 import subprocess
 import sys
 import tempfile
 import time
 
+from fuzzing.codec import FILE, ZERO, Create, Header, Log, NameRow, NodeRow, Piece, Plan, Unlink, encode_log, encode_plan
+
 TOP = os.path.dirname(os.path.dirname(os.path.realpath(__file__)))
 NAME = "kfs_bench"
 
 
-def log_of(entries):
-    return b"KLOG\x01" + struct.pack(">IH", 7, len(entries)) + b"".join(entries)
+def log_of(entries, client=7):
+    return encode_log(Log(1, client, entries))
 
 
-def plan_of(names, nodes, pieces):
-    return b"KPLN\x01" + struct.pack(">HHI", len(names), len(nodes), len(pieces)) + b"".join(names + nodes + pieces)
+def plan_of(names, nodes, pieces=()):
+    """Returns the bytes of a plan, its names in their order."""
+    return encode_plan(Plan(1, sorted(names), nodes, pieces))
 
 
-def write(number, offset, payload):
-    return b"\2" + struct.pack(">IQI", number, offset, len(payload)) + payload
-
-
-def truncate(number, size):
-    return b"\3" + struct.pack(">IQ", number, size)
-
-
-def node(number, size):
-    return struct.pack(">IBHIIHQ", number, 1, 0o644, 1000, 1000, 1, size)
+def node(number, size=0, kind=FILE, mode=0o644):
+    """Returns the row of a node of uid and gid 1000."""
+    return NodeRow(number, Header(kind, mode, 1000, 1000, 1, size))
 
 
 def zero(number, start, length):
-    return struct.pack(">IQQB", number, start, length, 0)
+    return Piece(number, start, length, ZERO)
 
 
 def put(number, start, length, entry, place):
-    return struct.pack(">IQQBHI", number, start, length, 1, entry, place)
+    return Piece(number, start, length, (entry, place))
 
 
 def files_made(names, first=2):
     """Returns the log that creates files of these names in the root, of the numbers from `first` on, and its plan."""
-    rows = [b"\0\0\0\1" + bytes([len(name)]) + name + struct.pack(">I", first + index) for index, name in enumerate(names)]
-    log = log_of([b"\1" + row + b"\0\x01\xa4" for row in rows])
-    ordered = [row for _, row in sorted(zip(names, rows))]
-    return log, plan_of(ordered, [node(first + index, 0) for index in range(len(names))], [])
+    numbers = range(first, first + len(names))
+    log = log_of([Create(1, name, number, FILE, 0o644) for name, number in zip(names, numbers)])
+    return log, plan_of([NameRow(1, name, number) for name, number in zip(names, numbers)], [node(number) for number in numbers])
+
+
+def file_gone(name, number):
+    """Returns the log that takes a file out of the root, and its plan."""
+    return log_of([Unlink(1, name, FILE)]), plan_of([NameRow(1, name, 0)], [NodeRow(number, None)])
 
 
 def put_files(folder, named):

@@ -1,4 +1,7 @@
-"""Logs, plans and images as bytes (docs/FORMATS.md): reading them, or finding the refusal that is due, and writing them."""
+"""Logs, plans and images as bytes (docs/FORMATS.md): reading them, or finding the refusal that is due, and writing them.
+
+It is the one encoder of the tools in Python, and the one decoder.
+"""
 from typing import NamedTuple
 
 FILE, DIRECTORY = 0, 1
@@ -342,14 +345,20 @@ def extent_bytes(row):
     return b"".join(number_bytes(number, width) for number, width in numbers) + row.data
 
 
+def log_header(version, client, count):
+    return b"KLOG" + number_bytes(version, 1) + number_bytes(client, 4) + number_bytes(count, 2)
+
+
+def plan_header(version, *counts):
+    return b"KPLN" + number_bytes(version, 1) + b"".join(map(number_bytes, counts, (2, 2, 4)))
+
+
 def encode_log(log):
-    head = b"KLOG" + number_bytes(log.version, 1) + number_bytes(log.client, 4) + number_bytes(len(log.entries), 2)
-    return head + b"".join(map(entry_bytes, log.entries))
+    return log_header(log.version, log.client, len(log.entries)) + b"".join(map(entry_bytes, log.entries))
 
 
 def encode_plan(plan):
-    counts = zip((plan.names, plan.nodes, plan.pieces), (2, 2, 4))
-    head = b"KPLN" + number_bytes(plan.version, 1) + b"".join(number_bytes(len(rows), width) for rows, width in counts)
+    head = plan_header(plan.version, *map(len, plan[1:]))
     rows = [*map(name_row_bytes, plan.names), *map(node_row_bytes, plan.nodes), *map(piece_bytes, plan.pieces)]
     return head + b"".join(rows)
 
