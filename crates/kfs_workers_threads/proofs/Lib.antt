@@ -1,2 +1,3 @@
+pub mod InTurn
 pub mod Landed
 pub mod Sent

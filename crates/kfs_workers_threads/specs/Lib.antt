@@ -1,3 +1,4 @@
 pub mod Calls
+pub mod Landings
 pub mod Passes
 pub mod Sharing

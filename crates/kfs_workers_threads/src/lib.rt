@@ -11,6 +11,7 @@ mod act;
 mod desk;
 mod docketed;
 mod land;
+mod landings;
 mod pass;
 mod plays;
 mod rule;
@@ -22,5 +23,6 @@ mod want;
 
 pub use desk::{Begun, DocketRow};
 pub use docketed::Docketed;
-pub use pass::{Pass, Shared, Turn};
+pub use landings::Landing;
+pub use pass::{Pass, Shared};
 pub use want::{SharedBack, SharedWant, Unreturned};

@@ -1,0 +1,20 @@
+use Rattle.std.proofs.Common.{rules, Some, ap, sym, ◌∙◌}
+use Rattle.kfs_desk.specs.Beginning.{beginning_of}
+use Rattle.kfs_turns.proofs.Lists.{starts_same}
+use Rattle.kfs_workers_threads.proofs.Landed.{added_served, has_added, still_begun}
+use Rattle.kfs_workers_threads.proofs.act.Turn+Desk+A.act.Goals as goal
+
+pub returns-in-Ok-clause-ok : goal.returns-in-Ok-clause-ok
+returns-in-Ok-clause-ok g c =
+    let acted = c.in-Ok.ensures.done in
+    has_added _ c.args.self.seat.me.0.opening _ _ c.args.self.object c.act.new.self acted.row _ _ _ _ (search rules) (search rules) (starts_same _ _ c.args.self.whole) (search rules) (search rules) (search rules)
+    acted.opening acted.limit acted.docket acted.position acted.step (search rules) (search rules)
+
+pub invariant_of-result-clause-served : goal.invariant_of-result-clause-served
+invariant_of-result-clause-served g c = let added = c.add_last-object.ensures.added in added_served c.args.self.seat.me.0 c.add_last-object.new.seat.me.0 _ c.act.new.self c.add_last-object.result (ap (λ me. me.0) added.1) added.0
+
+pub invariant_of-result-clause-begun : goal.invariant_of-result-clause-begun
+invariant_of-result-clause-begun g c =
+    let added = c.add_last-object.ensures.added in
+    let acted = c.in-Ok.ensures.done in
+    ap (λ me. me.0.opening) added.1 ∙ (still_begun c.args.self.seat.me.0.opening c.args.self.object c.act.new.self c.args.self.begun acted.opening acted.limit ∙ ap (λ d. Some (beginning_of d)) (sym added.0))
