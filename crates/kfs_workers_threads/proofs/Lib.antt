@@ -1,2 +1,1 @@
 pub mod Landed
-pub mod Sent
