@@ -4,16 +4,22 @@
  * This header is written by hand; nothing proves that it says what crates/kfs_c/src says.
  *
  * Handles.  `struct kfs` is the host's own memory. All zero is a handle that holds nothing. A handle
- *   holds a desk, a view of a desk, or a verdict. What it holds is freed by kfs_close, and by the calls
- *   that have it hold something else. Never copy a handle that holds something, and never write its
- *   fields.
+ *   holds a desk, a view of a desk, or a verdict. What it holds is freed by kfs_close, and by a call that
+ *   has it hold something else, once that is there: a call that fails leaves it as it is. A verdict is
+ *   used up by kfs_land. Never copy a handle that holds something, and never write its fields.
  *
  * Memory.  All of it is taken by malloc and realloc, and freed by free. Where one of them answers NULL,
- *   the call answers KFS_NO_MEMORY, and the desk is as it was. No call keeps a pointer that it is
- *   given.
+ *   the call answers KFS_NO_MEMORY, and each handle holds what it held, but for the verdict of kfs_land.
+ *   No call keeps a pointer that it is given. A handle that is opened or loaded anew holds both desks for
+ *   a while: close it first where memory is short.
  *
  * Pointers.  None may be NULL, also where its length is 0. What is passed for a call must not overlap
- *   what the call writes, and no other thread may touch it meanwhile.
+ *   what the call writes, and no other thread may touch it meanwhile. So copy a name out of the buffer
+ *   before you pass it to kfs_name as `after`.
+ *
+ * Before a call.  Buffers, and the numbers of what a call writes, may be uninitialised. So may the room
+ *   between fields. Each bool must be false or true, also in a reply that is only written: begin with
+ *   `= { 0 }`, in C++ with `= {}`. A handle must be all zero, or as a call left it.
  *
  * Threads.  Each handle takes one call at a time; the host orders them, by a mutex for one. Calls on
  *   different handles may run beside each other: so hold the desk's mutex for kfs_look, judge against
@@ -46,13 +52,16 @@ struct kfs {
 /* What a call answers. */
 enum {
     KFS_DONE = 0,       /* the call was made; a reply says what came of it */
-    KFS_NO_MEMORY = 1,  /* memory was refused; the desk is as it was; the same call may be tried again */
+    KFS_NO_MEMORY = 1,  /* memory was refused; no desk has changed; the same call may be tried again,
+                         * kfs_land after kfs_judge */
     KFS_FULL = 2,       /* the docket has `limit` rows; the desk is as it was; it takes no more rows */
     KFS_NOTHING = 3,    /* there is no such node, name, block or plan */
     KFS_REFUSED = 4,    /* refused; see the call */
     KFS_SHORT = 5,      /* the buffer is too short; the length that is needed is told */
     KFS_CLOSED = 6,     /* the handle holds nothing */
-    KFS_WRONG_KIND = 7  /* the handle holds something of another kind */
+    KFS_WRONG_KIND = 7, /* the handle holds something of another kind */
+    KFS_DIRECTORY = 8,  /* the node is a directory, and the call is for files */
+    KFS_SAME_HANDLE = 9 /* one handle was given for two; nothing was done. This header answers it */
 };
 
 /* The most of everything. */
@@ -196,15 +205,19 @@ struct kfs_node {
     uint64_t size;  /* bytes, at most 2^32 */
 };
 
-#ifndef __cplusplus
-#define KFS_LIES(type, field, at) _Static_assert(offsetof(struct type, field) == (at), #type "." #field)
-_Static_assert(sizeof(struct kfs) == 16 && sizeof(size_t) == 8, "a machine of 64 bits");
+#ifdef __cplusplus
+#define KFS_HOLDS(test, words) static_assert(test, words)
+#else
+#define KFS_HOLDS(test, words) _Static_assert(test, words)
+#endif
+#define KFS_LIES(type, field, at) KFS_HOLDS(offsetof(struct type, field) == (at), #type "." #field)
+KFS_HOLDS(sizeof(struct kfs) == 16 && sizeof(size_t) == 8, "a machine of 64 bits");
 KFS_LIES(kfs, full, 8);
-_Static_assert(sizeof(struct kfs_fault) == 24, "kfs_fault");
+KFS_HOLDS(sizeof(struct kfs_fault) == 24, "kfs_fault");
 KFS_LIES(kfs_fault, reason, 4);
 KFS_LIES(kfs_fault, index, 8);
 KFS_LIES(kfs_fault, detail, 16);
-_Static_assert(sizeof(struct kfs_client) == 32, "kfs_client");
+KFS_HOLDS(sizeof(struct kfs_client) == 32, "kfs_client");
 KFS_LIES(kfs_client, uid, 4);
 KFS_LIES(kfs_client, gid, 8);
 KFS_LIES(kfs_client, first, 12);
@@ -212,33 +225,33 @@ KFS_LIES(kfs_client, last, 16);
 KFS_LIES(kfs_client, groups_start, 20);
 KFS_LIES(kfs_client, groups_count, 24);
 KFS_LIES(kfs_client, privileged, 28);
-_Static_assert(sizeof(struct kfs_move) == 16, "kfs_move");
+KFS_HOLDS(sizeof(struct kfs_move) == 16, "kfs_move");
 KFS_LIES(kfs_move, block, 4);
 KFS_LIES(kfs_move, tier, 8);
 KFS_LIES(kfs_move, place, 12);
-_Static_assert(sizeof(struct kfs_reply) == 56, "kfs_reply");
+KFS_HOLDS(sizeof(struct kfs_reply) == 56, "kfs_reply");
 KFS_LIES(kfs_reply, position, 4);
 KFS_LIES(kfs_reply, rejudged, 8);
 KFS_LIES(kfs_reply, need, 16);
 KFS_LIES(kfs_reply, free, 24);
 KFS_LIES(kfs_reply, fault, 32);
-_Static_assert(sizeof(struct kfs_act) == 40, "kfs_act");
+KFS_HOLDS(sizeof(struct kfs_act) == 40, "kfs_act");
 KFS_LIES(kfs_act, done, 4);
 KFS_LIES(kfs_act, number, 8);
 KFS_LIES(kfs_act, fault, 16);
-_Static_assert(sizeof(struct kfs_node) == 24, "kfs_node");
+KFS_HOLDS(sizeof(struct kfs_node) == 24, "kfs_node");
 KFS_LIES(kfs_node, mode, 2);
 KFS_LIES(kfs_node, links, 4);
 KFS_LIES(kfs_node, uid, 8);
 KFS_LIES(kfs_node, gid, 12);
 KFS_LIES(kfs_node, size, 16);
-#endif
 
 /* ---- opening and closing */
 
 /* Has the handle hold a desk with a new image: a root directory, and three tiers of so many blocks.
- * What it held is freed. The docket will have at most `limit` rows; each answered call takes one.
- * KFS_REFUSED: `fault` has a KFS_OPEN_ code. The handle holds nothing then. */
+ * What it held is freed then. The docket will have at most `limit` rows; each answered call takes one.
+ * KFS_REFUSED: `fault` has a KFS_OPEN_ code, of the first client that is wrong if one is.
+ * KFS_REFUSED, KFS_NO_MEMORY: the handle holds what it held. */
 uint32_t kfs_open(struct kfs *handle, uint32_t first, uint32_t second, uint32_t third,
                   const struct kfs_client *clients, size_t clients_len,
                   const uint32_t *groups, size_t groups_len, uint32_t limit, struct kfs_fault *fault);
@@ -259,21 +272,25 @@ void kfs_close(struct kfs *handle);
 uint32_t kfs_submit(struct kfs *handle, uint32_t client, const uint8_t *log, size_t log_len,
                     const uint8_t *plan, size_t plan_len, struct kfs_reply *reply);
 
-/* Has `view` hold a view of the desk's state now; what it held is freed. It shares the desk's tables
- * and doesn't change when the desk goes on. A view that is kept makes the desk copy what it changes. */
+/* Has `view` hold a view of the desk's state now; what it held is freed then. It shares the desk's tables
+ * and doesn't change when the desk goes on. A view that is kept makes the desk copy what it changes.
+ * Whatever isn't KFS_DONE leaves `view` as it was. */
 uint32_t kfs_look(struct kfs *handle, struct kfs *view);
 
-/* Has `verdict` hold a verdict on a submission; what it held is freed. `view` is as it was, and no desk
- * is touched. A bad submission has a verdict, too. */
+/* Has `verdict` hold a verdict on a submission; what it held is freed then. `view` is as it was, and no
+ * desk is touched. A bad submission has a verdict, too. Whatever isn't KFS_DONE leaves `verdict` as it
+ * was. */
 uint32_t kfs_judge(struct kfs *view, uint32_t client, const uint8_t *log, size_t log_len,
                    const uint8_t *plan, size_t plan_len, struct kfs *verdict);
 
 /* Lands a verdict, whatever view it is from; it is judged again only where it has to be. The verdict is
- * used up, but for KFS_CLOSED and KFS_WRONG_KIND, which may be said of either handle. */
+ * used up, for KFS_NO_MEMORY and KFS_FULL too: to try again, judge again. It stays where the answer is
+ * KFS_CLOSED or KFS_WRONG_KIND, which may be said of either handle. */
 uint32_t kfs_land(struct kfs *handle, struct kfs *verdict, struct kfs_reply *reply);
 
 /* Writes the plan of a client's log, against the state now, into the front of the buffer. As kfs_save
- * otherwise. KFS_NOTHING: there is none, since the log has a fault. KFS_REFUSED: no such client. */
+ * otherwise. KFS_NOTHING: there is none, since the bytes are no log of this client, or the log has a
+ * fault, whatever leases the client gets. KFS_REFUSED: the desk has no such client. */
 uint32_t kfs_plan(struct kfs *handle, uint32_t client, const uint8_t *log, size_t log_len,
                   uint8_t *buffer, size_t buffer_len, size_t *len);
 
@@ -307,7 +324,7 @@ uint32_t kfs_name(struct kfs *handle, uint32_t directory, const uint8_t *after, 
                   uint8_t *name, size_t name_len, size_t *len, uint32_t *number);
 
 /* Bytes of a file from `start` on, as pread(): `count` tells how many, 0 at the file's end. No check is
- * made of who reads. KFS_NOTHING: no such node. KFS_REFUSED: a directory. */
+ * made of who reads. KFS_NOTHING: no such node. KFS_DIRECTORY: the node is one. */
 uint32_t kfs_read(struct kfs *handle, uint32_t number, uint64_t start,
                   uint8_t *buffer, size_t buffer_len, size_t *count);
 
@@ -323,6 +340,31 @@ uint32_t kfs_docket_len(struct kfs *handle, uint32_t *count);
 /* Writes the image's bytes into the front of the buffer. `len` tells how many there are, also for
  * KFS_SHORT; so ask with a buffer of length 0 first. The docket and the leases aren't in them. */
 uint32_t kfs_save(struct kfs *handle, uint8_t *buffer, size_t buffer_len, size_t *len);
+
+/* ---- one handle for two */
+
+static inline uint32_t kfs_look_apart(struct kfs *handle, struct kfs *view)
+{
+    return handle == view ? (uint32_t)KFS_SAME_HANDLE : kfs_look(handle, view);
+}
+
+static inline uint32_t kfs_judge_apart(struct kfs *view, uint32_t client, const uint8_t *log, size_t log_len,
+                                       const uint8_t *plan, size_t plan_len, struct kfs *verdict)
+{
+    if (view == verdict) return KFS_SAME_HANDLE;
+    return kfs_judge(view, client, log, log_len, plan, plan_len, verdict);
+}
+
+static inline uint32_t kfs_land_apart(struct kfs *handle, struct kfs *verdict, struct kfs_reply *reply)
+{
+    return handle == verdict ? (uint32_t)KFS_SAME_HANDLE : kfs_land(handle, verdict, reply);
+}
+
+/* Calls of these three names look first whether there are two handles. */
+#define kfs_look(handle, view) kfs_look_apart(handle, view)
+#define kfs_judge(view, client, log, log_len, plan, plan_len, verdict) \
+    kfs_judge_apart(view, client, log, log_len, plan, plan_len, verdict)
+#define kfs_land(handle, verdict, reply) kfs_land_apart(handle, verdict, reply)
 
 /* ---- errno */
 
@@ -370,6 +412,7 @@ static inline int kfs_status_errno(uint32_t status)
     case KFS_NOTHING: return ENOENT;
     case KFS_SHORT: return ERANGE;
     case KFS_CLOSED: return EBADF;
+    case KFS_DIRECTORY: return EISDIR;
     default: return EINVAL;
     }
 }

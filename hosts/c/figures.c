@@ -80,7 +80,7 @@ static uint8_t payload[PAYLOAD], read_back[PAYLOAD];
 
 static void submit(struct kfs *desk, const uint8_t *log, size_t log_len, const uint8_t *of, size_t of_len, struct times *times)
 {
-    struct kfs_reply reply;
+    struct kfs_reply reply = { 0 };
     double begun = now();
     uint32_t status = kfs_submit(desk, 7, log, log_len, of, of_len, &reply);
     if (times) took(times, begun);
@@ -97,8 +97,8 @@ static void open_desk(struct kfs *desk)
 {
     struct kfs_client client = { .number = 7, .uid = 0, .gid = 0, .first = 2, .last = 65536, .privileged = true };
     uint32_t none = 0;
-    struct kfs_fault fault;
-    struct kfs_act act;
+    struct kfs_fault fault = { 0 };
+    struct kfs_act act = { 0 };
     must(kfs_open(desk, 4096, 0, 0, &client, 1, &none, 0, UINT32_MAX, &fault) == KFS_DONE, "not opened");
     must(kfs_lease(desk, 7, (const uint8_t *)"/", 1, true, 9, &act) == KFS_DONE && act.done, "no lease");
     for (uint32_t i = 0; i < ROUNDS * FILES; i++) {

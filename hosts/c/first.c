@@ -12,8 +12,8 @@ static int serve(const uint8_t *log, size_t log_len, struct kfs_reply *reply)
     struct kfs desk = { 0 }, view = { 0 }, verdict = { 0 };
     struct kfs_client client = { .number = 7, .uid = 1000, .gid = 1000, .first = 2, .last = 99 };
     uint32_t groups[1] = { 50 };
-    struct kfs_fault fault;
-    struct kfs_act act;
+    struct kfs_fault fault = { 0 };
+    struct kfs_act act = { 0 };
     uint8_t none, *plan = NULL;
     size_t len = 0;
     client.groups_count = 1;

@@ -294,7 +294,7 @@ static bool lease_line(void)
 {
     uint32_t client;
     uint64_t end;
-    struct kfs_act act;
+    struct kfs_act act = { 0 };
     if (words_len != 5 || !number32(words[1], &client) || strlen(words[3]) != 1 || !strchr("rw", words[3][0])
         || !number(words[4], UINT64_MAX, &end)) return false;
     if (is_done(kfs_lease(&server.desk, client, (uint8_t *)words[2], strlen(words[2]), words[3][0] == 'w', end, &act)))
@@ -305,7 +305,7 @@ static bool lease_line(void)
 static bool drop_line(void)
 {
     uint32_t client, node;
-    struct kfs_act act;
+    struct kfs_act act = { 0 };
     if (words_len != 3 || !number32(words[1], &client) || !number32(words[2], &node)) return false;
     if (is_done(kfs_drop(&server.desk, client, node, &act))) say_act(&act, "dropped", lease_faults);
     return true;
@@ -314,7 +314,7 @@ static bool drop_line(void)
 static bool tick_line(void)
 {
     uint64_t moment;
-    struct kfs_act act;
+    struct kfs_act act = { 0 };
     if (words_len != 2 || !number(words[1], UINT64_MAX, &moment)) return false;
     if (is_done(kfs_tick(&server.desk, moment, &act))) say_act(&act, "ticked", lease_faults);
     return true;
@@ -324,7 +324,7 @@ static bool move_line(void)
 {
     static struct kfs_move moves[WORDS / 4];
     size_t count = words_len / 4;
-    struct kfs_act act;
+    struct kfs_act act = { 0 };
     if (words_len % 4 != 1 || !count) return false;
     for (size_t i = 0; i < count; i++) {
         uint64_t tier;
@@ -342,7 +342,7 @@ static bool submit_line(void)
     uint32_t client;
     uint8_t *log, *plan;
     size_t log_len, plan_len;
-    struct kfs_reply reply;
+    struct kfs_reply reply = { 0 };
     if (words_len != 4 || !number32(words[1], &client) || !bytes(words[2], &log, &log_len)
         || !bytes(words[3], &plan, &plan_len)) return false;
     uint64_t begun = nanoseconds();
@@ -377,7 +377,7 @@ static bool judge_line(void)
 static bool land_line(void)
 {
     uint32_t worker;
-    struct kfs_reply reply;
+    struct kfs_reply reply = { 0 };
     if (words_len != 2 || !number32(words[1], &worker) || worker >= WORKERS || !server.held[worker]) return false;
     server.held[worker] = false;
     uint64_t begun = nanoseconds();
@@ -414,7 +414,7 @@ static bool plan_line(void)
 static bool node_line(void)
 {
     uint32_t at;
-    struct kfs_node node;
+    struct kfs_node node = { 0 };
     if (words_len != 2 || !number32(words[1], &at)) return false;
     if (kfs_node(&server.desk, at, &node) == KFS_NOTHING) {
         puts("none");
@@ -428,7 +428,7 @@ static bool node_line(void)
 static bool list_line(void)
 {
     uint32_t at, leads;
-    struct kfs_node node;
+    struct kfs_node node = { 0 };
     uint8_t name[KFS_NAME_LIMIT];
     size_t len = 0;
     if (words_len != 2 || !number32(words[1], &at)) return false;
@@ -459,7 +459,7 @@ static bool read_line(void)
     uint32_t status = kfs_read(&server.desk, at, start, buffer, most, &count);
     if (status == KFS_NOTHING) {
         puts("read NoSuchNode");
-    } else if (status == KFS_REFUSED) {
+    } else if (status == KFS_DIRECTORY) {
         puts("read IsDirectory");
     } else if (is_done(status)) {
         printf("bytes ");
@@ -484,7 +484,7 @@ static bool save_line(void)
     uint8_t none, *image, *again;
     size_t len, len_again;
     struct kfs copy = { 0 };
-    struct kfs_fault fault;
+    struct kfs_fault fault = { 0 };
     if (words_len != 1) return false;
     uint32_t status = kfs_save(&server.desk, &none, 0, &len);
     if (status != KFS_SHORT) return is_done(status) || true;

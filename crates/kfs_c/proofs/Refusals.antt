@@ -1,5 +1,5 @@
 -- Why no desk is opened, as it is told.
-use Rattle.std.proofs.Common.{◌≡◌, ◌⊎◌, inl, inr, ℕ, ◌+◌, ◌<◌, ◌++◌, List, ◌∷◌, Some, Result, Ok, Err, length, take, drop, refl, sym, ap, subst, ◌∙◌, take-append-drop, arith}
+use Rattle.std.proofs.Common.{◌≡◌, ◌⊎◌, inl, inr, ℕ, ◌+◌, ◌<◌, ◌++◌, List, ◌∷◌, All, Some, Result, Ok, Err, length, take, drop, refl, sym, ap, subst, ◌∙◌, take-append-drop, arith}
 use Rattle.std.proofs.lemmas.List.{length-take-le}
 use Rattle.std.specs.Prelude.{IfErr, IsErrAnd}
 use Rattle.kfs_model.specs.Access.{Client}
@@ -18,7 +18,7 @@ use Rattle.kfs_c.specs.declared.numbers.ClientRow.{ClientRow}
 use Rattle.kfs_c_submission.specs.declared.numbers.FaultNumbers.{FaultNumbers}
 use Rattle.kfs_c.specs.declared.opening.Unopened.{Unopened}
 use Rattle.kfs_c.specs.declared.opening.Unopened.TheVariants.{NoMemory, Refused}
-use Rattle.kfs_c.specs.Opening.{AreClientsRefused, AreRowsRefused, BreaksRule, IsNoImage, IsRowRefused, IsRefusedAs, broken_as, unbegun_as, unread_as}
+use Rattle.kfs_c.specs.Opening.{AreClientsRefused, AreRowsRefused, BreaksRule, IsNoImage, IsRowRefused, IsRowRight, IsRefusedAs, broken_as, unbegun_as, unread_as}
 
 -- what is said wherever a fault is told
 refused_by : (Says : FaultNumbers → Type 0) (why : Unopened) → ((told : FaultNumbers) → why ≡ Refused told → Says told) → IsRefusedAs Says why
@@ -45,11 +45,11 @@ pub passed_on : {A : Type 0} (Says : FaultNumbers → Type 0) (why : Unopened) (
 passed_on Says why (Ok value) given is = tt
 passed_on Says why (Err found) given is = subst (IsRefusedAs Says) (sym given) is
 
--- the row at this index
-pub row_refused : (groups : List ℕ) (rows : List ClientRow) (i : ℕ) (row : ClientRow) (why : Unopened) → i < length rows → drop i rows ≡ row ∷ drop (i + 1) rows
+-- the row at this index, where those above it are right
+pub row_refused : (groups : List ℕ) (rows : List ClientRow) (i : ℕ) (row : ClientRow) (why : Unopened) → i < length rows → drop i rows ≡ row ∷ drop (i + 1) rows → All (IsRowRight groups) (take i rows)
     → IsRefusedAs (IsRowRefused groups row i) why → IsRefusedAs (AreRowsRefused groups rows) why
-row_refused groups rows i row why below ahead =
+row_refused groups rows i row why below ahead right =
     let cut : rows ≡ take i rows ++ row ∷ drop (i + 1) rows = sym (take-append-drop i rows) ∙ ap (λ rest. take i rows ++ rest) ahead in
     let index : i ≡ length (take i rows) = sym (length-take-le i rows (omega (arith, below))) in
     refused_more (IsRowRefused groups row i) (AreRowsRefused groups rows) why
-    (λ told is. (take i rows, row, drop (i + 1) rows, cut, subst (λ at. IsRowRefused groups row at told) index is))
+    (λ told is. (take i rows, row, drop (i + 1) rows, cut, right, subst (λ at. IsRowRefused groups row at told) index is))

@@ -8,7 +8,7 @@ use Rattle.std.specs.contracts.impls.GlobalAllocator.TheImpl.{ghosts}
 use Rattle.kfs_judge_check.proofs.view.View.TheSendSync as view
 use Rattle.kfs_plan.specs.contracts.judged.Judged as Judged
 use Rattle.kfs_plan.proofs.judged.Judged.TheSendSync as judged
-use Rattle.kfs_workers_threads.proofs.Sent.{desk_send}
+use Rattle.kfs_desk.proofs.Sent.{desk_send}
 use Rattle.kfs_workers_verdict.specs.contracts.desk_view.DeskView as DeskView
 use Rattle.kfs_c.specs.contracts.held.Held as Held
 

@@ -1,5 +1,5 @@
 -- Clients as a host gives them, and why no desk is opened.
-use Rattle.std.specs.Prelude.{◌≡◌, ◌⊎◌, ◌<◌, ◌≤◌, ℕ, ◌+◌, List, ◌∷◌, ◌++◌, length, map, slice_range, IsFalse, Ok, Some}
+use Rattle.std.specs.Prelude.{◌≡◌, ◌⊎◌, ◌<◌, ◌≤◌, ℕ, ◌+◌, List, ◌∷◌, ◌++◌, length, map, slice_range, All, IsFalse, IsTrue, Ok, Some}
 use Rattle.kfs_model.specs.Access.{Client, is_grant}
 use Rattle.kfs_model.specs.Limits.{group_limit}
 use Rattle.kfs_model.specs.Machine.{opening}
@@ -104,11 +104,17 @@ IsRowRefused groups row index told =
     ((length groups < row.groups_start + row.groups_count) × (told ≡ stray_told index))
     ⊎ ((why : ClientFault) × IsMisfit (groups_of groups row) row.first row.last why × (told ≡ misfit_told index why))
 
--- one of the rows is refused so
+-- the row's groups lie in the list, and its client can be
+pub record IsRowRight (groups : List ℕ) (row : ClientRow) : Type 0 where
+  pub within : row.groups_start + row.groups_count ≤ length groups
+  pub few : length (groups_of groups row) ≤ group_limit
+  pub grant : IsTrue (is_grant row.first row.last)
+
+-- the first row that isn't right is refused so
 abbrev pub AreRowsRefused : (groups : List ℕ) → List ClientRow → FaultNumbers → Type 0
 AreRowsRefused groups rows told =
     (earlier : List ClientRow) × (row : ClientRow) × (later : List ClientRow)
-    × (rows ≡ earlier ++ row ∷ later) × IsRowRefused groups row (length earlier) told
+    × (rows ≡ earlier ++ row ∷ later) × All (IsRowRight groups) earlier × IsRowRefused groups row (length earlier) told
 
 -- the first client that can't follow those before it is refused so
 abbrev pub AreClientsRefused : List Client → FaultNumbers → Type 0

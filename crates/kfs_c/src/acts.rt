@@ -34,6 +34,7 @@ pub extern "C" fn kfs_lease(
     ensures full { (result ≡ status.full) ↔ OnDesk handle.old.value IsFull }
     ensures closed { (result ≡ status.closed) ↔ (handle.old.value ≡ None) }
     ensures wrong { (result ≡ status.wrong_kind) ↔ HoldsNoDesk handle.old.value }
+    ensures known { result ≤ status.wrong_kind }
     ensures range { result < status.closed → result ≤ status.full }
 {
     on_desk!(alloc, handle, &mut desk => lease(desk, client, path, write, end, reply))
@@ -81,6 +82,7 @@ pub extern "C" fn kfs_drop(
     ensures full { (result ≡ status.full) ↔ OnDesk handle.old.value IsFull }
     ensures closed { (result ≡ status.closed) ↔ (handle.old.value ≡ None) }
     ensures wrong { (result ≡ status.wrong_kind) ↔ HoldsNoDesk handle.old.value }
+    ensures known { result ≤ status.wrong_kind }
     ensures range { result < status.closed → result ≤ status.full }
 {
     on_desk!(alloc, handle, &mut desk => drop_lease(desk, client, number, reply))
@@ -109,6 +111,7 @@ pub extern "C" fn kfs_tick(
     ensures full { (result ≡ status.full) ↔ OnDesk handle.old.value IsFull }
     ensures closed { (result ≡ status.closed) ↔ (handle.old.value ≡ None) }
     ensures wrong { (result ≡ status.wrong_kind) ↔ HoldsNoDesk handle.old.value }
+    ensures known { result ≤ status.wrong_kind }
     ensures range { result < status.closed → result ≤ status.full }
 {
     on_desk!(alloc, handle, &mut desk => tick(desk, moment, reply))
@@ -134,9 +137,10 @@ pub extern "C" fn kfs_migrate(
 ) -> u32
     ensures answered { result ≡ status.done → OnDesks handle.old.value handle.new.value (AreMoved moves.now reply.new) }
     ensures unanswered { 1 ≤ result → (handle.new.value ≡ handle.old.value) × (reply.new ≡ reply.old) }
-    ensures full { result ≡ status.full → OnDesk handle.old.value IsFull }
+    ensures full { (result ≡ status.full) ↔ OnDesk handle.old.value IsFull }
     ensures closed { (result ≡ status.closed) ↔ (handle.old.value ≡ None) }
     ensures wrong { (result ≡ status.wrong_kind) ↔ HoldsNoDesk handle.old.value }
+    ensures known { result ≤ status.wrong_kind }
     ensures range { result < status.closed → result ≤ status.full }
 {
     on_desk!(alloc, handle, &mut desk => migrate(alloc, desk, moves, reply))
@@ -146,9 +150,12 @@ pub extern "C" fn kfs_migrate(
 fn migrate(alloc: Global, desk: &mut Desk<Global>, moves: &[MoveRow], reply: &mut ActNumbers) -> u32
     ensures answered { result ≡ status.done → AreMoved moves.now reply.new desk.old desk.new }
     ensures unanswered { 1 ≤ result → (desk.new ≡ desk.old) × (reply.new ≡ reply.old) }
-    ensures full { result ≡ status.full → IsFull desk.old }
+    ensures full { (result ≡ status.full) ↔ IsFull desk.old }
     ensures range { result ≤ status.full }
 {
+    if desk.is_full() {
+        return FULL;
+    }
     let Ok(moves) = moves_from(alloc, moves) else {
         return NO_MEMORY;
     };

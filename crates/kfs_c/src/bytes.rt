@@ -8,7 +8,7 @@ ghost use Rattle.kfs_c_loose.specs.Status as status;
 
 use crate::handle::Handle;
 use crate::on_desk;
-use kfs_c_loose::status::{DONE, NO_MEMORY, NOTHING, REFUSED, SHORT};
+use kfs_c_loose::status::{DIRECTORY, DONE, NO_MEMORY, NOTHING, REFUSED, SHORT};
 use kfs_desk::Desk;
 use kfs_image::{ReadFault, read_file};
 use kfs_image_encode::encode_image;
@@ -27,7 +27,7 @@ enum Unplanned {
 }
 
 /// Reads bytes of a file into the front of the buffer, from position `start` on (POSIX `pread`).
-/// `count` tells how many. `NOTHING` where there is no such node, `REFUSED` where it is a directory.
+/// `count` tells how many. `NOTHING` where there is no such node, `DIRECTORY` where it is one.
 #[unsafe(no_mangle)]
 pub extern "C" fn kfs_read(
     alloc: Global,
@@ -39,12 +39,13 @@ pub extern "C" fn kfs_read(
 ) -> u32
     ensures read { result ≡ status.done → OnDesk handle.old.value (IsRead number start buffer.old buffer.new count.new) }
     ensures nothing { (result ≡ status.nothing) ↔ OnDesk handle.old.value (HasNoNode number) }
-    ensures refused { (result ≡ status.refused) ↔ OnDesk handle.old.value (IsDirectoryAt number) }
+    ensures directory { (result ≡ status.directory) ↔ OnDesk handle.old.value (IsDirectoryAt number) }
     ensures silent { 1 ≤ result → (buffer.new ≡ buffer.old) × (count.new ≡ count.old) }
     ensures kept { handle.new.value ≡ handle.old.value }
     ensures closed { (result ≡ status.closed) ↔ (handle.old.value ≡ None) }
     ensures wrong { (result ≡ status.wrong_kind) ↔ HoldsNoDesk handle.old.value }
-    ensures only { result < status.closed → (result ≡ status.done) ⊎ (result ≡ status.nothing) ⊎ (result ≡ status.refused) }
+    ensures known { result ≤ status.directory }
+    ensures only { result < status.closed → (result ≡ status.done) ⊎ (result ≡ status.nothing) }
 {
     on_desk!(alloc, handle, &desk => read(desk, number, start, buffer, count))
 }
@@ -52,9 +53,9 @@ pub extern "C" fn kfs_read(
 fn read(desk: &Desk<Global>, number: u32, start: u64, buffer: &mut [u8], count: &mut usize) -> u32
     ensures read { result ≡ status.done → IsRead number start buffer.old buffer.new count.new desk.now }
     ensures nothing { (result ≡ status.nothing) ↔ HasNoNode number desk.now }
-    ensures refused { (result ≡ status.refused) ↔ IsDirectoryAt number desk.now }
+    ensures directory { (result ≡ status.directory) ↔ IsDirectoryAt number desk.now }
     ensures silent { 1 ≤ result → (buffer.new ≡ buffer.old) × (count.new ≡ count.old) }
-    ensures only { (result ≡ status.done) ⊎ (result ≡ status.nothing) ⊎ (result ≡ status.refused) }
+    ensures only { (result ≡ status.done) ⊎ (result ≡ status.nothing) ⊎ (result ≡ status.directory) }
 {
     match read_node(desk, number, start, buffer) {
         Ok(many) => {
@@ -62,7 +63,7 @@ fn read(desk: &Desk<Global>, number: u32, start: u64, buffer: &mut [u8], count: 
             DONE
         }
         Err(ReadFault::NoSuchNode) => NOTHING,
-        Err(ReadFault::IsDirectory) => REFUSED,
+        Err(ReadFault::IsDirectory) => DIRECTORY,
     }
 }
 
@@ -100,6 +101,7 @@ pub extern "C" fn kfs_save(
     ensures kept { handle.new.value ≡ handle.old.value }
     ensures closed { (result ≡ status.closed) ↔ (handle.old.value ≡ None) }
     ensures wrong { (result ≡ status.wrong_kind) ↔ HoldsNoDesk handle.old.value }
+    ensures known { result ≤ status.wrong_kind }
     ensures only { result < status.closed → (result ≡ status.done) ⊎ (result ≡ status.no_memory) ⊎ (result ≡ status.short) }
 {
     on_desk!(alloc, handle, &desk => save(alloc, desk, buffer, len))
@@ -145,6 +147,7 @@ pub extern "C" fn kfs_plan(
     ensures kept { handle.new.value ≡ handle.old.value }
     ensures closed { (result ≡ status.closed) ↔ (handle.old.value ≡ None) }
     ensures wrong { (result ≡ status.wrong_kind) ↔ HoldsNoDesk handle.old.value }
+    ensures known { result ≤ status.wrong_kind }
     ensures not_full { (result ≡ status.full) → ⊥ }
 {
     on_desk!(alloc, handle, &desk => plan(alloc, desk, client, log, buffer, len))

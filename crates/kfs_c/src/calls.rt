@@ -22,9 +22,10 @@ pub extern "C" fn kfs_submit(
 ) -> u32
     ensures answered { result ≡ status.done → OnDesks handle.old.value handle.new.value (IsSubmitted client log.now plan.now reply.new) }
     ensures unanswered { 1 ≤ result → (handle.new.value ≡ handle.old.value) × (reply.new ≡ reply.old) }
-    ensures full { result ≡ status.full → OnDesk handle.old.value IsFull }
+    ensures full { (result ≡ status.full) ↔ OnDesk handle.old.value IsFull }
     ensures closed { (result ≡ status.closed) ↔ (handle.old.value ≡ None) }
     ensures wrong { (result ≡ status.wrong_kind) ↔ HoldsNoDesk handle.old.value }
+    ensures known { result ≤ status.wrong_kind }
     ensures range { result < status.closed → result ≤ status.full }
 {
     on_desk!(alloc, handle, &mut desk => submit(desk, client, log, plan, reply))

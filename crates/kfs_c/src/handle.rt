@@ -8,9 +8,9 @@ use kfs_c_loose::Loose;
 use std::alloc::Global;
 use std::marker::Model;
 
-/// A pointer, and whether something lies there. All zero is a handle that holds nothing.
+/// A pointer, and whether something lies there. All zero is a handle that holds nothing. It isn't droppable:
+/// what it holds is taken out before it goes.
 #[repr(C)]
-#[derive(Drop)]
 pub struct Handle {
     at: *mut u8,
     full: bool,

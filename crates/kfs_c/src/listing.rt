@@ -33,6 +33,7 @@ pub extern "C" fn kfs_name(
     ensures kept { handle.new.value ≡ handle.old.value }
     ensures closed { (result ≡ status.closed) ↔ (handle.old.value ≡ None) }
     ensures wrong { (result ≡ status.wrong_kind) ↔ HoldsNoDesk handle.old.value }
+    ensures known { result ≤ status.wrong_kind }
     ensures only { result < status.closed → (result ≡ status.done) ⊎ (status.nothing ≤ result) }
 {
     on_desk!(alloc, handle, &desk => find_name(desk, directory, after, buffer, len, number))

@@ -30,6 +30,7 @@ pub extern "C" fn kfs_node(
     ensures kept { handle.new.value ≡ handle.old.value }
     ensures closed { (result ≡ status.closed) ↔ (handle.old.value ≡ None) }
     ensures wrong { (result ≡ status.wrong_kind) ↔ HoldsNoDesk handle.old.value }
+    ensures known { result ≤ status.wrong_kind }
     ensures only { result < status.closed → (result ≡ status.done) ⊎ (result ≡ status.nothing) }
 {
     on_desk!(alloc, handle, &desk => find_node(desk, number, node))
@@ -74,6 +75,7 @@ pub extern "C" fn kfs_place(
     ensures kept { handle.new.value ≡ handle.old.value }
     ensures closed { (result ≡ status.closed) ↔ (handle.old.value ≡ None) }
     ensures wrong { (result ≡ status.wrong_kind) ↔ HoldsNoDesk handle.old.value }
+    ensures known { result ≤ status.wrong_kind }
     ensures only { result < status.closed → (result ≡ status.done) ⊎ (result ≡ status.nothing) }
 {
     on_desk!(alloc, handle, &desk => find_place(desk, number, block, tier, place))
@@ -101,6 +103,7 @@ pub extern "C" fn kfs_free(alloc: Global, handle: &mut Handle, tier: u8, count: 
     ensures kept { handle.new.value ≡ handle.old.value }
     ensures closed { (result ≡ status.closed) ↔ (handle.old.value ≡ None) }
     ensures wrong { (result ≡ status.wrong_kind) ↔ HoldsNoDesk handle.old.value }
+    ensures known { result ≤ status.wrong_kind }
     ensures only { result < status.closed → result ≡ status.done }
 {
     on_desk!(alloc, handle, &desk => {
@@ -117,6 +120,7 @@ pub extern "C" fn kfs_docket_len(alloc: Global, handle: &mut Handle, count: &mut
     ensures kept { handle.new.value ≡ handle.old.value }
     ensures closed { (result ≡ status.closed) ↔ (handle.old.value ≡ None) }
     ensures wrong { (result ≡ status.wrong_kind) ↔ HoldsNoDesk handle.old.value }
+    ensures known { result ≤ status.wrong_kind }
     ensures only { result < status.closed → result ≡ status.done }
 {
     on_desk!(alloc, handle, &desk => {

@@ -1,11 +1,11 @@
 //! Opening and closing.
-ghost use Rattle.std.specs.Prelude.{◌≡◌, ◌≤◌, ◌⊎◌, ◌++◌, ◌∷◌, [], None, IfErr, IfOk, OnOk, Ok, Some, map};
+ghost use Rattle.std.specs.Prelude.{◌≡◌, ◌≤◌, ◌⊎◌, ◌++◌, ◌∷◌, [], All, None, IfErr, IfOk, OnOk, Ok, Some, map};
 ghost use Rattle.kfs_image_codec.specs.RawImages.{raw_of};
 ghost use Rattle.kfs_model_device.specs.RawImage.{image_of};
 ghost use Rattle.kfs_model_device.specs.Finding.{IsWellFormed};
 ghost use Rattle.kfs_model_device.specs.Spelling.{ImageAnswer};
 ghost use Rattle.kfs_c.specs.Holding.{OnDesk};
-ghost use Rattle.kfs_c.specs.Opening.{AreClientsRefused, AreRowsRefused, IsBegun, IsBegunWith, IsImageRefused, IsLoaded, IsLoadedWith, IsNoImage, IsOpenedWith, IsOpeningRefused, IsRowRefused, IsUnloaded, IsUnopened, IsRefusedAs, broken_as, client_of, misfit_told, sizes_of, sizes_told, stray_told, unbegun_as, unread_as};
+ghost use Rattle.kfs_c.specs.Opening.{AreClientsRefused, AreRowsRefused, IsBegun, IsBegunWith, IsImageRefused, IsLoaded, IsLoadedWith, IsNoImage, IsOpenedWith, IsOpeningRefused, IsRowRefused, IsRowRight, IsUnloaded, IsUnopened, IsRefusedAs, broken_as, client_of, misfit_told, sizes_of, sizes_told, stray_told, unbegun_as, unread_as};
 ghost use Rattle.kfs_c_loose.specs.Status as status;
 
 use crate::handle::Handle;
@@ -46,7 +46,7 @@ pub(crate) fn let_go(alloc: Global, handle: &mut Handle)
 }
 
 /// Has the handle hold a desk with a new image of these tier sizes, in blocks, and these clients. What
-/// it held is freed. The docket will have at most `limit` rows.
+/// it held is freed then; where no desk is opened, it is kept. The docket will have at most `limit` rows.
 ///
 /// `REFUSED` with a fault of code 1 where a tier is larger than 65,536 blocks, of code 2 for a client
 /// that can't be, of code 3 for clients that can't be together.
@@ -63,11 +63,13 @@ pub extern "C" fn kfs_open(
     fault: &mut FaultNumbers,
 ) -> u32
     ensures opened { result ≡ status.done → OnDesk handle.new.value (IsOpenedWith (sizes_of first second third) groups.now clients.now limit) }
+    // No row is wrong then. Where one is, the first of them is told.
+    ensures rows { result ≡ status.done → All (IsRowRight groups.now) clients.now }
     ensures refused { result ≡ status.refused → IsUnopened (sizes_of first second third) groups.now clients.now fault.new }
-    ensures unopened { 1 ≤ result → handle.new.value ≡ None }
+    ensures unopened { 1 ≤ result → handle.new.value ≡ handle.old.value }
+    ensures silent { result ≤ status.no_memory → fault.new ≡ fault.old }
     ensures only { (result ≡ status.done) ⊎ (result ≡ status.no_memory) ⊎ (result ≡ status.refused) }
 {
-    let_go(alloc, handle);
     let Some(sizes) = TierSizes::new(first, second, third) else {
         *fault = bad_sizes();
         return REFUSED;
@@ -85,8 +87,8 @@ fn bad_sizes() -> FaultNumbers
     fault(1, 0, 0, 0)
 }
 
-/// Has the handle hold a desk with the image that the bytes spell, and these clients. What it held is
-/// freed. As `kfs_open` otherwise; `REFUSED` also with a fault of code 4 for bytes that are no image,
+/// Has the handle hold a desk with the image that the bytes spell, and these clients. As `kfs_open`
+/// otherwise; `REFUSED` also with a fault of code 4 for bytes that are no image,
 /// and of code 5 for an image that breaks a rule.
 #[unsafe(no_mangle)]
 pub extern "C" fn kfs_load(
@@ -99,11 +101,13 @@ pub extern "C" fn kfs_load(
     fault: &mut FaultNumbers,
 ) -> u32
     ensures opened { result ≡ status.done → OnDesk handle.new.value (IsLoadedWith bytes.now groups.now clients.now limit) }
+    // No row is wrong then. Where one is, the first of them is told.
+    ensures rows { result ≡ status.done → All (IsRowRight groups.now) clients.now }
     ensures refused { result ≡ status.refused → IsUnloaded bytes.now groups.now clients.now fault.new }
-    ensures unopened { 1 ≤ result → handle.new.value ≡ None }
+    ensures unopened { 1 ≤ result → handle.new.value ≡ handle.old.value }
+    ensures silent { result ≤ status.no_memory → fault.new ≡ fault.old }
     ensures only { (result ≡ status.done) ⊎ (result ≡ status.no_memory) ⊎ (result ≡ status.refused) }
 {
-    let_go(alloc, handle);
     match load(alloc, bytes) {
         Ok(image) => open(alloc, handle, image, clients, groups, limit, fault),
         Err(why) => tell(why, fault),
@@ -113,6 +117,7 @@ pub extern "C" fn kfs_load(
 /// Tells why no desk is opened.
 fn tell(why: Unopened, fault: &mut FaultNumbers) -> u32
     ensures refused { result ≡ status.refused → why ≡ Unopened.Refused fault.new }
+    ensures silent { result ≡ status.no_memory → fault.new ≡ fault.old }
     ensures only { (result ≡ status.no_memory) ⊎ (result ≡ status.refused) }
 {
     match why {
@@ -187,7 +192,7 @@ fn image_from(alloc: Global, raw: RawImage<Global>) -> Result<Image<Global>, Uno
     }
 }
 
-/// Has the handle, which holds nothing, hold a desk with this image and these clients.
+/// Has the handle hold a desk with this image and these clients. What it held is freed then.
 fn open(
     alloc: Global,
     handle: &mut Handle,
@@ -198,13 +203,15 @@ fn open(
     fault: &mut FaultNumbers,
 ) -> u32
     ensures opened { result ≡ status.done → OnDesk handle.new.value (IsBegunWith image groups.now clients.now limit) }
+    ensures rows { result ≡ status.done → All (IsRowRight groups.now) clients.now }
     ensures refused { result ≡ status.refused → IsOpeningRefused groups.now clients.now fault.new }
     ensures unopened { 1 ≤ result → handle.new.value ≡ handle.old.value }
+    ensures silent { result ≤ status.no_memory → fault.new ≡ fault.old }
     ensures only { (result ≡ status.done) ⊎ (result ≡ status.no_memory) ⊎ (result ≡ status.refused) }
 {
     match begin_with(alloc, image, clients, groups, limit) {
         Ok(held) => {
-            put_in(handle, held);
+            put_in(alloc, handle, held);
             DONE
         }
         Err(why) => tell(why, fault),
@@ -220,6 +227,7 @@ fn begin_with(
     limit: u32,
 ) -> Result<Box<Held, Global>, Unopened>
     ensures begun { IfOk result (λ held. OnDesk (Some held.value) (IsBegunWith image groups.now clients.now limit)) }
+    ensures rows { IfOk result (λ _. All (IsRowRight groups.now) clients.now) }
     ensures refused { IfErr result (IsRefusedAs (IsOpeningRefused groups.now clients.now)) }
 {
     let clients = clients_from(alloc, clients, groups)?;
@@ -272,6 +280,7 @@ fn clients_from(
     groups: &[u32],
 ) -> Result<Vec<Client, Global>, Unopened>
     ensures made { IfOk result (λ clients. clients.items ≡ map (client_of groups.now) rows.now) }
+    ensures right { IfOk result (λ _. All (IsRowRight groups.now) rows.now) }
     ensures refused { IfErr result (IsRefusedAs (AreRowsRefused groups.now rows.now)) }
 {
     let mut clients = Vec::new(alloc);
@@ -296,6 +305,7 @@ fn add(clients: &mut Vec<Client, Global>, client: Client) -> Result<(), Unopened
 /// The client that a row says, which is the one with this index.
 fn client_from(row: &ClientRow, groups: &[u32], index: usize) -> Result<Client, Unopened>
     ensures made { IfOk result (λ client. client ≡ client_of groups.now row.now) }
+    ensures right { IfOk result (λ _. IsRowRight groups.now row.now) }
     ensures refused { IfErr result (IsRefusedAs (IsRowRefused groups.now row.now index)) }
 {
     let start = row.groups_start as usize;

@@ -20,11 +20,15 @@ pub(crate) fn take_out(alloc: Global, handle: &mut Handle) -> Option<Box<Held, G
     Some(loose.into_box())
 }
 
-/// Has the handle hold this. Only for a handle that holds nothing: what it held would be lost.
-pub(crate) fn put_in(handle: &mut Handle, held: Box<Held, Global>)
+/// Has the handle hold this. What it held is freed.
+pub(crate) fn put_in(alloc: Global, handle: &mut Handle, held: Box<Held, Global>)
     ensures { handle.new.value ≡ Some held.value }
 {
-    *handle = Handle::full(Loose::of(held));
+    let before = replace(handle, Handle::full(Loose::of(held)));
+    match before.take(alloc) {
+        Some(loose) => drop(loose.into_box()),
+        None => (),
+    }
 }
 
 /// Takes out the box with the desk that the handle holds. Where it holds none, the error is `closed()` or
@@ -40,11 +44,11 @@ pub(crate) fn take_desk(alloc: Global, handle: &mut Handle) -> Result<Box<Held, 
     match &*held {
         Held::Desk(_) => Ok(held),
         Held::View(_) => {
-            put_in(handle, held);
+            put_in(alloc, handle, held);
             Err(WRONG_KIND)
         }
         Held::Verdict(_) => {
-            put_in(handle, held);
+            put_in(alloc, handle, held);
             Err(WRONG_KIND)
         }
     }
@@ -72,7 +76,7 @@ macro_rules! on_desk {
                     $crate::held::Held::Desk($desk) => $call,
                     $crate::held::Held::View(_) | $crate::held::Held::Verdict(_) => unreachable!(),
                 };
-                $crate::slot::put_in($handle, held);
+                $crate::slot::put_in($alloc, $handle, held);
                 status
             }
             Err(status) => status,
@@ -83,7 +87,7 @@ macro_rules! on_desk {
             Ok(held) => {
                 let $desk = $crate::slot::desk_of(&held);
                 let status = $call;
-                $crate::slot::put_in($handle, held);
+                $crate::slot::put_in($alloc, $handle, held);
                 status
             }
             Err(status) => status,

@@ -9,7 +9,6 @@ ghost use Rattle.kfs_c_submission.specs.Submission.{IsFull};
 use crate::handle::Handle;
 use crate::held::Held;
 use crate::on_desk;
-use crate::opening::let_go;
 use crate::slot::{put_in, take_out};
 use kfs_c_loose::status::{DONE, NO_MEMORY, WRONG_KIND, closed};
 use kfs_c_submission::{ReplyNumbers, reply_numbers, why_number};
@@ -18,18 +17,18 @@ use kfs_plan::{Judged, Submission};
 use kfs_workers_verdict::DeskView;
 use std::alloc::Global;
 
-/// Has the second handle hold a view of the desk's state now. What it held is freed. The desk is as it
-/// was.
+/// Has the second handle hold a view of the desk's state now. What it held is freed then; where there is
+/// no view, it is kept. The desk is as it was.
 #[unsafe(no_mangle)]
 pub extern "C" fn kfs_look(alloc: Global, handle: &mut Handle, view: &mut Handle) -> u32
     ensures seen { result ≡ status.done → OnDesk handle.old.value (λ desk. OnView view.new.value (λ seen. seen ≡ desk.state)) }
-    ensures unseen { 1 ≤ result → view.new.value ≡ None }
+    ensures unseen { 1 ≤ result → view.new.value ≡ view.old.value }
     ensures kept { handle.new.value ≡ handle.old.value }
     ensures closed { (result ≡ status.closed) ↔ (handle.old.value ≡ None) }
     ensures wrong { (result ≡ status.wrong_kind) ↔ HoldsNoDesk handle.old.value }
+    ensures known { result ≤ status.wrong_kind }
     ensures range { result < status.closed → result ≤ status.no_memory }
 {
-    let_go(alloc, view);
     on_desk!(alloc, handle, &desk => look(alloc, desk, view))
 }
 
@@ -44,12 +43,12 @@ fn look(alloc: Global, desk: &Desk<Global>, view: &mut Handle) -> u32
     let Ok(held) = Box::new(alloc, Held::View(seen)) else {
         return NO_MEMORY;
     };
-    put_in(view, held);
+    put_in(alloc, view, held);
     DONE
 }
 
-/// Has the last handle hold a verdict on the submission, judged against the view. What it held is
-/// freed. The view is as it was, and no desk is touched.
+/// Has the last handle hold a verdict on the submission, judged against the view. What it held is freed
+/// then; where there is no verdict, it is kept. The view is as it was, and no desk is touched.
 #[unsafe(no_mangle)]
 pub extern "C" fn kfs_judge(
     alloc: Global,
@@ -60,13 +59,13 @@ pub extern "C" fn kfs_judge(
     verdict: &mut Handle,
 ) -> u32
     ensures judged { result ≡ status.done → OnView view.old.value (λ seen. OnVerdict verdict.new.value (IsJudged seen client log.now plan.now)) }
-    ensures unjudged { 1 ≤ result → verdict.new.value ≡ None }
+    ensures unjudged { 1 ≤ result → verdict.new.value ≡ verdict.old.value }
     ensures kept { view.new.value ≡ view.old.value }
     ensures closed { (result ≡ status.closed) ↔ (view.old.value ≡ None) }
     ensures wrong { (result ≡ status.wrong_kind) ↔ HoldsNoView view.old.value }
+    ensures known { result ≤ status.wrong_kind }
     ensures range { result < status.closed → result ≤ status.no_memory }
 {
-    let_go(alloc, verdict);
     let Some(held) = take_out(alloc, view) else {
         return closed();
     };
@@ -74,7 +73,7 @@ pub extern "C" fn kfs_judge(
         Held::View(seen) => judge(alloc, seen, client, log, plan, verdict),
         Held::Desk(_) | Held::Verdict(_) => WRONG_KIND,
     };
-    put_in(view, held);
+    put_in(alloc, view, held);
     status
 }
 
@@ -102,7 +101,7 @@ fn judge(
     let Ok(held) = Box::new(alloc, Held::Verdict(judged)) else {
         return NO_MEMORY;
     };
-    put_in(verdict, held);
+    put_in(alloc, verdict, held);
     DONE
 }
 
@@ -117,11 +116,12 @@ pub extern "C" fn kfs_land(
 ) -> u32
     ensures answered { result ≡ status.done → OnDesks handle.old.value handle.new.value (HasLanded verdict.old.value reply.new) }
     ensures unanswered { 1 ≤ result → (handle.new.value ≡ handle.old.value) × (reply.new ≡ reply.old) }
-    ensures full { result ≡ status.full → OnDesk handle.old.value IsFull }
+    ensures full { (result ≡ status.full) ↔ OnDesk handle.old.value (λ desk. IsFull desk × OnVerdict verdict.old.value (λ _. ⊤)) }
     ensures used { result ≤ status.full → verdict.new.value ≡ None }
     ensures kept { status.closed ≤ result → verdict.new.value ≡ verdict.old.value }
     ensures closed { handle.old.value ≡ None → result ≡ status.closed }
     ensures wrong { HoldsNoDesk handle.old.value → result ≡ status.wrong_kind }
+    ensures known { (result ≤ status.wrong_kind) × (result < status.closed → result ≤ status.full) }
     ensures range { (result ≤ status.full) ↔ OnDesk handle.old.value (λ _. OnVerdict verdict.old.value (λ _. ⊤)) }
 {
     on_desk!(alloc, handle, &mut desk => land(alloc, desk, verdict, reply))
@@ -135,16 +135,17 @@ fn land(
 ) -> u32
     ensures answered { result ≡ status.done → HasLanded verdict.old.value reply.new desk.old desk.new }
     ensures unanswered { 1 ≤ result → (desk.new ≡ desk.old) × (reply.new ≡ reply.old) }
-    ensures full { result ≡ status.full → IsFull desk.old }
+    ensures full { (result ≡ status.full) ↔ (IsFull desk.old × OnVerdict verdict.old.value (λ _. ⊤)) }
     ensures used { result ≤ status.full → verdict.new.value ≡ None }
     ensures kept { status.closed ≤ result → verdict.new.value ≡ verdict.old.value }
     ensures range { (result ≤ status.full) ↔ OnVerdict verdict.old.value (λ _. ⊤) }
+    ensures known { (result ≤ status.wrong_kind) × (result < status.closed → result ≤ status.full) }
 {
     let Some(held) = take_out(alloc, verdict) else {
         return closed();
     };
     if !matches!(&*held, Held::Verdict(_)) {
-        put_in(verdict, held);
+        put_in(alloc, verdict, held);
         return WRONG_KIND;
     }
     let Some(judged) = Box::into_inner(held).into_verdict() else {
@@ -156,7 +157,7 @@ fn land(
 fn land_judged(desk: &mut Desk<Global>, judged: Judged<Global>, reply: &mut ReplyNumbers) -> u32
     ensures answered { result ≡ status.done → IsLanded judged reply.new desk.old desk.new }
     ensures unanswered { 1 ≤ result → (desk.new ≡ desk.old) × (reply.new ≡ reply.old) }
-    ensures full { result ≡ status.full → IsFull desk.old }
+    ensures full { (result ≡ status.full) ↔ IsFull desk.old }
     ensures range { result ≤ status.full }
 {
     match desk.land(judged) {

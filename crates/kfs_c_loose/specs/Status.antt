@@ -32,3 +32,7 @@ closed = 6
 -- the handle holds something of another kind
 abbrev pub wrong_kind : ℕ
 wrong_kind = 7
+
+-- the node is a directory, and the call is for files
+abbrev pub directory : ℕ
+directory = 8

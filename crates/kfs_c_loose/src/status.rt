@@ -26,6 +26,9 @@ const CLOSED: u32 = 6;
 /// The handle holds something of another kind.
 pub const WRONG_KIND: u32 = 7;
 
+/// The node is a directory, and the call is for files.
+pub const DIRECTORY: u32 = 8;
+
 /// What a call of a handle that holds nothing answers.
 pub fn closed() -> u32
     ensures { result ≡ status.closed }

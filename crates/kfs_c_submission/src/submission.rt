@@ -21,7 +21,7 @@ pub fn submit(
 ) -> u32
     ensures answered { result ≡ status.done → IsSubmitted client log.now plan.now reply.new desk.old desk.new }
     ensures unanswered { 1 ≤ result → (desk.new ≡ desk.old) × (reply.new ≡ reply.old) }
-    ensures full { result ≡ status.full → IsFull desk.old }
+    ensures full { (result ≡ status.full) ↔ IsFull desk.old }
     ensures range { result ≤ status.full }
 {
     match desk.submit_bytes(client, log, plan) {

@@ -9,4 +9,5 @@ pub mod Landing
 pub mod NumberSet
 pub mod Openings
 mod WholePieces
+pub mod Sent
 pub mod Views

@@ -366,8 +366,8 @@ impl<A: Allocator + Copy> Desk<A> {
         Ok(self.docket.len())
     }
 
-    /// Whether the docket has as many rows as its limit allows.
-    fn is_full(&self) -> bool
+    /// Whether the docket has as many rows as its limit allows. No call is answered then. Takes no memory.
+    pub fn is_full(&self) -> bool
         ensures full { IsTrue result ↔ (length self.now.docket ≡ self.now.limit) }
         ensures room { IsFalse result → length self.now.docket < self.now.limit }
     {

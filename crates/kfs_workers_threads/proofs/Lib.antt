@@ -1,3 +1,2 @@
 pub mod InTurn
 pub mod Landed
-pub mod Sent

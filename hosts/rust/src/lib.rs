@@ -18,6 +18,8 @@ pub enum Error {
     Full,
     /// There is no such node, name, block or plan.
     Nothing,
+    /// The node is a directory, and the call is for files.
+    Directory,
     /// Refused, for this fault where the call tells one.
     Refused(Fault),
 }
@@ -28,6 +30,7 @@ impl fmt::Display for Error {
             Error::NoMemory => f.write_str("memory"),
             Error::Full => f.write_str("full"),
             Error::Nothing => f.write_str("nothing there"),
+            Error::Directory => f.write_str("a directory"),
             Error::Refused(fault) => write!(f, "refused: {} {} at {}", fault.code, fault.reason, fault.index),
         }
     }
@@ -45,6 +48,7 @@ fn checked(status: u32, fault: Fault) -> Result<(), Error> {
         2 => Err(Error::Full),
         3 => Err(Error::Nothing),
         4 => Err(Error::Refused(fault)),
+        8 => Err(Error::Directory),
         // The types below keep these from coming: a handle closed, a wrong one, a short buffer.
         other => unreachable!("status {other}"),
     }

@@ -9,7 +9,7 @@ use Rattle.kfs_workers_crew.proofs.Crews.{pairs_length}
 use Rattle.kfs_workers_crew.specs.Tasks.{all_of}
 use Rattle.kfs_workers_batch.specs.Batch.{AreTheRows, AscendInShares, position_in}
 use Rattle.kfs_workers_batch.proofs.Batches.{as_many, goes_on, in_shares, settled_all, settled_count, the_rows}
-use Rattle.kfs_workers_threads.proofs.Sent.{desk_send}
+use Rattle.kfs_desk.proofs.Sent.{desk_send}
 use Rattle.kfs_workers_batch.proofs.batch.batch_at.Goals as goal
 
 pub work-met-requires-send-D : goal.work-met-requires-send-D
