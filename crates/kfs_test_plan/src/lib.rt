@@ -7,6 +7,8 @@
 #[cfg(test)]
 mod accepted;
 #[cfg(test)]
+mod climbs;
+#[cfg(test)]
 mod desks;
 #[cfg(test)]
 mod logs;
