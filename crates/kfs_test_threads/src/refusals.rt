@@ -23,10 +23,7 @@ const MANY: u64 = 200;
 enum Call {
     View,
     Land,
-    /// A call for a lease.
-    Lease,
-    /// A call that ends the only lease.
-    Tick,
+    Act,
 }
 
 /// How a call was answered.
@@ -55,40 +52,28 @@ fn viewed<A: Allocator + Copy, R: Wait>(
     }
 }
 
-/// The call for a lease, or the tick, and what it has done then.
-fn act_of(call: Call) -> (Act<'static>, Done) {
-    match call {
-        Call::Tick => (Act::Tick { moment: 100 }, Done::Ticked(100)),
-        Call::View | Call::Land | Call::Lease => {
-            let lease = Act::Lease {
-                client: 7,
-                path: b"/",
-                kind: LeaseKind::Read,
-                end: 90,
-            };
-            (lease, Done::Leased(1))
-        }
-    }
-}
-
-/// Whether the call for leases is answered in row 1, rather than that memory is refused; none where the
+/// Whether a call for a lease is answered in row 1, rather than that memory is refused; none where the
 /// answer is another one.
 fn acted<A: Allocator + Copy, R: Wait>(
     rt: &R,
     shared: &Shared<Desk<A>, A>,
     pass: &mut Pass<Desk<A>>,
-    call: Call,
 ) -> Option<bool>
     requires { IsPassOf shared.now pass.old }
     ensures { IsPassOf shared.now pass.new }
 {
-    let (asked, done) = act_of(call);
-    let right = ActReply {
-        position: 1,
-        answer: Ok(done),
+    let lease = Act::Lease {
+        client: 7,
+        path: b"/",
+        kind: LeaseKind::Read,
+        end: 90,
     };
-    match act(rt, shared, pass, asked) {
-        Ok(reply) if reply == right => Some(true),
+    let leased = ActReply {
+        position: 1,
+        answer: Ok(Done::Leased(1)),
+    };
+    match act(rt, shared, pass, lease) {
+        Ok(reply) if reply == leased => Some(true),
         Err(SharedWant::OutOfMemory) => Some(false),
         _ => None,
     }
@@ -154,7 +139,7 @@ fn called<A: Allocator + Copy, R: Wait>(
     heap.refuse_after(growth);
     let is_ample = match call {
         Call::View => viewed(rt, shared, pass)?,
-        Call::Land | Call::Lease | Call::Tick => acted(rt, shared, pass, call)?,
+        Call::Land | Call::Act => acted(rt, shared, pass)?,
     };
     if is_ample {
         Some(Answer::Ample)
@@ -167,7 +152,7 @@ fn called<A: Allocator + Copy, R: Wait>(
 fn rows_after(call: Call) -> u32 {
     match call {
         Call::View => 1,
-        Call::Land | Call::Lease | Call::Tick => 2,
+        Call::Land | Call::Act => 2,
     }
 }
 
@@ -252,9 +237,7 @@ fn each_growth_of_a_landing_refused(rt: HostRuntime) {
 
 #[test]
 fn each_growth_of_a_call_for_leases_refused(rt: HostRuntime) {
-    let count = growths(&rt, rt.alloc(), Call::Lease);
-    assert!(rt; matches!(count, Ok(1..)), "{count:?}");
-    let count = growths(&rt, rt.alloc(), Call::Tick);
+    let count = growths(&rt, rt.alloc(), Call::Act);
     assert!(rt; matches!(count, Ok(1..)), "{count:?}");
 }
 

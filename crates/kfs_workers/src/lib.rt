@@ -9,6 +9,6 @@
 pub use kfs_workers_batch::{BatchBack, BatchEnd, Gate, Left, MOST_WORKERS, run_batch};
 pub use kfs_workers_script::{ScriptBack, ScriptEnd, Step, WORKERS, laws, run_script};
 pub use kfs_workers_threads::{
-    Begun, DocketRow, Docketed, Landing, Pass, Shared, SharedBack, SharedWant, Unreturned,
+    Begun, DocketRow, Docketed, Pass, Shared, SharedBack, SharedWant, Unreturned,
 };
 pub use kfs_workers_verdict::DeskView;

@@ -1,4 +1,3 @@
 pub mod Calls
-pub mod Landings
 pub mod Passes
 pub mod Sharing

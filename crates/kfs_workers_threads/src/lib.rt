@@ -11,7 +11,6 @@ mod act;
 mod desk;
 mod docketed;
 mod land;
-mod landings;
 mod pass;
 mod plays;
 mod rule;
@@ -23,6 +22,5 @@ mod want;
 
 pub use desk::{Begun, DocketRow};
 pub use docketed::Docketed;
-pub use landings::Landing;
-pub use pass::{Pass, Shared};
+pub use pass::{Pass, Shared, Turn};
 pub use want::{SharedBack, SharedWant, Unreturned};

@@ -1,5 +1,0 @@
-use Rattle.std.proofs.Common.{length}
-use Rattle.kfs_workers_threads.proofs.landings.+hand_back.Given as goal
-
-abbrev pub decreases-hand_back : goal.decreases-hand_back
-decreases-hand_back g l = length l.landings.now

@@ -1,5 +1,0 @@
-use Rattle.std.proofs.Common.{length}
-use Rattle.kfs_workers_threads.proofs.landings.+land_in.Given as goal
-
-abbrev pub decreases-land_in : goal.decreases-land_in
-decreases-land_in g l = length l.landings.now
