@@ -1,7 +1,7 @@
 """What the programs with threads share: callers of a shared desk, each in a thread of its own, as a module of Rattle.
 
 What starts threads is proved with no answer but one: that a desk may go from thread to thread. That is proved in
-`crates/kfs_workers_threads/proofs/Sent.antt`.
+`crates/kfs_desk/proofs/Sent.antt`.
 """
 from benchmarks import NAME
 
