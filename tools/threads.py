@@ -223,7 +223,7 @@ use Rattle.std.proofs.Crossing as std
 use Rattle.std.specs.contracts.alloc.Global as Heap
 use Rattle.std.specs.contracts.impls.GlobalAllocator.TheImpl.{{ghosts}}
 use Rattle.kfs_desk.specs.contracts.desk.Desk as Desk
-use Rattle.kfs_workers_threads.proofs.Sent.{{desk_send}}
+use Rattle.kfs_desk.proofs.Sent.{{desk_send}}
 use Rattle.{NAME}.proofs.crew.run_desk.Goals as goal
 
 this_desk_send : IsSend (Desk.the_row Heap.the_row ghosts)
