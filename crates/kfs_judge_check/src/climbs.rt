@@ -27,6 +27,8 @@ pub(crate) struct Climbs<A: Allocator> {
     moved: Vec<u32, A>,
     /// How many steps this climb has made, as long as none is kept.
     steps: u32,
+    /// How often climbs came to the end of a stretch whose parent stands elsewhere in the list.
+    crossed: usize,
 }
 
 /// A part of a climb: so many steps along the parents lead to `last`.
@@ -50,11 +52,13 @@ impl<A: Allocator + Copy> Climbs<A> {
             next: None,
             moved: Vec::new(alloc),
             steps: 0,
+            crossed: 0,
         }
     }
 
     /// Begins a climb: gives a stop to each of these directories, whose parents the entries so far have
-    /// written. What was kept is forgotten where they don't go on from the earlier ones.
+    /// written. What was kept is forgotten where they don't go on from the earlier ones, or where the
+    /// list is worn.
     pub(crate) fn follow(&mut self, moved: &[u32]) -> Result<(), AllocError>
         requires { StopsAt (is_taken self.old) self.old }
         ensures links { (parent : ℕ → Option ℕ) → LinksHold parent self.old → LinksHold parent self.new }
@@ -72,12 +76,16 @@ impl<A: Allocator + Copy> Climbs<A> {
         Ok(())
     }
 
-    /// Whether steps are kept, and these directories go on from those that were given stops.
+    /// Whether steps are kept, in a list that isn't worn, and these directories go on from those that were
+    /// given stops.
+    ///
+    /// A list is worn once climbs have crossed from one stretch to another as often as it has directories.
+    /// To lay it anew takes no longer than the crossings took, and then the next climbs cross few.
     fn goes_on(&self, moved: &[u32]) -> bool
         ensures once { IsUnique nat_eq self.now.order }
         ensures begins { result ≡ true → moved.now ≡ self.now.moved.items ++ drop (length self.now.moved.items) moved.now }
     {
-        self.order.len() > 0 && moved.starts_with(self.moved.as_slice())
+        self.crossed < self.order.len() && moved.starts_with(self.moved.as_slice())
     }
 
     /// Forgets what was kept.
@@ -90,6 +98,7 @@ impl<A: Allocator + Copy> Climbs<A> {
         self.next = None;
         self.moved.clear();
         self.steps = 0;
+        self.crossed = 0;
     }
 
     /// Gives a stop to a directory whose parent an entry has written.
@@ -134,12 +143,25 @@ impl<A: Allocator + Copy> Climbs<A> {
             return Ok(());
         }
         if self.order.contains(&number) {
+            self.cross(up);
             return Ok(());
         }
         self.end_stretch(number)?;
         self.order.insert(number)?;
         self.next = Some(up);
         Ok(())
+    }
+
+    /// Counts the end of a stretch, if its parent is kept.
+    fn cross(&mut self, up: u32)
+        ensures order { self.new.order ≡ self.old.order }
+        ensures stops { self.new.stops ≡ self.old.stops }
+        ensures next { self.new.next ≡ self.old.next }
+        ensures moved { self.new.moved ≡ self.old.moved }
+    {
+        if self.order.contains(&up) {
+            self.crossed = self.crossed.saturating_add(1);
+        }
     }
 
     /// Ends the last stretch, unless it leads to this directory.
