@@ -10,7 +10,6 @@ mod header;
 mod limits;
 mod name;
 mod plan;
-mod room;
 mod rows;
 mod sizes;
 
@@ -22,6 +21,5 @@ pub use limits::{
 };
 pub use name::Name;
 pub use plan::{NameRow, NodeRow, Piece, Plan, Source};
-pub use room::push_within;
 pub use rows::RowList;
 pub use sizes::TierSizes;
