@@ -1,10 +1,11 @@
 //! The values that logs and plans are made of: names, headers, entries, plan rows, limits and tier
-//! sizes.
+//! sizes. And the trait of all that is prepared whole and then made, `Change`.
 //!
 //! It stands on the definitions of `kfs_model`. Nearly all other crates use its
 //! types. Begin with `entry.rt` (logs) and `plan.rt` (plans).
 #![tactic(auto)]
 
+mod change;
 mod entry;
 mod header;
 mod limits;
@@ -13,6 +14,7 @@ mod plan;
 mod rows;
 mod sizes;
 
+pub use change::{Change, Nothing};
 pub use entry::{Entry, Log, Span};
 pub use header::{Header, Kind};
 pub use limits::{
