@@ -25,7 +25,6 @@ use crate::first_fault::first_fault;
 use crate::state::ShownState;
 use crate::state_change::change_state;
 use kfs_desk_docket::Docket;
-use kfs_entry_value::push_within;
 use kfs_image::{Image, Shape};
 use kfs_image_fill::LogBytes;
 use kfs_judge::View;
@@ -349,7 +348,7 @@ impl<A: Allocator + Copy> Desk<A> {
         };
         for submission in submissions {
             let answer = self.submit(submission);
-            push_within(&mut answers, answer);
+            answers.push_reserved(answer);
         }
         Ok(answers)
     }

@@ -1,3 +1,4 @@
+pub mod Nested
 pub mod Padded
 pub mod Room
 pub mod Views

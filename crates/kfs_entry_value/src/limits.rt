@@ -32,6 +32,9 @@ pub const CLIMB_LIMIT: u32 = 65_536;
 /// The bytes of a block.
 pub const BLOCK_SIZE: u64 = 4_096;
 
+/// The same, as the length of a buffer.
+pub const BLOCK_LEN: usize = BLOCK_SIZE as usize;
+
 /// The most entries of a log.
 pub const ENTRY_LIMIT: u16 = 4_096;
 

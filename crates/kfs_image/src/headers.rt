@@ -15,6 +15,7 @@ pub fn header<A: Allocator>(image: &Image<A>, number: u32) -> Option<Header>
 {
     match look(image.shape(), &Cell::Header(number)) {
         Answer::Header(header) => header,
+        // `look` answers a question for a header with a header.
         _ => unreachable!(),
     }
 }

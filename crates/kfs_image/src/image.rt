@@ -1,6 +1,5 @@
 //! The image: nodes and names, which views share, and the blocks of files.
 ghost use Rattle.std.specs.Prelude.{◌≡◌, ◌↔◌, ℕ, ◌+◌, ◌*◌, ◌<◌, ◌≤◌, true, List, length, slice_index, option_map, Err, Some, None, IsTrue, IfSome, IfNone, IfOk, IfErr, OnOk, OnErr, EachIndex};
-ghost use Rattle.kfs_entry_value.specs.Views.{header_of};
 ghost use Rattle.kfs_model.specs.Table.{get, pairs, numbers};
 ghost use Rattle.kfs_model.specs.Tree.{target};
 ghost use Rattle.kfs_model.specs.Limits.{block_size};
@@ -21,16 +20,16 @@ ghost use Rattle.kfs_image.specs.Net.{CanApply, applied};
 ghost use Rattle.kfs_image.specs.Read.{FileIsRead};
 
 use crate::edit::{Edit, Parts};
+use crate::headers::header;
 use crate::net::Fill;
 use crate::read::ReadFault;
 use crate::released::released_blocks;
-use kfs_entry_value::{BLOCK_SIZE, Header, Kind, Name, NameRow, NodeRow, TierSizes};
+use kfs_entry_value::{BLOCK_SIZE, Change, Kind, Name, NameRow, NodeRow, TierSizes};
 use kfs_image_blocks::{ChangeBlocks, FileBlocks, FillBlocks, MoveBlocks, Place};
 use kfs_image_codec::RawImage;
-use kfs_image_nodes::{Answer, Cell, Net, Shape, look};
+use kfs_image_nodes::{Net, Shape};
 use kfs_image_raw::{raw_blocks, raw_shape, tell_spelled};
 use kfs_map_chunks::key_edits;
-use kfs_map_pages::Change;
 use kfs_model_device::laws::well_formed_image_is_lawful;
 use std::alloc::{AllocError, Allocator};
 use std::marker::Model;
@@ -317,7 +316,7 @@ impl<A: Allocator> Image<A> {
         ensures directory { (result ≡ Err ReadFault.IsDirectory) ↔ IsTrue (is_directory (get self.now.heads number)) }
         ensures kept { OnErr result (buffer.new ≡ buffer.old) }
     {
-        let header = self.header(number).ok_or(ReadFault::NoSuchNode)?;
+        let header = header(self, number).ok_or(ReadFault::NoSuchNode)?;
         if header.kind == Kind::Directory {
             return Err(ReadFault::IsDirectory);
         }
@@ -328,14 +327,5 @@ impl<A: Allocator> Image<A> {
         let count = left.min(buffer.len());
         self.blocks.read_bytes(number, start, &mut buffer[..count]);
         Ok(count)
-    }
-
-    fn header(&self, number: u32) -> Option<Header>
-        ensures { option_map header_of result ≡ get self.now.heads number }
-    {
-        match look(&self.shape, &Cell::Header(number)) {
-            Answer::Header(header) => header,
-            _ => unreachable!(),
-        }
     }
 }

@@ -5,7 +5,7 @@ use crate::blocks::FileBlocks;
 use crate::fill::{BlockRow, BlockRun};
 use kfs_image_tier::{NewBlock, Place};
 use kfs_map_chunks::KeyEdit;
-use kfs_map_pages::Change;
+use kfs_entry_value::Change;
 use std::alloc::{AllocError, Allocator};
 use std::mem;
 
@@ -21,7 +21,7 @@ pub struct FillBlocks<'a, A: Allocator> {
 }
 
 impl<'a, A: Allocator + Clone> Change for FillBlocks<'a, A> {
-    ghost use Rattle.kfs_map_pages.specs.Nested.{Becomes};
+    ghost use Rattle.kfs_entry_value.specs.Nested.{Becomes};
     ghost use Rattle.kfs_image_blocks.specs.Fill.{CanFill, filled};
 
     ghost can_make = { λ before. CanFill before.blocks.now before.released.now before.rows.now };
@@ -50,7 +50,7 @@ pub struct MoveBlocks<'a, A: Allocator> {
 }
 
 impl<'a, A: Allocator + Clone> Change for MoveBlocks<'a, A> {
-    ghost use Rattle.kfs_map_pages.specs.Nested.{Becomes};
+    ghost use Rattle.kfs_entry_value.specs.Nested.{Becomes};
     ghost use Rattle.kfs_image_blocks.specs.Fill.{CanFill, filled};
 
     ghost can_make = { λ before. CanFill before.blocks.now before.released.now before.rows.now.items };
@@ -81,7 +81,7 @@ pub struct ChangeBlocks<'a, A: Allocator> {
 }
 
 impl<'a, A: Allocator + Clone> Change for ChangeBlocks<'a, A> {
-    ghost use Rattle.kfs_map_pages.specs.Nested.{Becomes};
+    ghost use Rattle.kfs_entry_value.specs.Nested.{Becomes};
     ghost use Rattle.kfs_image_blocks.specs.Blocks.{CanChange, changed};
 
     ghost can_make = { λ before. CanChange before.blocks.now before.edits.now before.written.now.items };

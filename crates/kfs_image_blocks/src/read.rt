@@ -4,10 +4,8 @@ ghost use Rattle.kfs_model.specs.Limits.{block_size};
 ghost use Rattle.kfs_model_device.specs.ShownTree.{file_byte};
 
 use crate::blocks::FileBlocks;
+use kfs_entry_value::BLOCK_LEN;
 use std::alloc::Allocator;
-
-/// The bytes of a block.
-const BLOCK_LEN: usize = 4096;
 
 impl<A: Allocator> FileBlocks<A> {
     /// Fills the buffer with the file's bytes from position `start` on; they are zero where a block

@@ -5,7 +5,7 @@ use crate::blocks::FileBlocks;
 use crate::moves::Moves;
 use kfs_image_tier::{NewBlock, Place, Tiers};
 use kfs_map_chunks::KeyEdit;
-use kfs_map_pages::Change;
+use kfs_entry_value::Change;
 use std::alloc::{AllocError, Allocator};
 
 /// A change of the tiers: places that become free, places that become used, and blocks to be written.

@@ -9,14 +9,11 @@ ghost use Rattle.kfs_image_codec.specs.Extents.{extent_in, IsInSource};
 use crate::limited;
 use crate::raw::{Extent, ExtentRow};
 use kfs_entry_codec::{SpelledRow, byte, bytes, number32};
-use kfs_entry_value::{Span, TIER_LIMIT};
+use kfs_entry_value::{BLOCK_LEN, Span, TIER_LIMIT};
 use std::alloc::{AllocError, Allocator};
 
 /// The greatest block that a file of 2^32 bytes has.
 const GREATEST_BLOCK: u32 = 1_048_575;
-
-/// The bytes of a block.
-const BLOCK_LEN: usize = 4096;
 
 /// An extent whose bytes are a span of the source.
 #[derive(Clone, Copy)]

@@ -14,15 +14,13 @@ ghost use Rattle.kfs_image_encode.specs.Runs.{run_extent, last_block, next_entry
 use crate::counts::Rows;
 use crate::run::Run;
 use kfs_entry_codec::number32;
+use kfs_entry_value::BLOCK_LEN;
 use kfs_image::{Image, read_file};
 use std::alloc::{AllocError, Allocator};
 use std::ops::Bound;
 
 /// The bytes of an extent's row, apart from those of its blocks.
 const LEN: usize = 17;
-
-/// The bytes of a block.
-const BLOCK_LEN: usize = 4096;
 
 /// Whether the mapped block behind the run's last goes on from it.
 fn goes_on<A: Allocator>(image: &Image<A>, run: &Run) -> bool

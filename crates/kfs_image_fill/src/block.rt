@@ -5,7 +5,7 @@ ghost use Rattle.kfs_image_fill.specs.Bytes.{entries_of, pieces_of, AreBytesOf, 
 ghost use Rattle.kfs_image_fill.specs.Fill.{block_after};
 
 use crate::bytes::{LogBytes, covering_bytes, put_pieces};
-use kfs_entry_value::BLOCK_SIZE;
+use kfs_entry_value::{BLOCK_LEN, BLOCK_SIZE};
 use kfs_image::{Image, read_file};
 use std::alloc::{AllocError, Allocator};
 
@@ -77,7 +77,7 @@ fn patched_bytes<A: Allocator>(
     ensures { IfOk result (λ bytes. bytes.items ≡ block_after (shown_tree image.now) (entries_of log.now) (pieces_of log.now) number block) }
 {
     let start = u64::from(block) * BLOCK_SIZE;
-    let mut bytes = bytes_before(memory, image, number, start, BLOCK_SIZE as usize)?;
+    let mut bytes = bytes_before(memory, image, number, start, BLOCK_LEN)?;
     put_pieces(bytes.as_mut_slice(), log, number, start);
     Ok(bytes)
 }

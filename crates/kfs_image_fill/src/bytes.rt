@@ -5,7 +5,7 @@ ghost use Rattle.kfs_model.specs.Limits.{block_size};
 ghost use Rattle.kfs_model.specs.Run.{byte_at, payload_of};
 ghost use Rattle.kfs_image_fill.specs.Bytes.{entries_of, pieces_of, HasPayloads, ArePut, ArePutOnAny, AreGivenBy};
 
-use kfs_entry_value::{BLOCK_SIZE, Entry, Piece, Source, Span};
+use kfs_entry_value::{BLOCK_LEN, BLOCK_SIZE, Entry, Piece, Source, Span};
 
 /// A log, and the pieces that say which bytes it changes.
 #[derive(Clone, Copy)]
@@ -143,8 +143,8 @@ fn block_of<'a>(log: &LogBytes<'a>, source: Source, distance: usize) -> Option<&
 fn front_block(bytes: &[u8]) -> Option<&[u8]>
     ensures { IfSome result (λ front. (length front.now ≡ block_size) × EachIndex front.now (λ k. slice_index front.now k ≡ byte_at bytes.now k)) }
 {
-    if bytes.len() < BLOCK_SIZE as usize {
+    if bytes.len() < BLOCK_LEN {
         return None;
     }
-    Some(&bytes[..BLOCK_SIZE as usize])
+    Some(&bytes[..BLOCK_LEN])
 }

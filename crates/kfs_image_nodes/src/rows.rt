@@ -20,9 +20,9 @@ use crate::borrowed::Borrowed;
 use crate::edits::header_edits;
 use crate::name_edits::{NameEdits, name_edits};
 use crate::sorted_rows::{NameCounts, counts_of, names_of};
-use kfs_entry_value::{Header, Name, NameRow, NodeRow};
+use kfs_entry_value::{Change, Header, Name, NameRow, NodeRow, Nothing};
 use kfs_map_chunks::{Chunks, EditChunks, Near};
-use kfs_map_pages::{Change, EditPages, Nothing, NumberEdit, Pages};
+use kfs_map_pages::{EditPages, NumberEdit, Pages};
 use std::alloc::{AllocError, Allocator};
 use std::ops::Bound;
 

@@ -6,12 +6,10 @@ ghost use Rattle.kfs_model_device.specs.Finding.{IsWellFormed};
 ghost use Rattle.kfs_image_codec.specs.RawImages.{extent_row_of, raw_of};
 ghost use Rattle.kfs_image_raw.specs.Blocks.{HasItsBlocks, blocks_of_raw, placed_row, written_row};
 
+use kfs_entry_value::BLOCK_LEN;
 use kfs_image_blocks::{BlockRow, FileBlocks, Place};
 use kfs_image_codec::{ExtentRow, RawImage};
 use std::alloc::{AllocError, Allocator};
-
-/// The bytes of a block.
-const BLOCK_LEN: usize = 4096;
 
 /// The blocks of a raw image's extents at their places, with copies of their bytes. `Err` where memory is
 /// refused.

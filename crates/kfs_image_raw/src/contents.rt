@@ -7,9 +7,10 @@ ghost use Rattle.kfs_image_codec.specs.RawImages.{raw_of};
 ghost use Rattle.kfs_image_nodes.specs.Rows.{heads_of};
 ghost use Rattle.kfs_image_raw.specs.Rows.{header_edit, contents_of_raw};
 
+use kfs_entry_value::Nothing;
 use kfs_image_codec::{RawImage, RawNode};
 use kfs_image_nodes::{Header, Shape};
-use kfs_map_pages::{Nothing, NumberEdit, Pages};
+use kfs_map_pages::{NumberEdit, Pages};
 use std::alloc::{AllocError, Allocator};
 
 /// The nodes and names of a raw image's rows. `Err` where memory is refused.

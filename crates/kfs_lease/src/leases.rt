@@ -12,9 +12,9 @@ ghost use Rattle.kfs_lease.specs.declared.leases.LeaseFault.TheVariants.{OutOfMe
 mod writer;
 
 use crate::path::{names_of, walk};
+use kfs_entry_value::Change;
 use kfs_image_nodes::Shape;
 use kfs_lease_rows::{Lease, LeaseKind, LeaseRows};
-use kfs_map_pages::Change;
 use kfs_mode::{Client, find_client};
 use std::alloc::{AllocError, AllocFailed, Allocator};
 use std::marker::Model;

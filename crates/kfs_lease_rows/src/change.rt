@@ -9,8 +9,8 @@ ghost use Rattle.kfs_lease_rows.specs.Rows.{by_node, by_end, lease_of, row_table
 use crate::ending::Ending;
 use crate::row_end::RowEnd;
 use crate::rows::{Lease, LeaseRows};
+use kfs_entry_value::{Change, Nothing};
 use kfs_map_chunks::{Chunks, KeyEdit, key_edits};
-use kfs_map_pages::{Change, Nothing};
 use std::alloc::{AllocError, Allocator};
 
 /// An edit of a row, by its key.
@@ -29,7 +29,7 @@ struct EditEnds<'a, 'b, A: Allocator, T> {
 
 impl<'a, 'b, A: Allocator + Clone, T: Change> Change for EditEnds<'a, 'b, A, T> {
     ghost use Rattle.std.specs.Prelude.{refl};
-    ghost use Rattle.kfs_map_pages.specs.Nested.{Becomes};
+    ghost use Rattle.kfs_entry_value.specs.Nested.{Becomes};
     ghost use Rattle.kfs_map_chunks.specs.Edits.{rewritten, KeysAscend};
     ghost use Rattle.kfs_lease_rows.specs.Ending.{HoldsOfLent};
     ghost use Rattle.kfs_lease_rows.specs.Rows.{by_end};

@@ -8,8 +8,8 @@ use crate::change::EndEdit;
 use crate::ending::Ending;
 use crate::row_end::RowEnd;
 use crate::walk::next_on;
+use kfs_entry_value::{Change, Nothing};
 use kfs_map_chunks::{Chunks, KeyEdit};
-use kfs_map_pages::{Change, Nothing};
 use std::alloc::{AllocError, Allocator};
 
 /// What a lease allows its client ("Strata", SOSP 2017: read leases are shared, write leases are

@@ -2,4 +2,3 @@ pub mod Values
 pub mod Edits
 pub mod Groups
 pub mod Shown
-pub mod Nested

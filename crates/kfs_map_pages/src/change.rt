@@ -7,34 +7,13 @@ ghost use Rattle.kfs_map_pages.specs.Shown.{slot_shows, HasIndex, AreIndexedFrom
 
 use crate::edit::{NumberEdit, page_of, run_of};
 use crate::group::{GROUP_LEN, Group};
-use crate::nested::Nothing;
 use crate::page::Page;
+use kfs_entry_value::{Change, Nothing};
 use std::alloc::{AllocError, Allocator};
 use std::sync::Arc;
 
 /// How many edits are made together, at most. Each may take five calls within each other.
 pub(crate) const MOST_TOGETHER: usize = 16;
-
-/// A change that can be made together with a change of pages: both are made, or neither.
-pub trait Change {
-    /// What must hold before a call.
-    ghost can_make: { Self → Type 0 };
-
-    /// What holds of the states before and after a call that returned `Ok`.
-    ghost made: { Self → Self → Type 0 };
-
-    /// What holds of the states before and after a call that returned `Err`.
-    ghost kept: { Self → Self → Type 0 };
-
-    /// Makes the change. `Err` only where memory is refused.
-    fn make(&mut self) -> Result<(), AllocError>
-        requires { can_make self.old }
-        ensures made { OnOk result (made self.old self.new) }
-        ensures kept { OnErr result (kept self.old self.new) };
-
-    /// A change that was never tried counts as one that returned `Err`.
-    ghost not_tried: { (x : Self) → kept x x };
-}
 
 /// Puts a page without values into the slot, if it has none.
 fn found<V: Copy, A: Allocator + Clone>(

@@ -6,10 +6,11 @@ ghost use Rattle.kfs_map_pages.specs.Values.{IsNextNumber};
 ghost use Rattle.kfs_map_pages.specs.Edits.{rewritten, AreEdits};
 ghost use Rattle.kfs_map_pages.specs.Shown.{part};
 
-use crate::change::{Change, MOST_TOGETHER, change_each, change_groups};
+use crate::change::{MOST_TOGETHER, change_each, change_groups};
 use crate::edit::{NumberEdit, page_of};
 use crate::group::{GROUP_LEN, Group, nothing, page_at};
 use crate::page::Page;
+use kfs_entry_value::Change;
 use std::alloc::{AllocError, Allocator};
 use std::marker::Model;
 use std::sync::Arc;

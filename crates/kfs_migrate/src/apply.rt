@@ -4,12 +4,10 @@ ghost use Rattle.kfs_model.specs.Migration.{fault_of_moves};
 ghost use Rattle.kfs_model_device.specs.ShownTree.{shown_tree};
 ghost use Rattle.kfs_migrate.specs.Applied.{AreApplied, AreBytesOf, AreEditsOf, AddsEdits};
 
+use kfs_entry_value::BLOCK_LEN;
 use kfs_image::{Edit, Image};
 use kfs_migrate_value::Move;
 use std::alloc::{AllocError, Allocator};
-
-/// The bytes of a block.
-const BLOCK_LEN: usize = 4096;
 
 /// Makes the moves, all at once: each block lies at its target then, with its bytes. Nothing else
 /// changes, and the image shows the same tree. Condition: `check_moves` answers `Ok`.

@@ -6,12 +6,10 @@ ghost use Rattle.kfs_test_image.specs.Edits.{each_kind};
 
 use crate::fits::{block_count, is_place_free};
 use crate::landed::{Made, image_with};
+use kfs_entry_value::BLOCK_LEN;
 use kfs_image::{Edit, Header, Image, Name, Place, header};
 use std::alloc::{AllocError, Allocator, Global};
 use std::process::Abort;
-
-/// The bytes of a block.
-const BLOCK_LEN: usize = 4_096;
 
 /// The most blocks of a tier.
 const GREATEST: u32 = 65_536;

@@ -12,7 +12,6 @@ ghost use Rattle.kfs_workers_script.specs.Script.{DoesCall, DoesStep, DoesJudge,
 
 use crate::script::{ScriptBack, ScriptEnd, Step};
 use kfs_desk::Desk;
-use kfs_entry_value::push_within;
 use kfs_lease::Act;
 use kfs_migrate_value::Move;
 use kfs_plan::answers::Reply;
@@ -264,7 +263,7 @@ fn all_waiting<T: Drop, A: Allocator>(
 {
     let mut waiting = room;
     for submission in submissions {
-        push_within(&mut waiting, Some(submission));
+        waiting.push_reserved(Some(submission));
     }
     waiting
 }

@@ -3,8 +3,8 @@ use Rattle.std.specs.Vec.Iter.{into_iter_items}
 use Rattle.std.proofs.lemmas.List.{nil_from_length}
 use Rattle.kfs_workers_script.proofs.script_state.all_waiting.Goals as goal
 
-pub push_within-requires : goal.push_within-requires
-push_within-requires g c =
+pub push_reserved-requires : goal.push_reserved-requires
+push_reserved-requires g c =
     let steps = ap length c.in-Some.ensures.steps.0 in
     let room = c.loop-submission.invariant.room in
     omega arith
@@ -15,11 +15,12 @@ loop-submission-preserved g c =
     let steps = c.in-Some.ensures.steps.0 in
     record {
       items = at.invariant.items ∙ ap (λ rest. at.waiting.items ++ map Some rest) steps ∙ sym (append_assoc at.waiting.items (Some c.in-Some.submission ∷ []) (map Some (into_iter_items c.next.new.self)))
-          ∙ ap (λ front. front ++ map Some (into_iter_items c.next.new.self)) (sym c.push_within.ensures.items);
+          ∙ ap (λ front. front ++ map Some (into_iter_items c.next.new.self)) (sym c.push_reserved.ensures.items);
       room =
           let counted = ap length steps in
           let room = at.invariant.room in
-          let spare = c.push_within.ensures.spare in
+          let len = c.push_reserved.ensures.len in
+          let capacity = c.push_reserved.ensures.capacity in
           omega arith;
       count =
           let was = at.invariant.count in

@@ -20,8 +20,8 @@ both_stay : {A : Type 0} (submission : Submission A) (old new : Desk) (answer : 
 both_stay submission old new (Ok reply) answered same = (answered.opening, answered.limit)
 both_stay submission old new (Err back) answered same = (ap (λ (d : Desk). d.opening) same.1, ap (λ (d : Desk). d.limit) same.1)
 
-pub push_within-requires : goal.push_within-requires
-push_within-requires g c =
+pub push_reserved-requires : goal.push_reserved-requires
+push_reserved-requires g c =
     let steps = ap length c.in-Some.ensures.steps.0 in
     let room = c.loop-submission.invariant.room in
     omega arith
@@ -37,12 +37,13 @@ loop-submission-preserved g c =
           let told = c.submit-answer.ensures in
           let first = runs_first at.self c.in-Some.submission c.submit-answer.new.self (into_iter_items c.next.new.self) answer answers last told.answered told.back told.full rest in
           subst (λ all. RunsThrough c.args.self.now (into_iter_items c.into_iter-submission-iterator.result) all last)
-          (sym (append_assoc at.answers.items (answer ∷ []) answers) ∙ ap (λ front. front ++ answers) (sym c.push_within.ensures.items))
+          (sym (append_assoc at.answers.items (answer ∷ []) answers) ∙ ap (λ front. front ++ answers) (sym c.push_reserved.ensures.items))
           (at.invariant.runs (answer ∷ answers) last (subst (λ submissions. RunsThrough at.self submissions (answer ∷ answers) last) (sym steps) first));
       room =
           let counted = ap length steps in
           let room = at.invariant.room in
-          let spare = c.push_within.ensures.spare in
+          let len = c.push_reserved.ensures.len in
+          let capacity = c.push_reserved.ensures.capacity in
           omega arith;
       count =
           let was = at.invariant.count in
