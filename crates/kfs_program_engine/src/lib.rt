@@ -56,6 +56,7 @@ where
 {
     let mut chunk = new_chunk(alloc)?;
     let (written, ended) = answer_together(rt, alloc, reader, &mut chunk, writer);
+    // Takes back the writer that was lent. Only then does the prover know what was written to it.
     let _writer = written;
     ended
 }

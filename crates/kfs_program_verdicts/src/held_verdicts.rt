@@ -68,6 +68,7 @@ impl<A: Allocator> HeldVerdicts<A> {
     pub fn give_up(&mut self, worker: Worker)
         ensures { self.new ≡ with_held self.old worker.number None }
     {
+        // What was held is dropped.
         let _verdict = self.take(worker);
     }
 }

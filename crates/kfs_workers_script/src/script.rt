@@ -86,11 +86,12 @@ pub fn run_script<A: Allocator + Copy>(
     ensures legal { IfOk result (λ end. IsLegalDocket end.desk.opening end.desk.docket end.desk.state) }
     ensures back { IfErr result (λ back. (back.desk ≡ desk) × (back.submissions ≡ submissions)) }
 {
-    // Tells the prover that a desk's docket is legal, at the start and at the end.
+    // Tells the prover that the docket is legal at the start.
     let _docket = desk.docket();
     let mut state = ScriptState::begin(alloc, desk, submissions)?;
     make_all(&mut state, steps);
     let end = state.end();
+    // So it is at the end.
     let _docket = end.desk.docket();
     Ok(end)
 }

@@ -201,6 +201,7 @@ impl<A: Allocator + Copy> ScriptState<A> {
     fn ask(&mut self, act: Act<'_>)
         ensures { DoesCall self.old (call_of act.entry) (done_by act.entry) self.new }
     {
+        // A step has no reply, so that nobody is told an answer.
         let _answer = self.desk.act(act);
     }
 
@@ -208,6 +209,7 @@ impl<A: Allocator + Copy> ScriptState<A> {
     fn migrate(&mut self, moves: &[Move])
         ensures { DoesCall self.old (Migrate moves.now) Moved self.new }
     {
+        // As in `ask`.
         let _answer = self.desk.migrate(moves);
     }
 
