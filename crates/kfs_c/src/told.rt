@@ -9,10 +9,10 @@ use crate::fault_codes::{
 };
 use crate::numbers::{ActNumbers, NodeNumbers};
 use kfs_c_submission::{FaultNumbers, NO_FAULT, fault};
+use kfs_desk_docket::answers::{ActFault, ActReply, Done};
 use kfs_image::{Header, Kind};
 use kfs_lease::LeaseFault;
 use kfs_migrate_value::MoveFault;
-use kfs_plan::answers::{ActFault, ActReply, Done};
 
 /// The answer to a call that is no submission.
 pub(crate) fn act_numbers(reply: ActReply) -> ActNumbers

@@ -10,9 +10,9 @@ use crate::fault_codes::{
     WRONG_CLIENT, YES,
 };
 use crate::numbers::{FaultNumbers, ReplyNumbers};
+use kfs_desk_docket::answers::Reply;
 use kfs_entry::SpellFault;
 use kfs_judge::Reason;
-use kfs_plan::answers::Reply;
 use kfs_plan::{Fault, RowFault};
 
 /// No fault.

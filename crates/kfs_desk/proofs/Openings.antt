@@ -4,8 +4,8 @@ use Rattle.std.specs.Result.{IfOk, result_unwrap_or}
 use Rattle.std.specs.List.{list_any}
 use Rattle.std.specs.declared.alloc.AllocError.{AllocError}
 use Rattle.kfs_model.specs.Access.{Client}
-use Rattle.kfs_plan.specs.declared.answers.BeginFault.{BeginFault}
-use Rattle.kfs_plan.specs.declared.answers.BeginFault.TheVariants.{ClientTwice, GrantOverlap, OutOfMemory}
+use Rattle.kfs_desk_docket.specs.declared.answers.BeginFault.{BeginFault}
+use Rattle.kfs_desk_docket.specs.declared.answers.BeginFault.TheVariants.{ClientTwice, GrantOverlap, OutOfMemory}
 use Rattle.kfs_desk.specs.Opening.{do_overlap, fault_behind}
 
 module _ (earlier : List Client) (client : Client) where

@@ -25,6 +25,9 @@ use crate::first_fault::first_fault;
 use crate::state::ShownState;
 use crate::state_change::change_state;
 use kfs_desk_docket::Docket;
+use kfs_desk_docket::answers::{
+    Act, ActFault, ActReply, BeginFault, Done, Reply, SubmissionsBack, Unanswered,
+};
 use kfs_entry_value::push_within;
 use kfs_image::{Image, Shape};
 use kfs_image_fill::LogBytes;
@@ -32,9 +35,6 @@ use kfs_judge::View;
 use kfs_lease::{LeaseFault, LeaseKind, Leases};
 use kfs_migrate::{Move, MoveFault, apply_moves, check_moves};
 use kfs_mode::Client;
-use kfs_plan::answers::{
-    Act, ActFault, ActReply, BeginFault, Done, Reply, SubmissionsBack, Unanswered,
-};
 use kfs_plan::{Back, Judged, Outcome, Submission, Why, judge, judge_bytes};
 use std::alloc::{AllocError, Allocator};
 use std::marker::Model;

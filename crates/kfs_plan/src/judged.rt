@@ -118,11 +118,7 @@ fn has_row<A: Allocator + Copy>(view: &View<A>, number: u32, row: Option<&Client
 }
 
 /// Whether the view answers each of the client's reads as recorded.
-fn agrees<A: Allocator + Copy>(
-    view: &View<A>,
-    client: u32,
-    reads: &KeptReads<A>,
-) -> bool
+fn agrees<A: Allocator + Copy>(view: &View<A>, client: u32, reads: &KeptReads<A>) -> bool
     ensures { IsTrue result ↔ Agrees reads.now.entries (client_sight_in view.now client) }
 {
     let mut near = Near::start();

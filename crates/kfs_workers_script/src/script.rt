@@ -8,10 +8,10 @@ ghost use Rattle.kfs_workers_script.specs.Script.{IsRun, DoesSteps};
 
 use crate::script_state::ScriptState;
 use kfs_desk::Desk;
+use kfs_desk_docket::answers::Reply;
 use kfs_lease::Act;
 use kfs_migrate_value::Move;
 use kfs_plan::Submission;
-use kfs_plan::answers::Reply;
 use std::alloc::Allocator;
 
 /// One step of a script. Workers are numbered 0 to 7. A ticket is a submission's index in the list that
