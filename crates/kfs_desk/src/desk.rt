@@ -88,13 +88,22 @@ impl<A: Allocator + Copy> Desk<A> {
     {
         // Tells the prover that the image is lawful.
         let _shape = image.shape();
-        let fault = first_fault(alloc, &clients).unwrap_or(Some(BeginFault::OutOfMemory));
-        if let Some(why) = fault {
-            return Err(BeginBack {
-                image,
-                clients,
-                why,
-            });
+        match first_fault(alloc, &clients) {
+            Ok(None) => (),
+            Ok(Some(why)) => {
+                return Err(BeginBack {
+                    image,
+                    clients,
+                    why,
+                });
+            }
+            Err(_) => {
+                return Err(BeginBack {
+                    image,
+                    clients,
+                    why: BeginFault::OutOfMemory,
+                });
+            }
         }
         let Ok(leases) = Arc::new(alloc, Leases::new(alloc)) else {
             return Err(BeginBack {

@@ -25,6 +25,7 @@ pub(crate) fn first_fault<A: Allocator + Copy>(
     ensures in_range { IfOk result (λ fault. fault ≡ None → AllByRecursion IsClient clients.now) }
 {
     let mut numbers = BTreeSet::new(alloc);
+    // A set of numbers with a bit for each: std has none, and the places of a tier are kept in such a one.
     let mut ungranted = Places::new(alloc, GREATEST_NUMBER + 1)?;
     for (index, client) in clients.iter().enumerate() {
         if !numbers.insert(client.number())? {
