@@ -17,12 +17,9 @@ use kfs_entry_value::push_within;
 use kfs_lease::Act;
 use kfs_migrate_value::Move;
 use kfs_plan::{Judged, Submission};
-use kfs_workers_verdict::DeskView;
+use kfs_workers_verdict::{DeskView, WORKERS, none_of};
 use std::alloc::{AllocError, Allocator};
 use std::marker::Model;
-
-/// How many workers there are.
-pub const WORKERS: usize = 8;
 
 /// What a worker holds. The ticket is that of the submission.
 #[derive(Drop)]
@@ -242,17 +239,6 @@ impl<A: Allocator + Copy> Room<A> {
             replies: none_of(alloc, tickets)?,
         })
     }
-}
-
-/// A list of `count` empty places.
-fn none_of<T: Drop, A: Allocator>(alloc: A, count: usize) -> Result<Vec<Option<T>, A>, AllocError>
-    ensures { IfOk result (λ list. list.items ≡ replicate count None) }
-{
-    let mut list = Vec::new(alloc);
-    for _ in 0..count {
-        list.push(None)?;
-    }
-    Ok(list)
 }
 
 /// Fills the list, which has room for them, with the submissions.
