@@ -24,7 +24,7 @@ use Rattle.kfs_program_command.specs.Command.{Command, Setup, Request, OpeningCo
 use Rattle.kfs_program_engine.specs.Bytes.{read_text}
 use Rattle.kfs_program_images.specs.Loading.{LoadsWith}
 use Rattle.kfs_program_images.specs.Saving.{save_text}
-use Rattle.kfs_program_plan.specs.PlanLine.{SaysPlan}
+use Rattle.kfs_program_engine.specs.PlanLine.{SaysPlan}
 use Rattle.kfs_program_verdicts.specs.HeldVerdicts.{HeldVerdicts, held_by, no_verdict, with_held}
 use Rattle.kfs_workers_verdict.specs.Verdict.{IsVerdictOn, HeldVerdict, LandsVerdict}
 use Rattle.kfs_program_engine.specs.Listing.{list_text}
