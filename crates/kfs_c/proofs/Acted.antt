@@ -2,10 +2,10 @@
 use Rattle.std.proofs.Common.{◌≡◌, ◌↔◌, ◌≤◌, ℕ, Result, Ok, Err, arith}
 use Rattle.std.specs.Prelude.{IfOk, IsErrOf, OnErr}
 use Rattle.kfs_model.specs.Machine.{Call}
-use Rattle.kfs_plan.specs.declared.answers.ActReply.{ActReply}
-use Rattle.kfs_plan.specs.declared.answers.Done.{Done}
-use Rattle.kfs_plan.specs.declared.answers.Unanswered.{Unanswered}
-use Rattle.kfs_plan.specs.declared.answers.Unanswered.TheVariants as unanswered
+use Rattle.kfs_desk_docket.specs.declared.answers.ActReply.{ActReply}
+use Rattle.kfs_desk_docket.specs.declared.answers.Done.{Done}
+use Rattle.kfs_desk_docket.specs.declared.answers.Unanswered.{Unanswered}
+use Rattle.kfs_desk_docket.specs.declared.answers.Unanswered.TheVariants as unanswered
 use Rattle.kfs_desk.specs.Machine.{Desk, IsCallOf}
 use Rattle.kfs_c_submission.specs.Submission.{IsFull}
 use Rattle.kfs_c.specs.Calls.{IsCalled}

@@ -19,8 +19,8 @@ use Rattle.kfs_shape.specs.declared.fault.ShapeFault.{ShapeFault}
 use Rattle.kfs_shape.specs.declared.fault.ShapeFault.TheVariants as shapes
 use Rattle.kfs_desk.specs.Machine.{Desk, opened_at}
 use Rattle.kfs_desk.specs.Opening.{begin_fault}
-use Rattle.kfs_plan.specs.declared.answers.BeginFault.{BeginFault}
-use Rattle.kfs_plan.specs.declared.answers.BeginFault.TheVariants as beginnings
+use Rattle.kfs_desk_docket.specs.declared.answers.BeginFault.{BeginFault}
+use Rattle.kfs_desk_docket.specs.declared.answers.BeginFault.TheVariants as beginnings
 use Rattle.kfs_c.specs.declared.numbers.ClientRow.{ClientRow}
 use Rattle.kfs_c_submission.specs.declared.numbers.FaultNumbers.{FaultNumbers}
 use Rattle.kfs_c.specs.declared.opening.Unopened.{Unopened}

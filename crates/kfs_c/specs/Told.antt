@@ -7,11 +7,11 @@ use Rattle.kfs_lease.specs.declared.leases.LeaseFault.{LeaseFault}
 use Rattle.kfs_lease.specs.declared.leases.LeaseFault.TheVariants as leases
 use Rattle.kfs_migrate_value.specs.declared.moves.MoveFault.{MoveFault}
 use Rattle.kfs_migrate_value.specs.declared.moves.MoveFault.TheVariants as moves
-use Rattle.kfs_plan.specs.declared.answers.ActFault.{ActFault}
-use Rattle.kfs_plan.specs.declared.answers.ActFault.TheVariants as acts
-use Rattle.kfs_plan.specs.declared.answers.ActReply.{ActReply}
-use Rattle.kfs_plan.specs.declared.answers.Done.{Done}
-use Rattle.kfs_plan.specs.declared.answers.Done.TheVariants as dones
+use Rattle.kfs_desk_docket.specs.declared.answers.ActFault.{ActFault}
+use Rattle.kfs_desk_docket.specs.declared.answers.ActFault.TheVariants as acts
+use Rattle.kfs_desk_docket.specs.declared.answers.ActReply.{ActReply}
+use Rattle.kfs_desk_docket.specs.declared.answers.Done.{Done}
+use Rattle.kfs_desk_docket.specs.declared.answers.Done.TheVariants as dones
 use Rattle.kfs_c_submission.specs.declared.numbers.FaultNumbers.{FaultNumbers}
 use Rattle.kfs_c_submission.specs.Told.{no_fault, numbers}
 use Rattle.kfs_c.specs.declared.numbers.ActNumbers.{ActNumbers}

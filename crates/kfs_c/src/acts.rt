@@ -13,8 +13,8 @@ use crate::on_desk;
 use crate::told::act_numbers;
 use kfs_c_loose::status::{DONE, FULL, NO_MEMORY};
 use kfs_desk::{Desk, Move};
+use kfs_desk_docket::answers::{ActReply, Done, Unanswered};
 use kfs_lease::LeaseKind;
-use kfs_plan::answers::{ActReply, Done, Unanswered};
 use std::alloc::{AllocError, Global};
 
 /// Gives the client a lease on the node at the path, up to the moment `end` (`Desk::lease`). `write`

@@ -7,6 +7,7 @@
 mod acts;
 mod bytes;
 mod calls;
+mod fault_codes;
 mod handle;
 mod held;
 mod listing;

@@ -1,8 +1,5 @@
 //! What a host looks up in the desk's state now. Nothing changes, and nothing takes memory.
-ghost use Rattle.std.specs.Prelude.{◌≡◌, ◌↔◌, ◌≤◌, ◌<◌, ◌⊎◌, None, length, option_map};
-ghost use Rattle.kfs_entry_value.specs.Views.{header_of};
-ghost use Rattle.kfs_model.specs.Table.{get};
-ghost use Rattle.kfs_model.specs.Tree.{headers};
+ghost use Rattle.std.specs.Prelude.{◌≡◌, ◌↔◌, ◌≤◌, ◌<◌, ◌⊎◌, None, length};
 ghost use Rattle.kfs_c.specs.Holding.{HoldsNoDesk, OnDesk};
 ghost use Rattle.kfs_c.specs.Reading.{HasNoNode, IsNode, IsPlaced, IsUnplaced, free_places};
 ghost use Rattle.kfs_c_loose.specs.Status as status;
@@ -13,7 +10,6 @@ use crate::on_desk;
 use crate::told::node_numbers;
 use kfs_c_loose::status::{DONE, NOTHING};
 use kfs_desk::Desk;
-use kfs_image::{Answer, Cell, Header, look};
 use std::alloc::Global;
 
 /// Tells the header of the node with this number. `NOTHING` where there is no such node.
@@ -42,21 +38,11 @@ fn find_node(desk: &Desk<Global>, number: u32, node: &mut NodeNumbers) -> u32
     ensures silent { 1 ≤ result → node.new ≡ node.old }
     ensures only { (result ≡ status.done) ⊎ (result ≡ status.nothing) }
 {
-    let Some(header) = header_of_node(desk, number) else {
+    let Some(header) = desk.header(number) else {
         return NOTHING;
     };
     *node = node_numbers(header);
     DONE
-}
-
-/// The header of a node, or none.
-fn header_of_node(desk: &Desk<Global>, number: u32) -> Option<Header>
-    ensures { option_map header_of result ≡ get (headers desk.now.state.tree) number }
-{
-    match look(desk.image().shape(), &Cell::Header(number)) {
-        Answer::Header(header) => header,
-        _ => None,
-    }
 }
 
 /// Tells where a block of a file lies. `NOTHING` where it isn't mapped.

@@ -8,6 +8,10 @@ ghost use Rattle.kfs_c.specs.Holding.{OnDesk};
 ghost use Rattle.kfs_c.specs.Opening.{AreClientsRefused, AreRowsRefused, IsBegun, IsBegunWith, IsImageRefused, IsLoaded, IsLoadedWith, IsNoImage, IsOpenedWith, IsOpeningRefused, IsRowRefused, IsRowRight, IsUnloaded, IsUnopened, IsRefusedAs, broken_as, client_of, misfit_told, sizes_of, sizes_told, stray_told, unbegun_as, unread_as};
 ghost use Rattle.kfs_c_loose.specs.Status as status;
 
+use crate::fault_codes::{
+    BAD_GRANT, CLIENT_TWICE, GRANT_OVERLAP, GROUPS_OUTSIDE, IMAGE_HEADER, IMAGE_ROW,
+    IMAGE_TRAILING, OPEN_CLIENT, OPEN_CLIENTS, OPEN_IMAGE, OPEN_RULE, OPEN_SIZES, TOO_MANY_GROUPS,
+};
 use crate::handle::Handle;
 use crate::held::Held;
 use crate::numbers::ClientRow;
@@ -48,8 +52,8 @@ pub(crate) fn let_go(alloc: Global, handle: &mut Handle)
 /// Has the handle hold a desk with a new image of these tier sizes, in blocks, and these clients. What
 /// it held is freed then; where no desk is opened, it is kept. The docket will have at most `limit` rows.
 ///
-/// `REFUSED` with a fault of code 1 where a tier is larger than 65,536 blocks, of code 2 for a client
-/// that can't be, of code 3 for clients that can't be together.
+/// `REFUSED` with a fault of code `OPEN_SIZES` where a tier is larger than 65,536 blocks, `OPEN_CLIENT` for
+/// a client that can't be, `OPEN_CLIENTS` for clients that can't be together.
 #[unsafe(no_mangle)]
 pub extern "C" fn kfs_open(
     alloc: Global,
@@ -84,12 +88,12 @@ pub extern "C" fn kfs_open(
 fn bad_sizes() -> FaultNumbers
     ensures { result ≡ sizes_told }
 {
-    fault(1, 0, 0, 0)
+    fault(OPEN_SIZES, 0, 0, 0)
 }
 
 /// Has the handle hold a desk with the image that the bytes spell, and these clients. As `kfs_open`
-/// otherwise; `REFUSED` also with a fault of code 4 for bytes that are no image,
-/// and of code 5 for an image that breaks a rule.
+/// otherwise; `REFUSED` also with a fault of code `OPEN_IMAGE` for bytes that are no
+/// image, and of code `OPEN_RULE` for an image that breaks a rule.
 #[unsafe(no_mangle)]
 pub extern "C" fn kfs_load(
     alloc: Global,
@@ -158,9 +162,9 @@ fn unread(found: ImageFault) -> Unopened
     ensures { result ≡ unread_as found }
 {
     match found {
-        ImageFault::BadImageHeader => Unopened::Refused(fault(4, 1, 0, 0)),
-        ImageFault::BadImageRow(row) => Unopened::Refused(fault(4, 2, row, 0)),
-        ImageFault::ImageTrailing => Unopened::Refused(fault(4, 3, 0, 0)),
+        ImageFault::BadImageHeader => Unopened::Refused(fault(OPEN_IMAGE, IMAGE_HEADER, 0, 0)),
+        ImageFault::BadImageRow(row) => Unopened::Refused(fault(OPEN_IMAGE, IMAGE_ROW, row, 0)),
+        ImageFault::ImageTrailing => Unopened::Refused(fault(OPEN_IMAGE, IMAGE_TRAILING, 0, 0)),
         ImageFault::OutOfMemory => Unopened::NoMemory,
     }
 }
@@ -171,7 +175,7 @@ fn broken(found: ShapeFault) -> Unopened
 {
     match found {
         ShapeFault::Found(finding) => Unopened::Refused(fault(
-            5,
+            OPEN_RULE,
             u32::from(finding.rule),
             u64::from(finding.number),
             0,
@@ -267,8 +271,18 @@ fn unbegun(why: BeginFault) -> Unopened
     ensures { result ≡ unbegun_as why }
 {
     match why {
-        BeginFault::ClientTwice(index) => Unopened::Refused(fault(3, 1, index as u64, 0)),
-        BeginFault::GrantOverlap(index) => Unopened::Refused(fault(3, 2, index as u64, 0)),
+        BeginFault::ClientTwice(index) => Unopened::Refused(fault(
+            OPEN_CLIENTS,
+            CLIENT_TWICE,
+            index as u64,
+            0,
+        )),
+        BeginFault::GrantOverlap(index) => Unopened::Refused(fault(
+            OPEN_CLIENTS,
+            GRANT_OVERLAP,
+            index as u64,
+            0,
+        )),
         BeginFault::OutOfMemory => Unopened::NoMemory,
     }
 }
@@ -332,7 +346,7 @@ fn client_from(row: &ClientRow, groups: &[u32], index: usize) -> Result<Client, 
 fn stray(index: usize) -> FaultNumbers
     ensures { result ≡ stray_told index }
 {
-    fault(2, 3, index as u64, 0)
+    fault(OPEN_CLIENT, GROUPS_OUTSIDE, index as u64, 0)
 }
 
 /// The fault of a client that can't be.
@@ -340,7 +354,7 @@ fn misfit(index: usize, why: ClientFault) -> FaultNumbers
     ensures { result ≡ misfit_told index why }
 {
     match why {
-        ClientFault::TooManyGroups => fault(2, 1, index as u64, 0),
-        ClientFault::BadGrant => fault(2, 2, index as u64, 0),
+        ClientFault::TooManyGroups => fault(OPEN_CLIENT, TOO_MANY_GROUPS, index as u64, 0),
+        ClientFault::BadGrant => fault(OPEN_CLIENT, BAD_GRANT, index as u64, 0),
     }
 }

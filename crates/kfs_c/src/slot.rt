@@ -61,6 +61,7 @@ pub(crate) fn desk_of(held: &Held) -> &Desk<Global>
 {
     match held {
         Held::Desk(desk) => desk,
+        // The condition says that it is a desk.
         Held::View(_) | Held::Verdict(_) => unreachable!(),
     }
 }
@@ -74,6 +75,7 @@ macro_rules! on_desk {
             Ok(mut held) => {
                 let status = match &mut *held {
                     $crate::held::Held::Desk($desk) => $call,
+                    // `take_desk` answers `Ok` for a desk alone.
                     $crate::held::Held::View(_) | $crate::held::Held::Verdict(_) => unreachable!(),
                 };
                 $crate::slot::put_in($alloc, $handle, held);

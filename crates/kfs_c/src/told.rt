@@ -2,12 +2,17 @@
 ghost use Rattle.std.specs.Prelude.{◌≡◌};
 ghost use Rattle.kfs_c.specs.Told.{act_fault_told, act_told, done_told, header_told, is_directory_kind, lease_fault_told, move_fault_told};
 
+use crate::fault_codes::{
+    LEASE_BACKWARDS, LEASE_BAD_PATH, LEASE_HELD, LEASE_NO_SEARCH, LEASE_NO_SUCH_NAME,
+    LEASE_NONE_HELD, LEASE_NOT_DIRECTORY, LEASE_PAST, LEASE_UNKNOWN_CLIENT, MOVE_NOT_FREE,
+    MOVE_NOT_MAPPED, MOVE_OUT_OF_RANGE, MOVE_OVERLAP, MOVE_TOO_MANY,
+};
 use crate::numbers::{ActNumbers, NodeNumbers};
 use kfs_c_submission::{FaultNumbers, NO_FAULT, fault};
+use kfs_desk_docket::answers::{ActFault, ActReply, Done};
 use kfs_image::{Header, Kind};
 use kfs_lease::LeaseFault;
 use kfs_migrate_value::MoveFault;
-use kfs_plan::answers::{ActFault, ActReply, Done};
 
 /// The answer to a call that is no submission.
 pub(crate) fn act_numbers(reply: ActReply) -> ActNumbers
@@ -55,15 +60,15 @@ fn lease_fault_numbers(found: LeaseFault) -> FaultNumbers
     ensures { result ≡ lease_fault_told found }
 {
     match found {
-        LeaseFault::UnknownClient => fault(1, 0, 0, 0),
-        LeaseFault::BadPath => fault(2, 0, 0, 0),
-        LeaseFault::NoSuchName(index) => fault(3, 0, index as u64, 0),
-        LeaseFault::NotDirectory(index) => fault(4, 0, index as u64, 0),
-        LeaseFault::NoSearch(index) => fault(5, 0, index as u64, 0),
-        LeaseFault::Past => fault(6, 0, 0, 0),
-        LeaseFault::LeaseHeld(client) => fault(7, 0, 0, client),
-        LeaseFault::NoLeaseHeld => fault(8, 0, 0, 0),
-        LeaseFault::Backwards => fault(9, 0, 0, 0),
+        LeaseFault::UnknownClient => fault(LEASE_UNKNOWN_CLIENT, 0, 0, 0),
+        LeaseFault::BadPath => fault(LEASE_BAD_PATH, 0, 0, 0),
+        LeaseFault::NoSuchName(index) => fault(LEASE_NO_SUCH_NAME, 0, index as u64, 0),
+        LeaseFault::NotDirectory(index) => fault(LEASE_NOT_DIRECTORY, 0, index as u64, 0),
+        LeaseFault::NoSearch(index) => fault(LEASE_NO_SEARCH, 0, index as u64, 0),
+        LeaseFault::Past => fault(LEASE_PAST, 0, 0, 0),
+        LeaseFault::LeaseHeld(client) => fault(LEASE_HELD, 0, 0, client),
+        LeaseFault::NoLeaseHeld => fault(LEASE_NONE_HELD, 0, 0, 0),
+        LeaseFault::Backwards => fault(LEASE_BACKWARDS, 0, 0, 0),
         LeaseFault::OutOfMemory => NO_FAULT,
     }
 }
@@ -73,11 +78,11 @@ fn move_fault_numbers(found: MoveFault) -> FaultNumbers
     ensures { result ≡ move_fault_told found }
 {
     match found {
-        MoveFault::NotMapped(index) => fault(1, 0, index as u64, 0),
-        MoveFault::OutOfRange(index) => fault(2, 0, index as u64, 0),
-        MoveFault::NotFree(index) => fault(3, 0, index as u64, 0),
-        MoveFault::Overlap(index) => fault(4, 0, index as u64, 0),
-        MoveFault::TooManyMoves => fault(5, 0, 0, 0),
+        MoveFault::NotMapped(index) => fault(MOVE_NOT_MAPPED, 0, index as u64, 0),
+        MoveFault::OutOfRange(index) => fault(MOVE_OUT_OF_RANGE, 0, index as u64, 0),
+        MoveFault::NotFree(index) => fault(MOVE_NOT_FREE, 0, index as u64, 0),
+        MoveFault::Overlap(index) => fault(MOVE_OVERLAP, 0, index as u64, 0),
+        MoveFault::TooManyMoves => fault(MOVE_TOO_MANY, 0, 0, 0),
         MoveFault::OutOfMemory => NO_FAULT,
     }
 }

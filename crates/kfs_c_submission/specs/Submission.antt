@@ -1,6 +1,6 @@
 -- What a submission over the boundary comes to.
 use Rattle.std.specs.Prelude.{◌≡◌, ℕ, false, List, length}
-use Rattle.kfs_plan.specs.declared.answers.Reply.{Reply}
+use Rattle.kfs_desk_docket.specs.declared.answers.Reply.{Reply}
 use Rattle.kfs_plan.specs.Judging.{submission_with}
 use Rattle.kfs_desk.specs.Machine.{Desk, IsAnswered}
 use Rattle.kfs_c_submission.specs.declared.numbers.ReplyNumbers.{ReplyNumbers}

@@ -4,6 +4,7 @@
 //! `submission.rt`, then `told.rt`.
 #![tactic(auto)]
 
+mod fault_codes;
 mod numbers;
 mod submission;
 mod told;

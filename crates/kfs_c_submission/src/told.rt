@@ -2,10 +2,17 @@
 ghost use Rattle.std.specs.Prelude.{◌≡◌};
 ghost use Rattle.kfs_c_submission.specs.Told.{fault_told, numbers, reason_told, reply_told, row_told, spelling_told};
 
+use crate::fault_codes::{
+    BAD_ENTRY, BAD_HEADER, BAD_LOG, BAD_PLAN, BAD_ROW, BELOW_ITSELF, ENTRY, IS_DIRECTORY,
+    NAME_TAKEN, NO, NO_LEASE, NO_ROOM, NO_SEARCH, NO_SUCH_NAME, NO_SUCH_NODE, NO_WRITE,
+    NOT_DIRECTORY, NOT_EMPTY, NOT_IN_GROUP, NOT_OWNER, NUMBER_NOT_GRANTED, NUMBER_TAKEN, ROW,
+    ROW_NAMES, ROW_NODES, ROW_PIECES, STICKY, TOO_BIG, TOO_MANY_LINKS, TRAILING, UNKNOWN_CLIENT,
+    WRONG_CLIENT, YES,
+};
 use crate::numbers::{FaultNumbers, ReplyNumbers};
+use kfs_desk_docket::answers::Reply;
 use kfs_entry::SpellFault;
 use kfs_judge::Reason;
-use kfs_plan::answers::Reply;
 use kfs_plan::{Fault, RowFault};
 
 /// No fault.
@@ -38,7 +45,7 @@ pub fn reply_numbers(reply: Reply) -> ReplyNumbers
             rejudged,
             need,
         } => ReplyNumbers {
-            kind: 0,
+            kind: YES,
             position,
             rejudged,
             need,
@@ -50,7 +57,7 @@ pub fn reply_numbers(reply: Reply) -> ReplyNumbers
             rejudged,
             fault,
         } => ReplyNumbers {
-            kind: 1,
+            kind: NO,
             position,
             rejudged,
             need: 0,
@@ -63,7 +70,7 @@ pub fn reply_numbers(reply: Reply) -> ReplyNumbers
             need,
             free,
         } => ReplyNumbers {
-            kind: 2,
+            kind: NO_ROOM,
             position,
             rejudged,
             need,
@@ -78,10 +85,10 @@ fn fault_numbers(found: Fault) -> FaultNumbers
     ensures { result ≡ fault_told found }
 {
     match found {
-        Fault::UnknownClient => fault(1, 0, 0, 0),
-        Fault::BadLog(spelling) => spelling_numbers(2, spelling),
-        Fault::WrongClient => fault(3, 0, 0, 0),
-        Fault::BadPlan(spelling) => spelling_numbers(4, spelling),
+        Fault::UnknownClient => fault(UNKNOWN_CLIENT, 0, 0, 0),
+        Fault::BadLog(spelling) => spelling_numbers(BAD_LOG, spelling),
+        Fault::WrongClient => fault(WRONG_CLIENT, 0, 0, 0),
+        Fault::BadPlan(spelling) => spelling_numbers(BAD_PLAN, spelling),
         Fault::Entry(entry) => reason_numbers(entry.index as u64, entry.reason),
         Fault::Row(row) => row_numbers(row),
     }
@@ -92,10 +99,10 @@ fn spelling_numbers(code: u32, found: SpellFault) -> FaultNumbers
     ensures { result ≡ spelling_told code found }
 {
     match found {
-        SpellFault::BadHeader => fault(code, 1, 0, 0),
-        SpellFault::BadEntry(index) => fault(code, 2, u64::from(index), 0),
-        SpellFault::Trailing => fault(code, 3, 0, 0),
-        SpellFault::BadRow(part, index) => fault(code, 4, u64::from(index), u32::from(part)),
+        SpellFault::BadHeader => fault(code, BAD_HEADER, 0, 0),
+        SpellFault::BadEntry(index) => fault(code, BAD_ENTRY, u64::from(index), 0),
+        SpellFault::Trailing => fault(code, TRAILING, 0, 0),
+        SpellFault::BadRow(part, index) => fault(code, BAD_ROW, u64::from(index), u32::from(part)),
         SpellFault::OutOfMemory => fault(code, 0, 0, 0),
     }
 }
@@ -105,23 +112,23 @@ fn reason_numbers(index: u64, reason: Reason) -> FaultNumbers
     ensures { result ≡ reason_told index reason }
 {
     match reason {
-        Reason::NoSuchNode => fault(5, 1, index, 0),
-        Reason::NotDirectory => fault(5, 2, index, 0),
-        Reason::IsDirectory => fault(5, 3, index, 0),
-        Reason::NoSuchName => fault(5, 4, index, 0),
-        Reason::NameTaken => fault(5, 5, index, 0),
-        Reason::NumberTaken => fault(5, 6, index, 0),
-        Reason::NumberNotGranted => fault(5, 7, index, 0),
-        Reason::NotEmpty => fault(5, 8, index, 0),
-        Reason::BelowItself => fault(5, 9, index, 0),
-        Reason::TooManyLinks => fault(5, 10, index, 0),
-        Reason::TooBig => fault(5, 11, index, 0),
-        Reason::NoSearch => fault(5, 12, index, 0),
-        Reason::NoWrite => fault(5, 13, index, 0),
-        Reason::NotOwner => fault(5, 14, index, 0),
-        Reason::NoLease(number) => fault(5, 15, index, number),
-        Reason::Sticky => fault(5, 16, index, 0),
-        Reason::NotInGroup => fault(5, 17, index, 0),
+        Reason::NoSuchNode => fault(ENTRY, NO_SUCH_NODE, index, 0),
+        Reason::NotDirectory => fault(ENTRY, NOT_DIRECTORY, index, 0),
+        Reason::IsDirectory => fault(ENTRY, IS_DIRECTORY, index, 0),
+        Reason::NoSuchName => fault(ENTRY, NO_SUCH_NAME, index, 0),
+        Reason::NameTaken => fault(ENTRY, NAME_TAKEN, index, 0),
+        Reason::NumberTaken => fault(ENTRY, NUMBER_TAKEN, index, 0),
+        Reason::NumberNotGranted => fault(ENTRY, NUMBER_NOT_GRANTED, index, 0),
+        Reason::NotEmpty => fault(ENTRY, NOT_EMPTY, index, 0),
+        Reason::BelowItself => fault(ENTRY, BELOW_ITSELF, index, 0),
+        Reason::TooManyLinks => fault(ENTRY, TOO_MANY_LINKS, index, 0),
+        Reason::TooBig => fault(ENTRY, TOO_BIG, index, 0),
+        Reason::NoSearch => fault(ENTRY, NO_SEARCH, index, 0),
+        Reason::NoWrite => fault(ENTRY, NO_WRITE, index, 0),
+        Reason::NotOwner => fault(ENTRY, NOT_OWNER, index, 0),
+        Reason::NoLease(number) => fault(ENTRY, NO_LEASE, index, number),
+        Reason::Sticky => fault(ENTRY, STICKY, index, 0),
+        Reason::NotInGroup => fault(ENTRY, NOT_IN_GROUP, index, 0),
     }
 }
 
@@ -130,9 +137,9 @@ fn row_numbers(found: RowFault) -> FaultNumbers
     ensures { result ≡ row_told found }
 {
     match found {
-        RowFault::Names(index) => fault(6, 1, index as u64, 0),
-        RowFault::Nodes(index) => fault(6, 2, index as u64, 0),
-        RowFault::Pieces(index) => fault(6, 3, index as u64, 0),
-        RowFault::OutOfMemory => fault(6, 0, 0, 0),
+        RowFault::Names(index) => fault(ROW, ROW_NAMES, index as u64, 0),
+        RowFault::Nodes(index) => fault(ROW, ROW_NODES, index as u64, 0),
+        RowFault::Pieces(index) => fault(ROW, ROW_PIECES, index as u64, 0),
+        RowFault::OutOfMemory => fault(ROW, 0, 0, 0),
     }
 }

@@ -13,8 +13,8 @@ use Rattle.kfs_plan.specs.Judging.{IsVerdict, TellsVerdict}
 use Rattle.kfs_plan.specs.declared.submission.Fault.{Fault}
 use Rattle.kfs_plan.specs.declared.submission.Outcome.{Outcome}
 use Rattle.kfs_plan.specs.declared.submission.Outcome.TheVariants as outcomes
-use Rattle.kfs_plan.specs.declared.answers.Reply.{Reply}
-use Rattle.kfs_plan.specs.declared.answers.Reply.TheVariants as replies
+use Rattle.kfs_desk_docket.specs.declared.answers.Reply.{Reply}
+use Rattle.kfs_desk_docket.specs.declared.answers.Reply.TheVariants as replies
 use Rattle.kfs_desk.specs.Landing.{AnswersOutcome, CanLand, CanLandYes, HasLanded, ended_by, free_in, leases_left}
 use Rattle.kfs_desk.specs.Machine.{IsAnswered, IsDesk, IsShown, IsStep, AnswerMeans, Parts, shown, state_at, state_of}
 use Rattle.kfs_desk.specs.Docket.{is_rejudged, position_of}

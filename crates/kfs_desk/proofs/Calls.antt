@@ -13,8 +13,8 @@ use Rattle.kfs_model.specs.Migration as migration
 use Rattle.kfs_model.specs.Placement.{Placement, TierSizes}
 use Rattle.kfs_model.specs.FirstAnswer.{first_answer}
 use Rattle.kfs_model.proofs.RowFits.{row_fits}
-use Rattle.kfs_plan.specs.declared.answers.ActFault.{ActFault}
-use Rattle.kfs_plan.specs.declared.answers.ActFault.TheVariants as act_faults
+use Rattle.kfs_desk_docket.specs.declared.answers.ActFault.{ActFault}
+use Rattle.kfs_desk_docket.specs.declared.answers.ActFault.TheVariants as act_faults
 use Rattle.kfs_migrate.specs.Applied.{AreApplied}
 use Rattle.kfs_migrate_value.specs.Faults.{Refuses}
 use Rattle.kfs_migrate_value.specs.declared.moves.MoveFault.{MoveFault as CodeMoveFault}
@@ -25,8 +25,8 @@ use Rattle.kfs_image.specs.Image.{contents_of}
 use Rattle.kfs_image.proofs.ShownTrees.{sight_shown}
 use Rattle.kfs_lease.specs.declared.act.Act.{Act}
 use Rattle.kfs_lease.specs.declared.act.Act.TheVariants as acts
-use Rattle.kfs_plan.specs.declared.answers.Done.{Done}
-use Rattle.kfs_plan.specs.declared.answers.Done.TheVariants.{Moved}
+use Rattle.kfs_desk_docket.specs.declared.answers.Done.{Done}
+use Rattle.kfs_desk_docket.specs.declared.answers.Done.TheVariants.{Moved}
 use Rattle.kfs_desk.specs.Machine.{Parts, IsActed, IsCallStep, IsChange, IsDesk, IsMigrated, IsShown, SeeTheSame, call_fault_of, call_of, done_by, outcome_at, row_answer, shown, state_at, state_of, told_by_leases}
 use Rattle.kfs_desk.proofs.Dockets.{desk_with}
 

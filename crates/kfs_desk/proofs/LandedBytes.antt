@@ -30,7 +30,7 @@ use Rattle.kfs_image_fill.specs.FillOf.{CanLandWith, Fills, HasLandedWith, IsFil
 use Rattle.kfs_image_fill.proofs.LandedImages.{IsLanding, landed_lawful, landed_placement, landed_tree}
 use Rattle.kfs_plan_sweep.specs.Lefts.{IsFilled, PieceIsInRange}
 use Rattle.kfs_plan.specs.Judging.{TellsYes}
-use Rattle.kfs_plan.specs.declared.answers.Reply.TheVariants as replies
+use Rattle.kfs_desk_docket.specs.declared.answers.Reply.TheVariants as replies
 use Rattle.kfs_desk.specs.Landing.{ended_by}
 use Rattle.kfs_desk.specs.Machine.{IsDesk, IsDone, IsStep, Parts, state_at, state_of}
 use Rattle.kfs_desk.proofs.Landing.{contents_are, leases_end}

@@ -1,11 +1,9 @@
 -- The fault of a client, seen from its number and its grant.
-use Rattle.std.proofs.Common.{◌≡◌, ◌==◌, Bool, true, false, cond, List, length, Option, Some, None, Result, Ok, Err, sym, ap, ◌∙◌}
-use Rattle.std.specs.Result.{IfOk, result_unwrap_or}
+use Rattle.std.proofs.Common.{◌≡◌, ◌==◌, Bool, true, false, cond, List, length, Option, Some, None, ap, ◌∙◌}
 use Rattle.std.specs.List.{list_any}
-use Rattle.std.specs.declared.alloc.AllocError.{AllocError}
 use Rattle.kfs_model.specs.Access.{Client}
-use Rattle.kfs_plan.specs.declared.answers.BeginFault.{BeginFault}
-use Rattle.kfs_plan.specs.declared.answers.BeginFault.TheVariants.{ClientTwice, GrantOverlap, OutOfMemory}
+use Rattle.kfs_desk_docket.specs.declared.answers.BeginFault.{BeginFault}
+use Rattle.kfs_desk_docket.specs.declared.answers.BeginFault.TheVariants.{ClientTwice, GrantOverlap}
 use Rattle.kfs_desk.specs.Opening.{do_overlap, fault_behind}
 
 module _ (earlier : List Client) (client : Client) where
@@ -26,13 +24,3 @@ module _ (earlier : List Client) (client : Client) where
 
   pub no_fault : is_twice ≡ false → has_overlap ≡ false → fault_behind earlier client ≡ None
   no_fault new alone = ap (λ b. by_tests b has_overlap) new ∙ ap (λ b. by_tests false b) alone
-
--- what holds where no fault was found
-pub at_none : {P : Type 0} (found : Result (Option BeginFault) AllocError) {fault : Option BeginFault} → IfOk found (λ none. none ≡ None → P) → fault ≡ result_unwrap_or found (Some OutOfMemory) → fault ≡ None → P
-at_none (Ok here) holds is none = holds (sym is ∙ none)
-at_none (Err refused) holds is none = cc (is, none)
-
--- it is what the clients come to, then
-pub none_found : {said : Option BeginFault} (found : Result (Option BeginFault) AllocError) {fault : Option BeginFault} → IfOk found (λ none. none ≡ said) → fault ≡ result_unwrap_or found (Some OutOfMemory) → fault ≡ None → said ≡ None
-none_found (Ok here) holds is none = sym holds ∙ sym is ∙ none
-none_found (Err refused) holds is none = cc (is, none)

@@ -17,8 +17,8 @@ use Rattle.kfs_image_fill.specs.Bytes.{entries_of, pieces_of, HasPayloads}
 use Rattle.kfs_image_fill.specs.FillOf.{CanLandWith, HasLandedWith}
 use Rattle.kfs_plan.specs.declared.submission.Outcome.{Outcome}
 use Rattle.kfs_plan.specs.declared.submission.Outcome.TheVariants as outcomes
-use Rattle.kfs_plan.specs.declared.answers.Reply.{Reply}
-use Rattle.kfs_plan.specs.declared.answers.Reply.TheVariants as replies
+use Rattle.kfs_desk_docket.specs.declared.answers.Reply.{Reply}
+use Rattle.kfs_desk_docket.specs.declared.answers.Reply.TheVariants as replies
 
 -- the leases after a row of a net: where the row's node is gone, those on it end
 abbrev pub ended_with : Leases → (number : ℕ) → Option Header → Leases

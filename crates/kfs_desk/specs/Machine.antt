@@ -16,8 +16,8 @@ use Rattle.kfs_lease.specs.Faults as lease_faults
 use Rattle.kfs_migrate.specs.Applied.{AreApplied}
 use Rattle.kfs_migrate_value.specs.Faults as move_faults
 use Rattle.kfs_lease_rows.specs.Rows.{kind_of}
-use Rattle.kfs_plan.specs.declared.answers.ActFault.{ActFault}
-use Rattle.kfs_plan.specs.declared.answers.ActFault.TheVariants as act_faults
+use Rattle.kfs_desk_docket.specs.declared.answers.ActFault.{ActFault}
+use Rattle.kfs_desk_docket.specs.declared.answers.ActFault.TheVariants as act_faults
 use Rattle.kfs_model_device.specs.ShownTree.{DeviceImage, IsLawful, shown_tree}
 use Rattle.kfs_plan.specs.Judging.{refusal_of, submission_of}
 use Rattle.kfs_plan.specs.declared.submission.Back.{Back}
@@ -25,14 +25,14 @@ use Rattle.kfs_plan.specs.declared.submission.Submission.{Submission as CodeSubm
 use Rattle.kfs_plan.specs.declared.submission.Why.{Why}
 use Rattle.kfs_plan.specs.declared.submission.Why.TheVariants as whys
 use Rattle.kfs_lease.specs.declared.act.Act.{Act}
-use Rattle.kfs_plan.specs.declared.answers.ActReply.{ActReply}
-use Rattle.kfs_plan.specs.declared.answers.Unanswered.{Unanswered}
-use Rattle.kfs_plan.specs.declared.answers.Unanswered.TheVariants as unanswered
+use Rattle.kfs_desk_docket.specs.declared.answers.ActReply.{ActReply}
+use Rattle.kfs_desk_docket.specs.declared.answers.Unanswered.{Unanswered}
+use Rattle.kfs_desk_docket.specs.declared.answers.Unanswered.TheVariants as unanswered
 use Rattle.kfs_lease.specs.declared.act.Act.TheVariants as acts
-use Rattle.kfs_plan.specs.declared.answers.Done.{Done}
-use Rattle.kfs_plan.specs.declared.answers.Done.TheVariants as dones
-use Rattle.kfs_plan.specs.declared.answers.Reply.{Reply as CodeReply}
-use Rattle.kfs_plan.specs.declared.answers.Reply.TheVariants as replies
+use Rattle.kfs_desk_docket.specs.declared.answers.Done.{Done}
+use Rattle.kfs_desk_docket.specs.declared.answers.Done.TheVariants as dones
+use Rattle.kfs_desk_docket.specs.declared.answers.Reply.{Reply as CodeReply}
+use Rattle.kfs_desk_docket.specs.declared.answers.Reply.TheVariants as replies
 use Rattle.kfs_judge_check.specs.Reads.{Agrees}
 use Rattle.kfs_judge_check.specs.View.{clients_of, contents_of, leases_of}
 use Rattle.kfs_judge_check.specs.declared.view.View.{View}

@@ -1,8 +1,8 @@
 //! What comes back where no desk was begun.
 
+use kfs_desk_docket::answers::BeginFault;
 use kfs_image::Image;
 use kfs_mode::Client;
-use kfs_plan::answers::BeginFault;
 use std::alloc::Allocator;
 
 /// The image and the clients that a desk wasn't begun with.

@@ -1,10 +1,12 @@
 //! The desk: it owns the image and the leases, and lands what was judged right.
-ghost use Rattle.std.specs.Prelude.{◌≡◌, ◌↔◌, ◌⊎◌, false, ◌+◌, ◌≤◌, ◌<◌, ◌++◌, ◌∷◌, [], IfOk, IfErr, OnErr, OnOk, IsErrOf, IsFalse, IsTrue, Ok, Err, None, Some, length};
+ghost use Rattle.std.specs.Prelude.{◌≡◌, ◌↔◌, ◌⊎◌, false, ◌+◌, ◌≤◌, ◌<◌, ◌++◌, ◌∷◌, [], IfOk, IfErr, OnErr, OnOk, IsErrOf, IsFalse, IsTrue, Ok, Err, None, Some, length, option_map};
 ghost use Rattle.kfs_model.specs.Order.{IsInOrder};
 ghost use Rattle.kfs_model.specs.Machine as machine;
 ghost use Rattle.kfs_model.specs.Machine.{opening};
 ghost use Rattle.kfs_model.specs.Means.{DiffersInPlacement};
-ghost use Rattle.kfs_model.specs.Table.{empty};
+ghost use Rattle.kfs_model.specs.Table.{empty, get};
+ghost use Rattle.kfs_model.specs.Tree.{headers};
+ghost use Rattle.kfs_entry_value.specs.Views.{header_of};
 ghost use Rattle.kfs_desk_docket.specs.Legal.{IsLegalDocket};
 ghost use Rattle.kfs_mode.specs.Clients.{ClientsAreDistinct};
 ghost use Rattle.kfs_lease.specs.Faults as refusals;
@@ -25,15 +27,15 @@ use crate::first_fault::first_fault;
 use crate::state::ShownState;
 use crate::state_change::change_state;
 use kfs_desk_docket::Docket;
-use kfs_image::{Image, Shape};
+use kfs_desk_docket::answers::{
+    Act, ActFault, ActReply, BeginFault, Done, Reply, SubmissionsBack, Unanswered,
+};
+use kfs_image::{Answer, Cell, Header, Image, Shape, look};
 use kfs_image_fill::LogBytes;
 use kfs_judge::View;
 use kfs_lease::{LeaseFault, LeaseKind, Leases};
 use kfs_migrate::{Move, MoveFault, apply_moves, check_moves};
 use kfs_mode::Client;
-use kfs_plan::answers::{
-    Act, ActFault, ActReply, BeginFault, Done, Reply, SubmissionsBack, Unanswered,
-};
 use kfs_plan::{Back, Judged, Outcome, Submission, Why, judge, judge_bytes};
 use std::alloc::{AllocError, Allocator};
 use std::marker::Model;
@@ -87,13 +89,22 @@ impl<A: Allocator + Copy> Desk<A> {
     {
         // Tells the prover that the image is lawful.
         let _shape = image.shape();
-        let fault = first_fault(alloc, &clients).unwrap_or(Some(BeginFault::OutOfMemory));
-        if let Some(why) = fault {
-            return Err(BeginBack {
-                image,
-                clients,
-                why,
-            });
+        match first_fault(alloc, &clients) {
+            Ok(None) => (),
+            Ok(Some(why)) => {
+                return Err(BeginBack {
+                    image,
+                    clients,
+                    why,
+                });
+            }
+            Err(_) => {
+                return Err(BeginBack {
+                    image,
+                    clients,
+                    why: BeginFault::OutOfMemory,
+                });
+            }
         }
         let Ok(leases) = Arc::new(alloc, Leases::new(alloc)) else {
             return Err(BeginBack {
@@ -137,6 +148,16 @@ impl<A: Allocator + Copy> Desk<A> {
         ensures in_order { IsInOrder self.now.state }
     {
         &self.image
+    }
+
+    /// The header of a node now, or none where there is no such node. Takes no memory.
+    pub fn header(&self, number: u32) -> Option<Header>
+        ensures { option_map header_of result ≡ get (headers self.now.state.tree) number }
+    {
+        match look(self.image().shape(), &Cell::Header(number)) {
+            Answer::Header(header) => header,
+            _ => None,
+        }
     }
 
     /// Gives the client a lease on the node at the path, up to the moment `end`. The answer, a grant or

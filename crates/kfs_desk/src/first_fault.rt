@@ -6,10 +6,10 @@ ghost use Rattle.kfs_mode.specs.Clients.{ClientsAreDistinct};
 ghost use Rattle.kfs_desk.specs.Opening.{begin_fault};
 ghost use Rattle.kfs_desk.specs.Grants.{AreUngranted, MarksGranted};
 
+use kfs_desk_docket::answers::BeginFault;
 use kfs_entry_value::GREATEST_NUMBER;
 use kfs_image_tier::Places;
 use kfs_mode::Client;
-use kfs_plan::answers::BeginFault;
 use std::alloc::{AllocError, Allocator};
 use std::collections::BTreeSet;
 
@@ -25,6 +25,7 @@ pub(crate) fn first_fault<A: Allocator + Copy>(
     ensures in_range { IfOk result (λ fault. fault ≡ None → AllByRecursion IsClient clients.now) }
 {
     let mut numbers = BTreeSet::new(alloc);
+    // A set of numbers with a bit for each: std has none, and the places of a tier are kept in such a one.
     let mut ungranted = Places::new(alloc, GREATEST_NUMBER + 1)?;
     for (index, client) in clients.iter().enumerate() {
         if !numbers.insert(client.number())? {

@@ -14,8 +14,8 @@ mod state_change;
 pub use back::BeginBack;
 pub use desk::Desk;
 pub use kfs_desk_docket::Docket;
-pub use kfs_migrate::{Move, MoveFault};
-pub use kfs_plan::answers::{
+pub use kfs_desk_docket::answers::{
     Act, ActFault, ActReply, BeginFault, Done, Reply, SubmissionsBack, Unanswered,
 };
+pub use kfs_migrate::{Move, MoveFault};
 pub use kfs_plan::{Back, Why};

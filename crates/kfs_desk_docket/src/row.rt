@@ -25,7 +25,6 @@ impl OneRow {
         requires { (row : Row) × R.is_row rule.now row }
         ensures { R.is_row rule.now result.row }
     {
-        let _ = rule;
         OneRow {}
     }
 }

@@ -8,6 +8,6 @@ pub mod laws;
 mod walk;
 
 pub use kfs_image_nodes::Net;
-pub use kfs_judge_check::{Keeping, Read, ReadAnswer, Reads, Reason, View};
+pub use kfs_judge_check::{Keeping, KeptReads, Read, ReadAnswer, Reads, Reason, View};
 pub use kfs_plan_sweep::FileSize;
 pub use walk::{EntryFault, Walk, judge_entries, judge_entries_keeping};

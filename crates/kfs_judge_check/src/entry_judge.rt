@@ -172,6 +172,7 @@ impl<A: Allocator + Copy> EntryJudge<'_, A> {
                 let allowed = self.may_remove(recorder, *dir, *number)?;
                 Ok(unless(allowed, Reason::Sticky))
             }
+            // `fault` sends no other check here. The condition says so, and the prover wants each case.
             _ => unreachable!(),
         }
     }
@@ -203,6 +204,7 @@ impl<A: Allocator + Copy> EntryJudge<'_, A> {
                 let header = self.header(recorder, *number)?;
                 Ok(unless(has_room_for_link(header), Reason::TooManyLinks))
             }
+            // `fault` has answered each other check. The condition says so, and the prover wants each case.
             _ => unreachable!(),
         }
     }
@@ -383,6 +385,7 @@ fn is_not_sticky(header: Option<Header>) -> bool
 fn is_sticky(mode: u16) -> bool
     ensures { result ≡ is_sticky mode }
 {
+    // That is `mode & STICKY != 0`, as the definitions say it: they count, and have no bits.
     mode / STICKY % 2 == 1
 }
 

@@ -15,5 +15,5 @@ mod view;
 pub use check::{Check, Reason};
 pub use entry_judge::EntryJudge;
 pub use reads::{Read, ReadAnswer, Recorder};
-pub use record::{Keeping, Reads};
+pub use record::{Keeping, KeptReads, Reads};
 pub use view::View;

@@ -22,12 +22,15 @@ pub enum Keeping {
     Nothing,
 }
 
+/// Reads that are kept, each once, with their answers. They stand in the order in which they were made.
+pub type KeptReads<A> = IndexMap<Read, ReadAnswer, BuildHasherDefault<FoldHasher>, A>;
+
 /// The reads of a judgement with their answers, in order. Where they are kept, each stands there once.
 /// Where they aren't, contracts alone see them: they take no memory, and a read that is made again is
 /// there again.
 #[derive(Drop)]
 pub struct Reads<A: Allocator> {
-    kept: Option<IndexMap<Read, ReadAnswer, BuildHasherDefault<FoldHasher>, A>>,
+    kept: Option<KeptReads<A>>,
     seen: GhostList<SeenRead>,
 }
 
@@ -75,7 +78,7 @@ impl<A: Allocator + Copy> Reads<A> {
     }
 
     /// The reads, if they are kept. Takes no memory.
-    pub fn into_map(self) -> Option<IndexMap<Read, ReadAnswer, BuildHasherDefault<FoldHasher>, A>>
+    pub fn into_map(self) -> Option<KeptReads<A>>
         ensures found { IfSome result (λ map. map.entries ≡ self.entries) }
         ensures kept { is_some result ≡ self.keeps }
     {
@@ -112,7 +115,7 @@ impl<A: Allocator + Copy> Reads<A> {
 // answered without the frame of this function.
 #[inline(never)]
 fn record<A: Allocator + Copy>(
-    reads: &mut IndexMap<Read, ReadAnswer, BuildHasherDefault<FoldHasher>, A>,
+    reads: &mut KeptReads<A>,
     read: Read,
     answer: ReadAnswer,
 ) -> Result<(), AllocError>

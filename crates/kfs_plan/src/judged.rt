@@ -8,12 +8,10 @@ ghost use Rattle.kfs_judge_check.specs.View.{clients_of, client_sight_in};
 ghost use Rattle.kfs_plan.specs.Judged.{HoldsIn, IsKnown};
 
 use crate::submission::{Outcome, Submission};
-use indexmap::IndexMap;
 use kfs_image_nodes::{Answer, Cell, Near};
-use kfs_judge::{Read, ReadAnswer, View};
+use kfs_judge::{KeptReads, Read, ReadAnswer, View};
 use kfs_mode::Client;
 use std::alloc::Allocator;
-use std::hash::{BuildHasherDefault, FoldHasher};
 use std::marker::Model;
 
 /// The verdict on a submission: the submission, the client and the reads that the verdict rests on, and
@@ -23,7 +21,7 @@ use std::marker::Model;
 pub struct Judged<A: Allocator> {
     submission: Submission<A>,
     client: Option<Client>,
-    reads: IndexMap<Read, ReadAnswer, BuildHasherDefault<FoldHasher>, A>,
+    reads: KeptReads<A>,
     outcome: Outcome<A>,
 }
 
@@ -42,7 +40,7 @@ impl<A: Allocator> Judged<A> {
     pub(crate) fn of(
         submission: Submission<A>,
         client: Option<Client>,
-        reads: IndexMap<Read, ReadAnswer, BuildHasherDefault<FoldHasher>, A>,
+        reads: KeptReads<A>,
         outcome: Outcome<A>,
     ) -> Judged<A>
         requires known { IsKnown (record { submission = submission; client = client; reads = reads.entries; outcome = outcome }) }
@@ -73,7 +71,7 @@ impl<A: Allocator> Judged<A> {
 
     /// The reads that the verdict rests on, with their answers, in the order of the first look. Takes
     /// no memory.
-    pub fn reads(&self) -> &IndexMap<Read, ReadAnswer, BuildHasherDefault<FoldHasher>, A>
+    pub fn reads(&self) -> &KeptReads<A>
         ensures { result.now.entries ≡ self.now.reads }
     {
         &self.reads
@@ -120,11 +118,7 @@ fn has_row<A: Allocator + Copy>(view: &View<A>, number: u32, row: Option<&Client
 }
 
 /// Whether the view answers each of the client's reads as recorded.
-fn agrees<A: Allocator + Copy>(
-    view: &View<A>,
-    client: u32,
-    reads: &IndexMap<Read, ReadAnswer, BuildHasherDefault<FoldHasher>, A>,
-) -> bool
+fn agrees<A: Allocator + Copy>(view: &View<A>, client: u32, reads: &KeptReads<A>) -> bool
     ensures { IsTrue result ↔ Agrees reads.now.entries (client_sight_in view.now client) }
 {
     let mut near = Near::start();

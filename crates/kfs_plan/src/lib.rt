@@ -1,11 +1,9 @@
-//! Judges a client's submission: client, log, plan, entries, plan rows. Also has the values that the
-//! desk answers.
+//! Judges a client's submission: client, log, plan, entries, plan rows.
 //!
 //! It stands on `kfs_judge` (the entries) and `kfs_plan_sweep` (the pieces); desk, workers and report
 //! stand on it. Begin with `judge`, and with `check_plan` for a log that was judged before.
 #![tactic(auto)]
 
-pub mod answers;
 mod judged;
 mod judgement;
 mod pieces;

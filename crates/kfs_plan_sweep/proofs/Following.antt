@@ -7,14 +7,9 @@ use Rattle.kfs_model.specs.PlanRow.{Piece}
 use Rattle.kfs_plan_sweep.specs.PiecesApart.{begins_alike, behind_piece, first_apart, without_front}
 use Rattle.kfs_entry_value.specs.declared.plan.Piece.{Piece as CodePiece}
 use Rattle.kfs_entry_value.specs.Views.{piece_of}
-use Rattle.kfs_plan_sweep.specs.declared.compare.Left.{Left}
-use Rattle.kfs_plan_sweep.specs.Lefts.{left_of}
-
-pub left_some : (list : List CodePiece) (left : Left) (r : CodePiece) → left.front ≡ Some r → left_of list left ≡ r ∷ drop left.next list
-left_some list left r is = ap (λ o. left_of list (record left { front = o })) is
-
-pub left_none : (list : List CodePiece) (left : Left) → left.front ≡ None → left_of list left ≡ []
-left_none list left is = ap (λ o. left_of list (record left { front = o })) is
+use Rattle.kfs_plan_sweep.specs.declared.rest.Rest.{Rest}
+use Rattle.kfs_plan_sweep.specs.Rests.{rest_of}
+use Rattle.kfs_plan_sweep.proofs.Rests.{rest_some, rest_none}
 
 module _ (p r : Piece) (rs : List Piece) where
   abbrev answer : Bool → Bool → Bool → Option (List Piece)
@@ -80,16 +75,16 @@ rows_end pieces index right h = ap (λ xs. first_apart index (map piece_of xs) r
 
 -- behind the last row
 module _ (list : List CodePiece) (index : ℕ) where
-  pub some_are_left : (left : Left) → is_some left.front ≡ true → first_apart index [] (map piece_of (left_of list left)) ≡ Some index
+  pub some_are_left : (left : Rest CodePiece) → is_some left.front ≡ true → first_apart index [] (map piece_of (rest_of list left)) ≡ Some index
   some_are_left left some = at left.front refl some
     where
-      at : (o : Option CodePiece) → left.front ≡ o → is_some o ≡ true → first_apart index [] (map piece_of (left_of list left)) ≡ Some index
+      at : (o : Option CodePiece) → left.front ≡ o → is_some o ≡ true → first_apart index [] (map piece_of (rest_of list left)) ≡ Some index
       at None is some = cc
-      at (Some r) is some = ap (λ xs. first_apart index [] (map piece_of xs)) (left_some list left r is) ∙ apart_left index (piece_of r) (map piece_of (drop left.next list))
+      at (Some r) is some = ap (λ xs. first_apart index [] (map piece_of xs)) (rest_some list left r is) ∙ apart_left index (piece_of r) (map piece_of (drop left.next list))
 
-  pub none_is_left : (left : Left) → is_some left.front ≡ false → first_apart index [] (map piece_of (left_of list left)) ≡ None
+  pub none_is_left : (left : Rest CodePiece) → is_some left.front ≡ false → first_apart index [] (map piece_of (rest_of list left)) ≡ None
   none_is_left left none = at left.front refl none
     where
-      at : (o : Option CodePiece) → left.front ≡ o → is_some o ≡ false → first_apart index [] (map piece_of (left_of list left)) ≡ None
-      at None is none = ap (λ xs. first_apart index [] (map piece_of xs)) (left_none list left is) ∙ apart_ends index
+      at : (o : Option CodePiece) → left.front ≡ o → is_some o ≡ false → first_apart index [] (map piece_of (rest_of list left)) ≡ None
+      at None is none = ap (λ xs. first_apart index [] (map piece_of xs)) (rest_none list left is) ∙ apart_ends index
       at (Some r) is none = cc

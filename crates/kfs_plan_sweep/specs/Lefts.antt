@@ -4,15 +4,12 @@ use Rattle.kfs_model.specs.Limits.{size_limit}
 use Rattle.kfs_model.specs.PlanRow.{Piece, Source, Zero, Payload}
 use Rattle.kfs_entry_value.specs.Views.{piece_of}
 use Rattle.kfs_entry_value.specs.declared.plan.Piece.{Piece as CodePiece}
-use Rattle.kfs_plan_sweep.specs.declared.compare.Left.{Left}
+use Rattle.kfs_plan_sweep.specs.declared.rest.Rest.{Rest}
+use Rattle.kfs_plan_sweep.specs.Rests.{rest_of}
 
--- the pieces left: a first one, perhaps without its front, and those after it
-abbrev pub left_of : List CodePiece → Left → List CodePiece
-left_of right left = elim left.front [ None ↦ [] | Some front ↦ front ∷ drop left.next right ]
-
--- the same, as pieces of the definitions
-abbrev pub pieces_left : List CodePiece → Left → List Piece
-pieces_left right left = map piece_of (left_of right left)
+-- the pieces left, as those of the definitions
+abbrev pub pieces_left : List CodePiece → Rest CodePiece → List Piece
+pieces_left right left = map piece_of (rest_of right left)
 
 abbrev pub IsPlaceShort : Source → ℕ → Type 0
 IsPlaceShort Zero distance = Unit {0}

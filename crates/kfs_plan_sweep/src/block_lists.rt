@@ -15,7 +15,8 @@ use crate::touched::Touched;
 use kfs_entry_value::{BLOCK_SIZE, Piece, Source};
 use std::alloc::{AllocError, Allocator};
 
-/// Blocks of a file: from `first` on, below `end`.
+/// Blocks of a file, whose number the caller knows: from `first` on, below `end`. A landing's `BlockRun`
+/// has the number, too.
 #[derive(Clone, Copy, Debug, PartialEq, Eq)]
 pub struct BlockRange {
     /// The first block, from 0.

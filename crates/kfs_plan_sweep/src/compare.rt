@@ -4,30 +4,11 @@ ghost use Rattle.std.specs.Option.{option_map};
 ghost use Rattle.std.specs.List.{AllByRecursion};
 ghost use Rattle.kfs_entry_value.specs.Views.{piece_of};
 ghost use Rattle.kfs_plan_sweep.specs.PiecesApart.{begins_alike, behind_piece, first_apart, without_front};
-ghost use Rattle.kfs_plan_sweep.specs.Lefts.{FrontIsInRange, PieceIsInRange, left_of, pieces_left};
+ghost use Rattle.kfs_plan_sweep.specs.Lefts.{FrontIsInRange, PieceIsInRange, pieces_left};
+ghost use Rattle.kfs_plan_sweep.specs.Rests.{rest_of};
 
+use crate::rest::{Rest, from_next};
 use kfs_entry_value::{Piece, Source};
-
-/// What is left of the right pieces: a first one, perhaps without its front, and those from index
-/// `next` on.
-#[derive(Clone, Copy)]
-pub(crate) struct Left {
-    pub front: Option<Piece>,
-    pub next: usize,
-}
-
-fn left_from(right: &[Piece], next: usize) -> Left
-    ensures { left_of right.now result ≡ drop next right.now }
-{
-    if next < right.len() {
-        Left {
-            front: Some(right[next]),
-            next: next + 1,
-        }
-    } else {
-        Left { front: None, next }
-    }
-}
 
 /// Whether both begin at the same byte, and with the same source.
 fn begin_alike(piece: &Piece, right: &Piece) -> bool
@@ -71,10 +52,10 @@ fn cut_front(piece: Piece, distance: u64) -> Piece
 }
 
 /// What is left behind a piece; none where the piece differs from the bytes that are left.
-fn left_behind(right: &[Piece], left: Left, piece: &Piece) -> Option<Left>
-    requires short { AllByRecursion PieceIsInRange (left_of right.now left) }
+fn left_behind(right: &[Piece], left: Rest<Piece>, piece: &Piece) -> Option<Rest<Piece>>
+    requires short { AllByRecursion PieceIsInRange (rest_of right.now left) }
     ensures behind { option_map (λ after. pieces_left right.now after) result ≡ behind_piece (piece_of piece.now) (pieces_left right.now left) }
-    ensures short { IfSome result (λ after. AllByRecursion PieceIsInRange (left_of right.now after)) }
+    ensures short { IfSome result (λ after. AllByRecursion PieceIsInRange (rest_of right.now after)) }
 {
     let mut wanted = *piece;
     let mut left = left;
@@ -84,16 +65,16 @@ fn left_behind(right: &[Piece], left: Left, piece: &Piece) -> Option<Left>
         }
         if wanted.len < front.len {
             let back = cut_front(front, wanted.len);
-            return Some(Left {
+            return Some(Rest {
                 front: Some(back),
                 next: left.next,
             });
         }
         if wanted.len == front.len {
-            return Some(left_from(right, left.next));
+            return Some(from_next(right, left.next));
         }
         wanted = cut_front(wanted, front.len);
-        left = left_from(right, left.next);
+        left = from_next(right, left.next);
     }
     None
 }
@@ -105,7 +86,7 @@ pub fn first_piece_apart(pieces: &[Piece], right: &[Piece]) -> Option<usize>
     requires { AllByRecursion PieceIsInRange right.now }
     ensures { result ≡ first_apart 0 (map piece_of pieces.now) (map piece_of right.now) }
 {
-    let mut left = left_from(right, 0);
+    let mut left = from_next(right, 0);
     for (index, piece) in pieces.iter().enumerate() {
         if piece.len == 0 {
             return Some(index);

@@ -1,5 +1,5 @@
 //! Lists of byte ranges, one laid over another.
-ghost use Rattle.std.specs.Prelude.{◌≡◌, ◌≤◌, ◌*◌, ◌++◌, IfOk, ℕ, List, [], ◌∷◌, drop};
+ghost use Rattle.std.specs.Prelude.{◌≡◌, ◌≤◌, ◌*◌, ◌++◌, IfOk, ℕ, List, [], ◌∷◌};
 ghost use Rattle.kfs_plan_sweep.specs.ByteRanges.{AreFrom, begins_before, cut_below, cut_from, ends_by, last_origin, merged, origin_at};
 ghost use Rattle.std.specs.List.{AllByRecursion};
 ghost use Rattle.kfs_plan_sweep.specs.Made.{IsFit};
@@ -7,28 +7,8 @@ ghost use Rattle.kfs_plan_sweep.specs.RangeCounts.{edge_count, filled_count};
 ghost use Rattle.kfs_plan_sweep.specs.Rests.{rest_of};
 
 use crate::byte_range::ByteRange;
+use crate::rest::{Rest, from_next};
 use std::alloc::{AllocError, Allocator};
-
-/// What is left of a list: a first range, perhaps without its front, and those from index `next` on.
-#[derive(Clone, Copy)]
-pub(crate) struct Rest {
-    pub front: Option<ByteRange>,
-    pub next: usize,
-}
-
-/// The list from index `next` on.
-fn from_next(list: &[ByteRange], next: usize) -> Rest
-    ensures { rest_of list.now result ≡ drop next list.now }
-{
-    if next < list.len() {
-        Rest {
-            front: Some(list[next]),
-            next: next + 1,
-        }
-    } else {
-        Rest { front: None, next }
-    }
-}
 
 /// Whether the range ends at this byte of the file, or before it.
 fn is_over(range: &ByteRange, number: u32, place: u64) -> bool
@@ -48,10 +28,10 @@ fn has_begun(range: &ByteRange, number: u32, place: u64) -> bool
 fn take_below<A: Allocator>(
     out: &mut Vec<ByteRange, A>,
     list: &[ByteRange],
-    rest: Rest,
+    rest: Rest<ByteRange>,
     number: u32,
     place: u64,
-) -> Result<Rest, AllocError>
+) -> Result<Rest<ByteRange>, AllocError>
     ensures taken { IfOk result (λ _. out.new.items ≡ out.old.items ++ cut_below number place (rest_of list.now rest)) }
     ensures left { IfOk result (λ left. rest_of list.now left ≡ cut_from number place (rest_of list.now rest)) }
 {
@@ -81,7 +61,7 @@ fn take_below<A: Allocator>(
 }
 
 /// What is left without what lies before the byte.
-fn skip_below(list: &[ByteRange], rest: Rest, number: u32, place: u64) -> Rest
+fn skip_below(list: &[ByteRange], rest: Rest<ByteRange>, number: u32, place: u64) -> Rest<ByteRange>
     ensures { rest_of list.now result ≡ cut_from number place (rest_of list.now rest) }
 {
     let mut left = rest;
@@ -108,7 +88,7 @@ fn skip_below(list: &[ByteRange], rest: Rest, number: u32, place: u64) -> Rest
 fn take_all<A: Allocator>(
     out: &mut Vec<ByteRange, A>,
     list: &[ByteRange],
-    rest: Rest,
+    rest: Rest<ByteRange>,
 ) -> Result<(), AllocError>
     ensures { IfOk result (λ _. out.new.items ≡ out.old.items ++ rest_of list.now rest) }
 {

@@ -1,7 +1,7 @@
 //! Runs of blocks that a piece writes.
 ghost use Rattle.std.specs.Prelude.{◌≤◌, ◌^◌};
 
-/// Blocks of a file, from `first` to `last`, both included.
+/// Blocks of a file, from `first` to `last`, both included, as the definitions have them. None is empty.
 #[derive(Clone, Copy)]
 pub(crate) struct Touched {
     pub first: u64,

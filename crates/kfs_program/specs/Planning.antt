@@ -8,7 +8,7 @@ use Rattle.kfs_program_text.specs.Parts.{line_of}
 use Rattle.kfs_program_text.specs.Reading.{only}
 use Rattle.kfs_program_command.specs.Command.{Command, Load, Row, Setup, asked_by}
 use Rattle.kfs_program_images.specs.Loading.{IsLoaded, SaysWhyNot}
-use Rattle.kfs_program_plan.specs.PlanLine.{SaysPlan}
+use Rattle.kfs_program_engine.specs.PlanLine.{SaysPlan}
 use Rattle.kfs_report.specs.Text.{client_text}
 
 -- the text of a line that isn't the one wanted

@@ -1,7 +1,7 @@
 //! The program `kfs`, over any reader and writer: the words of its command line, and its exit status.
 //!
-//! It stands on `kfs_program_engine`, on `kfs_program_images` and `kfs_program_plan`, and on `clap`, which
-//! no other crate reads; the program `kfs` stands on it. Begin with `run_words`.
+//! It stands on `kfs_program_engine` and `kfs_program_images`, and on `clap`, which no other crate reads;
+//! the program `kfs` stands on it. Begin with `run_words`.
 #![tactic(auto)]
 
 mod answer;

@@ -124,6 +124,7 @@ fn parse(alloc: Global, words: &[&str]) -> Result<(), clap::Error> {
     let command = command.subcommand(show)?;
     let plan = Command::new(alloc, "plan");
     let command = command.subcommand(plan)?;
+    // What was matched is read from the words by `subcommand_in`, of which there is a clause.
     let _matches = command.try_get_matches_from(words)?;
     Ok(())
 }

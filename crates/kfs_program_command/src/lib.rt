@@ -9,4 +9,4 @@ pub mod examples;
 mod worker;
 
 pub use command::{Command, DeskCommand, OpeningCommand, worker_to_land};
-pub use worker::Worker;
+pub use worker::{LAST_WORKER, Worker};

@@ -2,7 +2,7 @@
 ghost use Rattle.std.specs.Prelude.{◌≡◌, ◌≤◌};
 
 /// The greatest number of a worker.
-pub(crate) const LAST_WORKER: u64 = 7;
+pub const LAST_WORKER: u64 = 7;
 
 /// The number of a worker, 0 to 7.
 #[derive(Clone, Copy)]

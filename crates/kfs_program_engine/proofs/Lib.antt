@@ -4,3 +4,4 @@ pub mod Held
 pub mod HeldReplies
 pub mod Listed
 pub mod PlanAnswers
+pub mod PlanLines

@@ -11,7 +11,7 @@ use Rattle.kfs_program_command.specs.declared.command.DeskCommand.{DeskCommand}
 use Rattle.kfs_program_command.specs.declared.command.DeskCommand.TheVariants as asked
 use Rattle.kfs_program_verdicts.specs.HeldVerdicts.{HeldVerdicts}
 use Rattle.kfs_program_engine.specs.Session.{After, DeskAnswers, DeskOutcome, IsPlanAnswered, IsReplied}
-use Rattle.kfs_program_plan.specs.PlanLine.{AppendsPlan}
+use Rattle.kfs_program_engine.specs.PlanLine.{AppendsPlan}
 use Rattle.kfs_program_text.specs.Parts.{line_of}
 
 -- the line of a plan is the answer for its client

@@ -15,16 +15,16 @@ use Rattle.kfs_model_device.specs.ShownTree.{DeviceImage, shown_tree}
 use Rattle.kfs_image.specs.Image.{fresh_image}
 use Rattle.kfs_desk.specs.Machine.{Desk, IsActed, IsAnswered, opened_at}
 use Rattle.kfs_desk.specs.Opening.{begin_fault}
-use Rattle.kfs_plan.specs.declared.answers.ActReply.{ActReply}
-use Rattle.kfs_plan.specs.declared.answers.BeginFault.{BeginFault}
-use Rattle.kfs_plan.specs.declared.answers.Done.{Done}
-use Rattle.kfs_plan.specs.declared.answers.Done.TheVariants.{Leased, Dropped, Ticked, Moved}
-use Rattle.kfs_plan.specs.declared.answers.Reply.{Reply}
+use Rattle.kfs_desk_docket.specs.declared.answers.ActReply.{ActReply}
+use Rattle.kfs_desk_docket.specs.declared.answers.BeginFault.{BeginFault}
+use Rattle.kfs_desk_docket.specs.declared.answers.Done.{Done}
+use Rattle.kfs_desk_docket.specs.declared.answers.Done.TheVariants.{Leased, Dropped, Ticked, Moved}
+use Rattle.kfs_desk_docket.specs.declared.answers.Reply.{Reply}
 use Rattle.kfs_program_command.specs.Command.{Command, Setup, Request, OpeningCommand, New, Row, Begin, DeskCommand, Lease, Drop, Tick, Submit, Node, Listing, Bytes, DocketLength, Judge, Land, Load, Save, Move, Plan, asked_by, landing_worker}
 use Rattle.kfs_program_engine.specs.Bytes.{read_text}
 use Rattle.kfs_program_images.specs.Loading.{LoadsWith}
 use Rattle.kfs_program_images.specs.Saving.{save_text}
-use Rattle.kfs_program_plan.specs.PlanLine.{SaysPlan}
+use Rattle.kfs_program_engine.specs.PlanLine.{SaysPlan}
 use Rattle.kfs_program_verdicts.specs.HeldVerdicts.{HeldVerdicts, held_by, no_verdict, with_held}
 use Rattle.kfs_workers_verdict.specs.Verdict.{IsVerdictOn, HeldVerdict, LandsVerdict}
 use Rattle.kfs_program_engine.specs.Listing.{list_text}

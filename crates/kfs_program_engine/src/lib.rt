@@ -15,6 +15,7 @@ pub mod examples;
 mod fault;
 mod listing;
 mod opening;
+mod plan_text;
 mod plans;
 mod session;
 mod session_loop;
@@ -22,6 +23,8 @@ mod verdicts;
 
 pub use fault::EngineFault;
 use kfs_program_text::{HeldBack, read_some};
+#[doc(hidden)]
+pub use plan_text::plan_line;
 pub use session_loop::LINE_LIMIT;
 use session_loop::SessionLoop;
 use std::alloc::{AllocError, Allocator};
@@ -56,6 +59,7 @@ where
 {
     let mut chunk = new_chunk(alloc)?;
     let (written, ended) = answer_together(rt, alloc, reader, &mut chunk, writer);
+    // Takes back the writer that was lent. Only then does the prover know what was written to it.
     let _writer = written;
     ended
 }

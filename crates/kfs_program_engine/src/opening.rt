@@ -7,9 +7,9 @@ ghost use Rattle.kfs_program_engine.specs.Views.{IsOpened, IsWithoutImage, start
 ghost use Rattle.kfs_entry_value.specs.Room.{spare_of};
 
 use kfs_desk::Desk;
+use kfs_desk_docket::answers::BeginFault;
 use kfs_image::{Image, TierSizes};
 use kfs_mode::{Client, ClientFault};
-use kfs_plan::answers::BeginFault;
 use kfs_program_command::OpeningCommand;
 use kfs_program_images::load;
 use kfs_program_text::Refusal;

@@ -2,11 +2,11 @@
 ghost use Rattle.std.specs.Prelude.{◌≡◌, IfErr, IsErrOf, None, OnOk};
 ghost use Rattle.kfs_model.specs.Lease.{row_of};
 ghost use Rattle.kfs_program_engine.specs.Session.{IsPlanAnswered, IsReplied};
-ghost use Rattle.kfs_program_plan.specs.PlanLine.{AppendsPlan};
+ghost use Rattle.kfs_program_engine.specs.PlanLine.{AppendsPlan};
 
+use crate::plan_text::plan_line;
 use kfs_desk::Desk;
 use kfs_mode::Client;
-use kfs_program_plan::plan_line;
 use kfs_program_text::Refusal;
 use std::alloc::Allocator;
 

@@ -1,11 +1,8 @@
 //! A session: what each command does, and its reply.
-ghost use Rattle.std.specs.Prelude.{◌≡◌, ◌≤◌, ◌++◌, codes, Some, IfErr, OnErr, OnOk, IsErrOf, option_map};
+ghost use Rattle.std.specs.Prelude.{◌≡◌, ◌≤◌, ◌++◌, codes, Some, IfErr, OnErr, OnOk, IsErrOf};
 ghost use Rattle.kfs_model.specs.Machine as machine;
-ghost use Rattle.kfs_model.specs.Table.{get};
-ghost use Rattle.kfs_model.specs.Tree.{headers};
-ghost use Rattle.kfs_entry_value.specs.Views.{header_of};
 ghost use Rattle.kfs_plan.specs.Judging.{submission_of};
-ghost use Rattle.kfs_plan.specs.declared.answers.Done.TheVariants.{Moved};
+ghost use Rattle.kfs_desk_docket.specs.declared.answers.Done.TheVariants.{Moved};
 ghost use Rattle.kfs_desk.specs.Machine.{call_of, done_by};
 ghost use Rattle.kfs_program_command.specs.Command as commands;
 ghost use Rattle.kfs_program_engine.specs.Session.{After, AnswersLine, IsCallAnswered, IsNodeShown, IsReplied, IsSubmissionAnswered, DeskAnswers, docket_line, fresh, left_without_memory, names_line};
@@ -21,8 +18,8 @@ use crate::opening::Opening;
 use crate::plans::answer_plan;
 use crate::verdicts::{judge_for, land_for};
 use kfs_desk::{Desk, Move};
-use kfs_image_nodes::{Answer, Cell, Header, Kind, look};
-use kfs_plan::answers::{Act, Unanswered};
+use kfs_desk_docket::answers::{Act, Unanswered};
+use kfs_image_nodes::Kind;
 use kfs_plan::{Submission, Why};
 use kfs_program_command::{Command, DeskCommand, OpeningCommand, worker_to_land};
 use kfs_program_images::save_line;
@@ -242,16 +239,6 @@ fn hand_in<A: Allocator + Copy>(
     }
 }
 
-/// The header of a node, or none.
-fn header_of_node<A: Allocator + Copy>(desk: &Desk<A>, number: u32) -> Option<Header>
-    ensures { option_map header_of result ≡ get (headers desk.now.state.tree) number }
-{
-    match look(desk.image().shape(), &Cell::Header(number)) {
-        Answer::Header(header) => header,
-        _ => None,
-    }
-}
-
 /// Appends the node's line, or `none` where there is no such node.
 fn show_node<A: Allocator + Copy>(
     desk: &Desk<A>,
@@ -262,7 +249,7 @@ fn show_node<A: Allocator + Copy>(
     ensures ok { OnOk result (IsReplied (IsNodeShown desk.now number) reply.old.items reply.new.items desk.now) }
     ensures err { OnErr result ⊥ }
 {
-    match header_of_node(desk, number) {
+    match desk.header(number) {
         Some(header) => node_line(reply, number, &header)?,
         None => text(reply, b"none\n"),
     }
@@ -303,7 +290,7 @@ fn show_names<A: Allocator + Copy>(
     ensures ok { OnOk result (reply.new.items ≡ reply.old.items ++ line_of (names_line desk.now number)) }
     ensures err { IfErr result (λ why. why ≡ Refusal.OutOfMemory) }
 {
-    match header_of_node(desk, number) {
+    match desk.header(number) {
         Some(header) if header.kind == Kind::Directory => {
             list_line(alloc, reply, desk.image(), number)?;
         }

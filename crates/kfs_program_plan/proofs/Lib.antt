@@ -4,6 +4,5 @@ pub mod NamedNumbers
 pub mod FewRows
 pub mod ChangedKeys
 pub mod PlanLength
-pub mod PlanLines
 pub mod ViewWalks
 pub mod OwnLogs

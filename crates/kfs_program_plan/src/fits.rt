@@ -10,6 +10,9 @@ use std::alloc::Allocator;
 
 /// Tells the prover that each row of the plan can be spelled. It goes over the rows once and changes
 /// nothing. Takes no memory.
+///
+/// The prover knows the range of a number once it is passed by value, and of a name once it is read. So
+/// each field is passed on, and what comes back is thrown away.
 pub fn tell_rows<A: Allocator>(plan: &Plan<A>)
     ensures { RowsFit plan.now }
 {

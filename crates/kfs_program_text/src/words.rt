@@ -185,6 +185,7 @@ fn are_digits(word: &[u8]) -> bool
 fn keep<const N: usize>(numbers: &mut ArrayVec<u32, N>, number: u32)
     ensures { numbers.new.items ≡ take N (numbers.old.items ++ number ∷ []) }
 {
+    // Where the list is full, the number is left out, as the clause says. So the refusal is dropped.
     let _ = numbers.try_push(number);
 }
 

@@ -4,12 +4,13 @@ ghost use Rattle.kfs_program_verdicts.specs.HeldVerdicts.{held_by, no_verdict, w
 ghost use Rattle.kfs_workers_verdict.specs.Verdict.{verdict_of};
 
 use kfs_plan::Judged;
-use kfs_program_command::Worker;
+use kfs_program_command::{LAST_WORKER, Worker};
+use kfs_workers_verdict::{WORKERS, none_of};
 use std::alloc::{AllocError, Allocator};
 use std::marker::Model;
 
-/// How many workers a session has: one for each number of a `Worker`.
-const WORKERS: usize = 8;
+// Each number of a `Worker` has its place.
+const _: () = prove!(LAST_WORKER + 1 == WORKERS as u64);
 
 /// The verdict of each worker, by the worker's number.
 #[derive(Drop)]
@@ -35,10 +36,7 @@ impl<A: Allocator> HeldVerdicts<A> {
     pub fn new(alloc: A) -> Result<HeldVerdicts<A>, AllocError>
         ensures { IfOk result (λ hands. hands ≡ no_verdict) }
     {
-        let mut held = Vec::new(alloc);
-        for _ in 0..WORKERS {
-            held.push(None)?;
-        }
+        let held = none_of(alloc, WORKERS)?;
         Ok(HeldVerdicts { held })
     }
 
@@ -68,6 +66,7 @@ impl<A: Allocator> HeldVerdicts<A> {
     pub fn give_up(&mut self, worker: Worker)
         ensures { self.new ≡ with_held self.old worker.number None }
     {
+        // What was held is dropped.
         let _verdict = self.take(worker);
     }
 }

@@ -20,15 +20,15 @@ use Rattle.kfs_plan.specs.declared.submission.Fault.{Fault}
 use Rattle.kfs_plan.specs.declared.submission.Fault.TheVariants.{UnknownClient, BadLog, WrongClient, BadPlan, Entry, Row}
 use Rattle.kfs_plan.specs.declared.rows.RowFault.{RowFault}
 use Rattle.kfs_plan.specs.declared.rows.RowFault.TheVariants as row
-use Rattle.kfs_plan.specs.declared.answers.ActFault.{ActFault}
-use Rattle.kfs_plan.specs.declared.answers.ActFault.TheVariants as act_fault
-use Rattle.kfs_plan.specs.declared.answers.ActReply.{ActReply}
-use Rattle.kfs_plan.specs.declared.answers.BeginFault.{BeginFault}
-use Rattle.kfs_plan.specs.declared.answers.BeginFault.TheVariants as begin
-use Rattle.kfs_plan.specs.declared.answers.Done.{Done}
-use Rattle.kfs_plan.specs.declared.answers.Done.TheVariants as done
-use Rattle.kfs_plan.specs.declared.answers.Reply.{Reply}
-use Rattle.kfs_plan.specs.declared.answers.Reply.TheVariants.{Yes, No, NoRoom}
+use Rattle.kfs_desk_docket.specs.declared.answers.ActFault.{ActFault}
+use Rattle.kfs_desk_docket.specs.declared.answers.ActFault.TheVariants as act_fault
+use Rattle.kfs_desk_docket.specs.declared.answers.ActReply.{ActReply}
+use Rattle.kfs_desk_docket.specs.declared.answers.BeginFault.{BeginFault}
+use Rattle.kfs_desk_docket.specs.declared.answers.BeginFault.TheVariants as begin
+use Rattle.kfs_desk_docket.specs.declared.answers.Done.{Done}
+use Rattle.kfs_desk_docket.specs.declared.answers.Done.TheVariants as done
+use Rattle.kfs_desk_docket.specs.declared.answers.Reply.{Reply}
+use Rattle.kfs_desk_docket.specs.declared.answers.Reply.TheVariants.{Yes, No, NoRoom}
 use Rattle.kfs_program_text.specs.Parts.{field_text, flag_text, line_of, numbered_text, octal_text}
 use Rattle.kfs_entry_value.specs.Room.{spare_of}
 

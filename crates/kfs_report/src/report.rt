@@ -8,11 +8,11 @@ ghost use Rattle.kfs_entry_value.specs.Room.{Appends, spare_of};
 
 mod names;
 
+use kfs_desk_docket::answers::{ActReply, BeginFault, Done, Reply};
 use kfs_image_codec::ImageFault;
 use kfs_image_nodes::{Header, Kind};
 use kfs_mode::ClientFault;
 use kfs_plan::Fault;
-use kfs_plan::answers::{ActReply, BeginFault, Done, Reply};
 use kfs_program_text::parts::{field, flag, number, octal, text};
 use kfs_shape::Finding;
 use names::{act_fault, begin_fault, client_fault, image_fault, judgement_fault};

@@ -15,7 +15,7 @@ use Rattle.kfs_workers_crew.specs.Crew.{Pairs}
 use Rattle.kfs_workers_crew.specs.Tasks.{HasWorked, IsDoneIn}
 use Rattle.kfs_workers_crew.proofs.Work.{worked_then}
 use Rattle.kfs_plan.specs.Judged as verdicts
-use Rattle.kfs_plan.specs.declared.answers.Reply.{Reply}
+use Rattle.kfs_desk_docket.specs.declared.answers.Reply.{Reply}
 use Rattle.kfs_plan.specs.declared.submission.Submission.{Submission}
 use Rattle.kfs_workers_threads.specs.declared.want.SharedBack.{SharedBack}
 use Rattle.std.specs.declared.boxed.Box.{Box}

@@ -2,7 +2,7 @@
 use Rattle.std.specs.Prelude.{◌≡◌, ◌≢◌, ◌-◌, ◌⊎◌, ℕ, List, length, Option, Result, Ok, Err, Vec}
 use Rattle.kfs_model.specs.Machine.{Row}
 use Rattle.kfs_desk_docket.specs.Legal.{IsLegalDocket}
-use Rattle.kfs_plan.specs.declared.answers.Reply.{Reply}
+use Rattle.kfs_desk_docket.specs.declared.answers.Reply.{Reply}
 use Rattle.kfs_plan.specs.declared.submission.Submission.{Submission}
 use Rattle.kfs_desk.specs.Beginning.{Beginning, IsDocketFrom, beginning_of}
 use Rattle.kfs_desk.specs.Machine.{Desk}

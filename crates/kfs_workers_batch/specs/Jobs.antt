@@ -1,7 +1,7 @@
 -- What a worker makes of the submission that it was dealt.
 use Rattle.std.specs.Prelude.{◌≡◌, ◌≢◌, ℕ, zero, suc, List, [], ◌∷◌, Option, Result, Ok, Err}
 use Rattle.kfs_model.specs.Machine.{Row}
-use Rattle.kfs_plan.specs.declared.answers.Reply.{Reply}
+use Rattle.kfs_desk_docket.specs.declared.answers.Reply.{Reply}
 use Rattle.kfs_desk.specs.Beginning.{Beginning}
 use Rattle.kfs_desk.specs.Docket.{position_of}
 use Rattle.kfs_workers_threads.specs.Passes.{seen_by, own_by}

@@ -1,6 +1,6 @@
 -- How jobs are made of submissions, and what is taken from them in the end.
 use Rattle.std.specs.Prelude.{ℕ, ◌+◌, List, [], ◌∷◌, Option, Some, None}
-use Rattle.kfs_plan.specs.declared.answers.Reply.{Reply}
+use Rattle.kfs_desk_docket.specs.declared.answers.Reply.{Reply}
 use Rattle.kfs_plan.specs.declared.submission.Submission.{Submission}
 use Rattle.kfs_workers_batch.specs.declared.end.Left.{Left}
 use Rattle.kfs_workers_batch.specs.declared.job.Hand.{Hand}

@@ -7,10 +7,10 @@ use Rattle.kfs_model.specs.Judgement.{State, Submission}
 use Rattle.kfs_model.specs.Machine.{Call, IsRead, Migrate, after}
 use Rattle.kfs_desk_docket.specs.Legal.{IsLegalDocket}
 use Rattle.kfs_desk_docket.proofs.Longer.{leads_on}
-use Rattle.kfs_plan.specs.declared.answers.ActReply.{ActReply}
-use Rattle.kfs_plan.specs.declared.answers.Done.{Done}
-use Rattle.kfs_plan.specs.declared.answers.Done.TheVariants.{Moved}
-use Rattle.kfs_plan.specs.declared.answers.Reply.{Reply}
+use Rattle.kfs_desk_docket.specs.declared.answers.ActReply.{ActReply}
+use Rattle.kfs_desk_docket.specs.declared.answers.Done.{Done}
+use Rattle.kfs_desk_docket.specs.declared.answers.Done.TheVariants.{Moved}
+use Rattle.kfs_desk_docket.specs.declared.answers.Reply.{Reply}
 use Rattle.kfs_desk.specs.Docket.{is_rejudged, position_of}
 use Rattle.kfs_desk.specs.Machine.{Desk, IsActed, IsAnswered, AnswerMeans, call_of, done_by}
 use Rattle.kfs_workers_script.specs.Claims.{GoesOnFrom, StandsAt}

@@ -8,7 +8,7 @@ use Rattle.std.proofs.lemmas.Option.{slice_get-get_or}
 use Rattle.kfs_model.specs.Judgement.{State}
 use Rattle.kfs_plan.specs.Judged.{Judged}
 use Rattle.kfs_plan.specs.Judging.{submission_of}
-use Rattle.kfs_plan.specs.declared.answers.Reply.{Reply}
+use Rattle.kfs_desk_docket.specs.declared.answers.Reply.{Reply}
 use Rattle.kfs_plan.specs.declared.submission.Submission.{Submission as CodeSubmission}
 use Rattle.kfs_desk.specs.Docket.{is_rejudged}
 use Rattle.kfs_desk.specs.Machine.{Desk, IsAnswered, IsCurrent}

@@ -5,8 +5,8 @@ use Rattle.std.specs.List.{slice_get}
 use Rattle.kfs_model.specs.Judgement.{State, Submission, client_sight_of}
 use Rattle.kfs_model.specs.Machine.{AreAllowed, Gives, Row, after}
 use Rattle.kfs_model.specs.Means.{OfItsLog}
-use Rattle.kfs_plan.specs.declared.answers.Reply.{Reply}
-use Rattle.kfs_plan.specs.declared.answers.Reply.TheVariants as replies
+use Rattle.kfs_desk_docket.specs.declared.answers.Reply.{Reply}
+use Rattle.kfs_desk_docket.specs.declared.answers.Reply.TheVariants as replies
 use Rattle.kfs_desk.specs.Docket.{position_of}
 use Rattle.kfs_desk.specs.Machine.{Desk, IsShown, IsStep}
 use Rattle.kfs_workers_verdict.specs.Verdict.{HeldVerdict, IsUpToDate}

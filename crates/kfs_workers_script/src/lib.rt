@@ -7,5 +7,5 @@ pub mod laws;
 mod script;
 mod script_state;
 
+pub use kfs_workers_verdict::WORKERS;
 pub use script::{ScriptBack, ScriptEnd, Step, run_script};
-pub use script_state::WORKERS;

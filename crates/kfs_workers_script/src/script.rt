@@ -8,10 +8,10 @@ ghost use Rattle.kfs_workers_script.specs.Script.{IsRun, DoesSteps};
 
 use crate::script_state::ScriptState;
 use kfs_desk::Desk;
+use kfs_desk_docket::answers::Reply;
 use kfs_lease::Act;
 use kfs_migrate_value::Move;
 use kfs_plan::Submission;
-use kfs_plan::answers::Reply;
 use std::alloc::Allocator;
 
 /// One step of a script. Workers are numbered 0 to 7. A ticket is a submission's index in the list that
@@ -86,11 +86,12 @@ pub fn run_script<A: Allocator + Copy>(
     ensures legal { IfOk result (λ end. IsLegalDocket end.desk.opening end.desk.docket end.desk.state) }
     ensures back { IfErr result (λ back. (back.desk ≡ desk) × (back.submissions ≡ submissions)) }
 {
-    // Tells the prover that a desk's docket is legal, at the start and at the end.
+    // Tells the prover that the docket is legal at the start.
     let _docket = desk.docket();
     let mut state = ScriptState::begin(alloc, desk, submissions)?;
     make_all(&mut state, steps);
     let end = state.end();
+    // So it is at the end.
     let _docket = end.desk.docket();
     Ok(end)
 }

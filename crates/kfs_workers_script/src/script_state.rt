@@ -6,22 +6,19 @@ ghost use Rattle.kfs_plan.specs.Judging.{submission_of};
 ghost use Rattle.kfs_entry_value.specs.Room.{spare_of};
 ghost use Rattle.kfs_workers_script.specs.Holding.{held_of};
 ghost use Rattle.kfs_model.specs.Machine.{Migrate};
-ghost use Rattle.kfs_plan.specs.declared.answers.Done.TheVariants.{Moved};
+ghost use Rattle.kfs_desk_docket.specs.declared.answers.Done.TheVariants.{Moved};
 ghost use Rattle.kfs_desk.specs.Machine.{call_of, done_by};
 ghost use Rattle.kfs_workers_script.specs.Script.{DoesCall, DoesStep, DoesJudge, DoesLand, DoesLook, all_returned, begun, returned};
 
 use crate::script::{ScriptBack, ScriptEnd, Step};
 use kfs_desk::Desk;
+use kfs_desk_docket::answers::Reply;
 use kfs_lease::Act;
 use kfs_migrate_value::Move;
-use kfs_plan::answers::Reply;
 use kfs_plan::{Judged, Submission};
-use kfs_workers_verdict::DeskView;
+use kfs_workers_verdict::{DeskView, WORKERS, none_of};
 use std::alloc::{AllocError, Allocator};
 use std::marker::Model;
-
-/// How many workers there are.
-pub const WORKERS: usize = 8;
 
 /// What a worker holds. The ticket is that of the submission.
 #[derive(Drop)]
@@ -200,6 +197,7 @@ impl<A: Allocator + Copy> ScriptState<A> {
     fn ask(&mut self, act: Act<'_>)
         ensures { DoesCall self.old (call_of act.entry) (done_by act.entry) self.new }
     {
+        // A step has no reply, so that nobody is told an answer.
         let _answer = self.desk.act(act);
     }
 
@@ -207,6 +205,7 @@ impl<A: Allocator + Copy> ScriptState<A> {
     fn migrate(&mut self, moves: &[Move])
         ensures { DoesCall self.old (Migrate moves.now) Moved self.new }
     {
+        // As in `ask`.
         let _answer = self.desk.migrate(moves);
     }
 
@@ -239,17 +238,6 @@ impl<A: Allocator + Copy> Room<A> {
             replies: none_of(alloc, tickets)?,
         })
     }
-}
-
-/// A list of `count` empty places.
-fn none_of<T: Drop, A: Allocator>(alloc: A, count: usize) -> Result<Vec<Option<T>, A>, AllocError>
-    ensures { IfOk result (λ list. list.items ≡ replicate count None) }
-{
-    let mut list = Vec::new(alloc);
-    for _ in 0..count {
-        list.push(None)?;
-    }
-    Ok(list)
 }
 
 /// Fills the list, which has room for them, with the submissions.

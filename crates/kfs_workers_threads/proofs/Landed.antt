@@ -10,7 +10,7 @@ use Rattle.kfs_desk.specs.Beginning.{Beginning, IsDocketFrom, beginning_of}
 use Rattle.kfs_desk.specs.Docket.{position_of}
 use Rattle.kfs_desk.specs.Machine.{Desk, IsViewOf}
 use Rattle.kfs_plan.specs.Judged.{Judged}
-use Rattle.kfs_plan.specs.declared.answers.Reply.{Reply}
+use Rattle.kfs_desk_docket.specs.declared.answers.Reply.{Reply}
 use Rattle.kfs_turns.specs.Stages.{having_added, ticket}
 use Rattle.kfs_turns.specs.declared.known.Known.{Known}
 use Rattle.kfs_turns.specs.declared.known.Stage.TheVariants.{Served}

@@ -7,8 +7,8 @@ use Rattle.kfs_lease.specs.declared.act.Act.{Act}
 use Rattle.kfs_judge_check.specs.declared.view.View.{View}
 use Rattle.kfs_plan.specs.Judged.{Judged}
 use Rattle.kfs_plan.specs.Judging.{submission_of}
-use Rattle.kfs_plan.specs.declared.answers.ActReply.{ActReply}
-use Rattle.kfs_plan.specs.declared.answers.Reply.{Reply}
+use Rattle.kfs_desk_docket.specs.declared.answers.ActReply.{ActReply}
+use Rattle.kfs_desk_docket.specs.declared.answers.Reply.{Reply}
 use Rattle.kfs_desk.specs.Beginning.{Beginning, IsDocketFrom}
 use Rattle.kfs_desk.specs.Docket.{is_rejudged}
 use Rattle.kfs_desk.specs.Machine.{AnswerMeans, IsCurrent, IsCallStep, IsStep, IsViewOf, call_of, done_by}

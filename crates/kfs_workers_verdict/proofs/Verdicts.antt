@@ -19,7 +19,7 @@ use Rattle.kfs_plan.specs.declared.submission.Fault.{Fault as CodeFault}
 use Rattle.kfs_plan.specs.declared.submission.Outcome.{Outcome}
 use Rattle.kfs_plan.specs.declared.submission.Outcome.TheVariants as outcomes
 use Rattle.kfs_plan.specs.declared.submission.Submission.{Submission as CodeSubmission}
-use Rattle.kfs_plan.specs.declared.answers.Reply.{Reply}
+use Rattle.kfs_desk_docket.specs.declared.answers.Reply.{Reply}
 use Rattle.kfs_desk.specs.Docket.{is_rejudged}
 use Rattle.kfs_desk.specs.Machine.{Desk, IsAnswered, IsCurrent, IsViewOf}
 use Rattle.kfs_workers_verdict.specs.Verdict.{AreLookedAt, ComesTo, IsUpToDate, IsVerdictOn, LandsVerdict, verdict_of}

@@ -15,7 +15,7 @@ use Rattle.kfs_model.specs.Tree.{Tree}
 use Rattle.kfs_judge_check.specs.Reads.{answer_of, cell_of}
 use Rattle.kfs_plan.specs.Judged.{Judged}
 use Rattle.kfs_plan.specs.Judging.{submission_of}
-use Rattle.kfs_plan.specs.declared.answers.Reply.{Reply}
+use Rattle.kfs_desk_docket.specs.declared.answers.Reply.{Reply}
 use Rattle.kfs_desk.specs.Docket.{is_rejudged}
 use Rattle.kfs_desk.specs.Machine.{Desk, IsAnswered}
 

@@ -5,5 +5,7 @@
 #![tactic(auto)]
 
 mod desk_view;
+mod workers;
 
 pub use desk_view::DeskView;
+pub use workers::{WORKERS, none_of};

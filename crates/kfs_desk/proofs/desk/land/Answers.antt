@@ -6,7 +6,7 @@ use Rattle.kfs_entry_value.specs.declared.entry.Log.{Log}
 use Rattle.kfs_entry_value.specs.declared.plan.Plan.{Plan}
 use Rattle.kfs_image_fill.specs.declared.bytes.LogBytes.{LogBytes}
 use Rattle.kfs_image_fill.specs.FillOf.{HasLandedWith}
-use Rattle.kfs_plan.specs.declared.answers.Reply.TheVariants as replies
+use Rattle.kfs_desk_docket.specs.declared.answers.Reply.TheVariants as replies
 use Rattle.kfs_desk.specs.Landing.{AnswersOutcome, AreReadFrom, CanLand, CanLandYes, free_in}
 use Rattle.kfs_desk.proofs.desk.land.Goals as goal
 

@@ -2,11 +2,12 @@ use Rattle.std.proofs.Common.{◌≡◌, map, drop}
 use Rattle.std.specs.List.{AllByRecursion}
 use Rattle.kfs_entry_value.specs.Views.{piece_of}
 use Rattle.kfs_plan_sweep.specs.PiecesApart.{first_apart}
-use Rattle.kfs_plan_sweep.specs.Lefts.{PieceIsInRange, left_of}
+use Rattle.kfs_plan_sweep.specs.Lefts.{PieceIsInRange}
+use Rattle.kfs_plan_sweep.specs.Rests.{rest_of}
 use Rattle.kfs_plan_sweep.proofs.compare.first_piece_apart.Given as goal
 
 abbrev pub invariant-loop-index : goal.invariant-loop-index
 invariant-loop-index l = record {
-  apart : first_apart l.index (map piece_of (drop l.index l.pieces)) (map piece_of (left_of l.right l.left)) ≡ first_apart 0 (map piece_of l.pieces) (map piece_of l.right);
-  short : AllByRecursion PieceIsInRange (left_of l.right l.left);
+  apart : first_apart l.index (map piece_of (drop l.index l.pieces)) (map piece_of (rest_of l.right l.left)) ≡ first_apart 0 (map piece_of l.pieces) (map piece_of l.right);
+  short : AllByRecursion PieceIsInRange (rest_of l.right l.left);
 }

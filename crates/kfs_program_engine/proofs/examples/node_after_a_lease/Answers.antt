@@ -6,7 +6,7 @@ use native.Mathlib.Decide.{ℕ_discrete}
 use Rattle.kfs_model_examples.specs.Example.{computing}
 use Rattle.kfs_model.specs.Table.{changed}
 use Rattle.kfs_entry_value.specs.declared.header.Kind.TheVariants.{Directory}
-use Rattle.kfs_plan.specs.declared.answers.Done.TheVariants.{Leased}
+use Rattle.kfs_desk_docket.specs.declared.answers.Done.TheVariants.{Leased}
 use Rattle.kfs_program_text.specs.Cut.{cut}
 use Rattle.kfs_program_text.specs.Decimals.{decimals32}
 use Rattle.kfs_program_engine.specs.Example.{root_leased, root_row}

@@ -1,6 +1,6 @@
 -- The desk's image shows its tree.
 use Rattle.std.proofs.Common.{subst}
-use Rattle.kfs_program_plan.specs.PlanLine.{AppendsPlan}
+use Rattle.kfs_program_engine.specs.PlanLine.{AppendsPlan}
 use Rattle.kfs_program_engine.proofs.plans.show_plan.Goals as goal
 
 pub returns-clause-ok : goal.returns-clause-ok

@@ -5,7 +5,7 @@ use Rattle.std.proofs.lemmas.Result.{on_ok_weaker}
 use Rattle.kfs_model.specs.Lease.{row_of}
 use Rattle.kfs_model.specs.Machine.{Migrate}
 use Rattle.kfs_plan.specs.Judging.{submission_of}
-use Rattle.kfs_plan.specs.declared.answers.Done.TheVariants.{Moved}
+use Rattle.kfs_desk_docket.specs.declared.answers.Done.TheVariants.{Moved}
 use Rattle.kfs_program_engine.specs.Bytes.{read_text}
 use Rattle.kfs_program_engine.specs.Session.{After, IsCallAnswered, IsNodeShown, IsPlanAnswered, IsReplied, IsSubmissionAnswered, docket_line, names_line}
 use Rattle.kfs_program_text.specs.Parts.{line_of}

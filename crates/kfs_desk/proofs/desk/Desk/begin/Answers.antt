@@ -14,7 +14,6 @@ use Rattle.kfs_mode.specs.Clients.{ClientsAreDistinct}
 use Rattle.kfs_desk.specs.Machine.{state_at}
 use Rattle.kfs_desk.specs.Opening.{begin_fault}
 use Rattle.kfs_desk.proofs.Dockets.{desk_opened}
-use Rattle.kfs_desk.proofs.Openings.{at_none, none_found}
 use Rattle.kfs_desk.proofs.desk.Desk.begin.Goals as goal
 
 pub invariant_of-result : goal.invariant_of-result
@@ -23,8 +22,8 @@ invariant_of-result g c =
     let lawful = c.shape-shape.ensures.lawful in
     let leases : c.in-Ok.leases.value ≡ no_leases = c.in-Ok.ensures.ok ∙ c.new.ensures in
     let clients = c.deref.ensures.value ∙ ap (λ v. v.items) (sym c.in-Ok-new.ensures.ok) in
-    let distinct = subst ClientsAreDistinct clients (at_none c.first_fault.result c.first_fault.ensures.distinct c.unwrap_or-fault.ensures c.in_default.is) in
-    let in_range = subst (λ (rows : List Client). AllByRecursion IsClient rows) clients (at_none c.first_fault.result c.first_fault.ensures.in_range c.unwrap_or-fault.ensures c.in_default.is) in
+    let distinct = subst ClientsAreDistinct clients (c.in-Ok-None.ensures.distinct c.in-Ok-None.field-0-is) in
+    let in_range = subst (λ (rows : List Client). AllByRecursion IsClient rows) clients (c.in-Ok-None.ensures.in_range c.in-Ok-None.field-0-is) in
     let opened = opens_in_order c.in-Ok-new.clients.value.items image.sizes (shown_tree image) distinct in_range lawful.tree.sound in
     let in_order = subst (λ held. IsInOrder (state_at image c.in-Ok-new.clients.value.items held)) (sym leases) (record {
       sound = opened.sound;
@@ -37,4 +36,4 @@ invariant_of-result g c =
     desk_opened _ c.of.ensures.state c.new-in-Ok-new.ensures in_order c.of.ensures.shown
 
 pub returns-in-Ok-new-clause-fit : goal.returns-in-Ok-new-clause-fit
-returns-in-Ok-new-clause-fit g c = ap begin_fault (sym c.deref.ensures.value) ∙ none_found c.first_fault.result c.first_fault.ensures.first c.unwrap_or-fault.ensures c.in_default.is
+returns-in-Ok-new-clause-fit g c = ap begin_fault (sym c.deref.ensures.value) ∙ sym c.in-Ok-None.ensures.first ∙ c.in-Ok-None.field-0-is

@@ -1,7 +1,7 @@
 use Rattle.std.proofs.Common.{rules, ◌≡◌, ◌≢◌, ◌⊎◌, ⊎_elim, ◌∙◌, ◌++◌, [], Some, ap, subst, sym}
 use Rattle.std.specs.Prelude.{codes}
 use Rattle.kfs_desk.specs.Opening.{begin_fault}
-use Rattle.kfs_plan.specs.declared.answers.BeginFault.TheVariants.{OutOfMemory}
+use Rattle.kfs_desk_docket.specs.declared.answers.BeginFault.TheVariants.{OutOfMemory}
 use Rattle.kfs_program_text.specs.Parts.{line_of}
 use Rattle.kfs_report.specs.Text.{begin_text}
 use Rattle.kfs_program_engine.specs.Session.{Before, begun_with, begun_over}

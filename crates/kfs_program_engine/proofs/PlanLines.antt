@@ -4,7 +4,7 @@ use Rattle.std.specs.Prelude.{codes}
 use Rattle.kfs_model.specs.Access.{Client}
 use Rattle.kfs_model.specs.Tree.{Tree}
 use Rattle.kfs_program_text.specs.Parts.{line_of}
-use Rattle.kfs_program_plan.specs.PlanLine.{AppendsPlan, plan_text}
+use Rattle.kfs_program_engine.specs.PlanLine.{AppendsPlan, plan_text}
 use Rattle.kfs_program_plan.specs.PlanMade.{HasNoPlan, IsPlanMade}
 
 pub plan_said : (client : Client) (t : Tree ℕ) (source before after bytes written : List ℕ) → written ≡ bytes → IsPlanMade client t source bytes → after ≡ before ++ line_of (plan_text written) → AppendsPlan client t source before after

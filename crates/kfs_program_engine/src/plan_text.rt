@@ -1,12 +1,12 @@
 //! The line of a plan that is made.
 ghost use Rattle.std.specs.Prelude.{◌≡◌, ◌++◌, OnOk, codes};
 ghost use Rattle.kfs_model_device.specs.ShownTree.{shown_tree};
-ghost use Rattle.kfs_program_plan.specs.PlanLine.{AppendsPlan, plan_text};
+ghost use Rattle.kfs_program_engine.specs.PlanLine.{AppendsPlan, plan_text};
 ghost use Rattle.kfs_program_text.specs.Parts.{line_of};
 
-use crate::maker::make_plan;
 use kfs_image::Image;
 use kfs_mode::Client;
+use kfs_program_plan::make_plan;
 use std::alloc::{AllocError, Allocator};
 
 /// Appends `plan HEX`, the plan of the client's log over the image as `make_plan` makes it, in lower

@@ -1,9 +1,9 @@
 //! The values with which the desk answers its calls.
 
-use crate::submission::{Fault, Submission};
 pub use kfs_lease::Act;
 use kfs_lease::LeaseFault;
 use kfs_migrate_value::MoveFault;
+use kfs_plan::{Fault, Submission};
 use std::alloc::{AllocError, Allocator};
 use thiserror::Error;
 
@@ -80,7 +80,7 @@ pub enum Unanswered {
 
 impl From<AllocError> for Unanswered {
     ghost use Rattle.std.specs.Prelude.{◌≡◌};
-    ghost use Rattle.kfs_plan.specs.declared.answers.Unanswered.TheVariants.{OutOfMemory};
+    ghost use Rattle.kfs_desk_docket.specs.declared.answers.Unanswered.TheVariants.{OutOfMemory};
 
     ghost from_gives = { λ _ why. why ≡ OutOfMemory };
 

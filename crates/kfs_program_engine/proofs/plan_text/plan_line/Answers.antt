@@ -1,8 +1,8 @@
 use Rattle.std.proofs.Common.{ap, Ok}
 use Rattle.std.proofs.lemmas.Result.{on_ok_weaker}
 use Rattle.kfs_model_device.specs.ShownTree.{shown_tree}
-use Rattle.kfs_program_plan.proofs.PlanLines.{none_said, plan_said}
-use Rattle.kfs_program_plan.proofs.line.plan_line.Goals as goal
+use Rattle.kfs_program_engine.proofs.PlanLines.{none_said, plan_said}
+use Rattle.kfs_program_engine.proofs.plan_text.plan_line.Goals as goal
 
 pub returns-in-Some : goal.returns-in-Some
 returns-in-Some g c =
