@@ -142,6 +142,7 @@ fn remove_empty<A: Allocator>(slots: &mut BTreeMap<u32, Option<RowList<u8, A>>, 
 fn remove_slot<A: Allocator>(slots: &mut BTreeMap<u32, Option<RowList<u8, A>>, A>, place: u32)
     ensures { SetsSlot slots.old slots.new place None }
 {
+    // There are no bytes in the slot, so nothing is lost with it.
     let _ = slots.remove(&place);
 }
 
