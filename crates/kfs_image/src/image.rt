@@ -90,6 +90,7 @@ impl<A: Allocator + Clone> Image<A> {
     {
         match Image::of_rows(alloc, &raw) {
             Ok(image) => Ok(image),
+            // It can only be a want of memory.
             Err(_refused) => Err(raw),
         }
     }

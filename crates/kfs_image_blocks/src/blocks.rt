@@ -14,7 +14,7 @@ ghost use Rattle.kfs_image_blocks.specs.Fill.{CanFill, filled, placement_after};
 
 use crate::fill::{BlockRow, BlockRun, copies, fill_edits, moved};
 use crate::moves::Moves;
-use crate::staged::{StagedTiers, TiersChange};
+use crate::staged::TiersChange;
 use kfs_entry_value::TierSizes;
 use kfs_image_tier::{NewBlock, Place, Tiers};
 use kfs_map_chunks::{Chunks, KeyEdit};
@@ -27,7 +27,7 @@ use std::ops::Bound;
 #[derive(Drop)]
 pub struct FileBlocks<A: Allocator> {
     placement: Chunks<(u32, u32), Place, A>,
-    tiers: StagedTiers<A>,
+    tiers: Tiers<A>,
 }
 
 impl<A: Allocator> Model for FileBlocks<A> {
@@ -37,9 +37,9 @@ impl<A: Allocator> Model for FileBlocks<A> {
 
     ghost Value = { BlocksShown };
 
-    ghost view = { λ b. record { sizes = b.tiers.tiers.sizes; placement = table (pairs numbers numbers) b.placement; devices = b.tiers.tiers.devices } };
+    ghost view = { λ b. record { sizes = b.tiers.sizes; placement = table (pairs numbers numbers) b.placement; devices = b.tiers.devices } };
 
-    ghost invariant = { λ b. AreHeld (table (pairs numbers numbers) b.placement) b.tiers.tiers };
+    ghost invariant = { λ b. AreHeld (table (pairs numbers numbers) b.placement) b.tiers };
 }
 
 impl<A: Allocator> FileBlocks<A> {
@@ -53,10 +53,7 @@ impl<A: Allocator> FileBlocks<A> {
         let tiers = Tiers::new(alloc.clone()?, sizes)?;
         Ok(FileBlocks {
             placement: Chunks::new(alloc),
-            tiers: StagedTiers {
-                tiers,
-                change: None,
-            },
+            tiers,
         })
     }
 
@@ -66,14 +63,14 @@ impl<A: Allocator> FileBlocks<A> {
         ensures laid { IsLaid self.now.sizes self.now.placement }
         ensures blocks { AreBlocks self.now.sizes self.now.devices }
     {
-        self.tiers.tiers.size(tier)
+        self.tiers.size(tier)
     }
 
     /// How many places of the tier hold no block, 0 for a tier over 2. Takes no memory.
     pub fn free(&self, tier: u8) -> u32
         ensures { result ≡ length (unused_places self.now.sizes self.now.placement tier) }
     {
-        self.tiers.tiers.free(tier)
+        self.tiers.free(tier)
     }
 
     /// The tier's least place from `from` on that holds no block, or none. Takes no memory.
@@ -81,7 +78,7 @@ impl<A: Allocator> FileBlocks<A> {
         ensures found { IfSome result (λ place. IsNextUnused self.now.sizes self.now.placement tier from place) }
         ensures none { IfNone result (AreTakenFrom self.now.sizes self.now.placement tier from) }
     {
-        self.tiers.tiers.next_free(tier, from)
+        self.tiers.next_free(tier, from)
     }
 
     /// Where block `block` of the file `number` lies, or none where it isn't mapped. Takes no memory.
@@ -108,7 +105,7 @@ impl<A: Allocator> FileBlocks<A> {
         ensures { EachIndex buffer.new (λ k. slice_index buffer.new k ≡ file_byte self.now.placement self.now.devices number (block * block_size + (offset + k))) }
     {
         match self.place_of(number, block) {
-            Some(place) => self.tiers.tiers.read(place, offset, buffer),
+            Some(place) => self.tiers.read(place, offset, buffer),
             None => buffer.fill(0),
         }
     }
@@ -120,7 +117,7 @@ impl<A: Allocator> FileBlocks<A> {
     pub fn swap_spares(&mut self, spares: &mut Vec<Vec<u8, A>, A>)
         ensures { self.new ≡ self.old }
     {
-        self.tiers.tiers.swap_spares(spares);
+        self.tiers.swap_spares(spares);
     }
 }
 
@@ -137,10 +134,12 @@ impl<A: Allocator + Clone> FileBlocks<A> {
         ensures err { OnErr result (self.new ≡ self.old) }
     {
         let moves = Moves::of(written.allocator(), &self.placement, edits)?;
-        self.tiers.change = Some(TiersChange { moves, written });
-        let done = self.placement.change_then(edits, &mut self.tiers);
-        self.tiers.change = None;
-        done
+        let mut then = TiersChange {
+            tiers: &mut self.tiers,
+            moves,
+            written,
+        };
+        self.placement.change_then(edits, &mut then)
     }
 
     /// Unmaps the blocks in the runs; then maps each row's block to its place and writes its bytes

@@ -14,5 +14,4 @@ mod staged;
 pub use blocks::FileBlocks;
 pub use fill::{BlockRow, BlockRun};
 pub use kfs_image_tier::{NewBlock, Place};
-pub use kfs_map_chunks::KeyEdit;
 pub use nested::{ChangeBlocks, FillBlocks, MoveBlocks};

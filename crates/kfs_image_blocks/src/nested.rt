@@ -3,9 +3,9 @@ ghost use Rattle.std.proofs.Common.{rules};
 
 use crate::blocks::FileBlocks;
 use crate::fill::{BlockRow, BlockRun};
+use kfs_entry_value::Change;
 use kfs_image_tier::{NewBlock, Place};
 use kfs_map_chunks::KeyEdit;
-use kfs_entry_value::Change;
 use std::alloc::{AllocError, Allocator};
 use std::mem;
 

@@ -1,44 +1,44 @@
 //! A change of the tiers that waits to be made together with the change of the blocks' places.
-ghost use Rattle.std.specs.Prelude.{◌≡◌, OnOk, OnErr};
+ghost use Rattle.std.proofs.Common.{rules};
 
-use crate::blocks::FileBlocks;
 use crate::moves::Moves;
-use kfs_image_tier::{NewBlock, Place, Tiers};
-use kfs_map_chunks::KeyEdit;
 use kfs_entry_value::Change;
+use kfs_image_tier::{NewBlock, Tiers};
 use std::alloc::{AllocError, Allocator};
+use std::mem;
 
-/// A change of the tiers: places that become free, places that become used, and blocks to be written.
+/// A change of the tiers: places that become free, places that become used, and blocks to be written. The
+/// latter are taken out of the list.
 #[derive(Drop)]
-pub(crate) struct TiersChange<A: Allocator> {
+pub(crate) struct TiersChange<'a, A: Allocator> {
+    /// The tiers that are changed.
+    pub(crate) tiers: &'a mut Tiers<A>,
+    /// The places that become free or used.
     pub(crate) moves: Moves<A>,
+    /// The blocks to be written.
     pub(crate) written: Vec<NewBlock<A>, A>,
 }
 
-/// The tiers, and the change that waits for them, if any.
-#[derive(Drop)]
-pub(crate) struct StagedTiers<A: Allocator> {
-    pub(crate) tiers: Tiers<A>,
-    pub(crate) change: Option<TiersChange<A>>,
-}
+impl<'a, A: Allocator + Clone> Change for TiersChange<'a, A> {
+    ghost use Rattle.kfs_entry_value.specs.Nested.{Becomes};
+    ghost use Rattle.kfs_image_tier.specs.Tiers.{changed};
+    ghost use Rattle.kfs_image_blocks.specs.Staged.{CanTurn};
 
-impl<A: Allocator + Clone> Change for StagedTiers<A> {
-    ghost use Rattle.std.specs.Prelude.{◌≡◌, refl};
-    ghost use Rattle.kfs_image_blocks.specs.Staged.{CanMake, IsMade};
+    ghost can_make = { λ before. CanTurn before.tiers.now before.moves.given.items before.moves.taken.items before.written.items };
 
-    ghost can_make = { λ before. CanMake before };
+    ghost made = { λ before after. Becomes before.tiers after.tiers (changed before.moves.given.items before.moves.taken.items before.written.items before.tiers.now) };
 
-    ghost made = { λ before after. IsMade before after };
+    ghost kept = { λ before after. Becomes before.tiers after.tiers before.tiers.now };
 
-    ghost kept = { λ before after. after.tiers ≡ before.tiers };
-
-    ghost not_tried = { λ before. refl };
+    ghost not_tried = { λ before. Prim.search rules };
 
     fn make(&mut self) -> Result<(), AllocError> {
-        let Some(TiersChange { moves, written }) = self.change.take() else {
-            unreachable!();
-        };
-        self.tiers
-            .change(moves.given.as_slice(), moves.taken.as_slice(), written)
+        let none = Vec::new(self.written.allocator().clone()?);
+        let written = mem::replace(&mut self.written, none);
+        self.tiers.change(
+            self.moves.given.as_slice(),
+            self.moves.taken.as_slice(),
+            written,
+        )
     }
 }

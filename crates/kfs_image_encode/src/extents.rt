@@ -135,5 +135,6 @@ fn read_block<A: Allocator>(image: &Image<A>, number: u32, block: u32, bytes: &m
     ensures { bytes.new ≡ block_of (content_of (get (shown_tree image.now).nodes number)) block }
 {
     let start = u64::from(block) * BLOCK_LEN as u64;
+    // Bytes past the file's end stay zero, so the count doesn't matter.
     let _count = read_file(image, number, start, bytes);
 }

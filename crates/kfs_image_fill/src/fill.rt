@@ -113,7 +113,7 @@ fn file_blocks<A: Allocator + Copy>(
 ///
 /// `nodes` are the rows of the log's net. Condition: the pieces ascend, none is empty, and they and the
 /// payloads are in range. Bytes are put into memory from `spares` first. `Err` where memory is refused.
-pub fn fill_of<A: Allocator + Copy>(
+pub(crate) fn fill_of<A: Allocator + Copy>(
     alloc: A,
     image: &Image<A>,
     log: &LogBytes<'_>,

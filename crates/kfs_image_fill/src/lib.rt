@@ -1,7 +1,8 @@
 //! What a landing does to blocks: which ones it writes, at which places, with which bytes, and which
 //! ones it clears.
 //!
-//! It stands on `kfs_image`, and the desk on it. Begin with `land_bytes`, then `fill_of`.
+//! It stands on `kfs_image`, and the desk on it. Begin with `land_bytes`, then `fill_of` in
+//! `fill.rt`.
 #![tactic(auto)]
 
 mod block;
@@ -13,7 +14,4 @@ mod places;
 mod rows;
 
 pub use bytes::LogBytes;
-pub use fill::fill_of;
 pub use land::land_bytes;
-pub use places::free_places;
-pub use rows::block_rows;

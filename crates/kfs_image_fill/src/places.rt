@@ -8,7 +8,7 @@ use std::alloc::{AllocError, Allocator};
 
 /// The `count` least free places of tier 0, or all of them where there are fewer. `Err` where memory is
 /// refused.
-pub fn free_places<A: Allocator>(
+pub(crate) fn free_places<A: Allocator>(
     alloc: A,
     image: &Image<A>,
     count: usize,

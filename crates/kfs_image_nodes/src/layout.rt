@@ -17,7 +17,9 @@ ghost use Rattle.kfs_map_chunks.specs.Tables.{table};
 
 use crate::cell::{Answer, Cell};
 use crate::rows::{NodeTables, name_key};
-use kfs_entry_value::{Change, GREATEST_MODE_OF_VERSION_1, Header, Kind, Name, NameRow, NodeRow, ROOT};
+use kfs_entry_value::{
+    Change, GREATEST_MODE_OF_VERSION_1, Header, Kind, Name, NameRow, NodeRow, ROOT,
+};
 use kfs_map_chunks::Near;
 use kfs_map_pages::{Page, Pages};
 use std::alloc::{AllocError, Allocator};

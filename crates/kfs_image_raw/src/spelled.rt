@@ -14,6 +14,7 @@ pub fn tell_spelled<A: Allocator>(raw: &RawImage<A>)
     ensures { IsSpelled (raw_of raw.now) }
 {
     let sizes = raw.sizes;
+    // Each call says that its tier is no larger than it may be.
     let _blocks = [sizes.size(0), sizes.size(1), sizes.size(2)];
     tell_names(raw.names.as_slice());
     tell_ids(raw.nodes.as_slice());
@@ -23,6 +24,7 @@ fn tell_names(rows: &[NameRow])
     ensures { All (λ row. IsName row.name) rows.now }
 {
     for row in rows {
+        // The call says that the name is one.
         let _bytes = row.name.as_bytes();
     }
 }
@@ -31,6 +33,7 @@ fn tell_ids(rows: &[RawNode])
     ensures { All (λ row. (row.header.uid < 2 ^ 32) × (row.header.gid < 2 ^ 32)) rows.now }
 {
     for row in rows {
+        // The call says that both are of their types.
         let _ids = ids_of(row);
     }
 }

@@ -142,6 +142,7 @@ fn remove_empty<A: Allocator>(slots: &mut BTreeMap<u32, Option<RowList<u8, A>>, 
 fn remove_slot<A: Allocator>(slots: &mut BTreeMap<u32, Option<RowList<u8, A>>, A>, place: u32)
     ensures { SetsSlot slots.old slots.new place None }
 {
+    // What was in the slot isn't asked for any more.
     let _ = slots.remove(&place);
 }
 

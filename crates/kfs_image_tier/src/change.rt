@@ -114,6 +114,7 @@ fn keep<A: Allocator>(spares: &mut Vec<Vec<u8, A>, A>, before: Option<RowList<u8
     if let Some(bytes) = before
         && spares.len() < spares.capacity().min(SPARES)
     {
+        // It can't fail, since the list has room. If it did, the memory would be given back.
         let _ = spares.push(bytes.into_vec());
     }
 }

@@ -13,9 +13,7 @@ mod places;
 mod tier;
 mod tiers;
 
-pub use blocks::TierBlocks;
 pub use change::NewBlock;
 pub use place::Place;
 pub use places::Places;
-pub use tier::Tier;
 pub use tiers::Tiers;

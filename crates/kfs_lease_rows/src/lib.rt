@@ -10,5 +10,4 @@ mod row_end;
 mod rows;
 mod walk;
 
-pub use row_end::RowEnd;
 pub use rows::{Lease, LeaseKind, LeaseRows};

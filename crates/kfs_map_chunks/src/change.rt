@@ -20,6 +20,9 @@ use std::sync::Arc;
 /// Makes the edits and the other change, if each chunk has room for its own edits. Answers whether that
 /// is so; if not, nothing was tried. All memory is taken before the other change is made, and that
 /// comes before the first edit.
+///
+/// Each edit is made inside the calls for those before it, since a chunk is held while the next is
+/// prepared. The callers give `MOST_IN_PLACE` edits at most, which bounds the depth.
 #[cycle(change_chunks)]
 pub(crate) fn change_parts<K: Key, V: Copy, A: Allocator + Clone, C: Change>(
     parts: &mut [Arc<Part<K, V, A>, A>],

@@ -126,6 +126,7 @@ impl<K: Key, V: Copy, A: Allocator> Entries<K, V, A> {
                 at.saturating_add(1)
             }
             (Ok(at), None) => {
+                // The entry is gone on purpose.
                 let _ = self.pairs.remove(at);
                 at
             }

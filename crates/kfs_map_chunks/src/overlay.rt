@@ -51,6 +51,7 @@ impl<K: Ord + Drop, V: Copy, A: Allocator + Clone> Overlay<K, V, A> {
     pub fn set(&mut self, key: K, now: Option<V>) -> Result<(), AllocError>
         ensures { OnOk result ((q : K) → get K.cmp self.new.latest q ≡ (if eq_by_cmp K.cmp q key then Some now else get K.cmp self.old.latest q)) }
     {
+        // What was set before is for those who ask for it.
         let _before = self.replace(key, now)?;
         Ok(())
     }

@@ -76,6 +76,9 @@ pub(crate) fn change_each<V: Copy, A: Allocator + Clone>(
 
 /// Makes the edits in these groups, and the other change; the first group has index `first`. All memory
 /// is taken before the other change is made, and that comes before the first edit.
+///
+/// Each edit is made inside the calls for those before it, since a page is held while the next is
+/// prepared. `MOST_TOGETHER` bounds the depth.
 #[cycle(change_groups)]
 pub(crate) fn change_groups<V: Copy, A: Allocator + Clone, T: Change>(
     alloc: &A,
@@ -103,6 +106,7 @@ pub(crate) fn change_groups<V: Copy, A: Allocator + Clone, T: Change>(
     let index = page_of(edit.number) / GROUP_LEN;
     let (_, rest) = groups.split_at_mut((index - first) as usize);
     let Some((group, rest)) = rest.split_first_mut() else {
+        // The edit's number lies in one of these groups.
         unreachable!();
     };
     change_group(alloc, group, rest, index, edits, then)
@@ -135,6 +139,7 @@ fn change_group<V: Copy, A: Allocator + Clone, T: Change>(
 {
     found_group(alloc, slot)?;
     let Some(group) = slot else {
+        // `found_group` has filled the slot.
         unreachable!();
     };
     let group = Arc::make_mut(group)?;
@@ -178,6 +183,7 @@ fn change_pages<V: Copy, A: Allocator + Clone, T: Change>(
     let (mine, later) = edits.split_at(run_of(edits, index));
     let (_, rest) = pages.split_at_mut((index - first) as usize);
     let Some((page, rest)) = rest.split_first_mut() else {
+        // The edit's page is one of these: it isn't behind them, as was asked above.
         unreachable!();
     };
     change_from(alloc, page, rest, index, groups, next, mine, later, then)
@@ -217,6 +223,7 @@ fn change_from<V: Copy, A: Allocator + Clone, T: Change>(
 {
     found(alloc, slot, index)?;
     let Some(page) = slot else {
+        // `found` has filled the slot.
         unreachable!();
     };
     let page = Arc::make_mut(page)?;
