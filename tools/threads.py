@@ -6,18 +6,18 @@ What starts threads is proved with no answer but one: that a desk may go from th
 from benchmarks import NAME
 
 # What the text names; a program adds its own.
-USES = "kfs_image kfs_lease kfs_mode kfs_judge kfs_plan kfs_desk_docket kfs_desk kfs_workers_threads"
+USES = "kfs_image kfs_lease kfs_mode kfs_judge kfs_plan kfs_desk kfs_shared"
 
 CREW = r"""//! Callers of a shared desk, each in a thread of its own.
 //!
 //! What starts threads is generic in what is shared: the prover finds that a pass may go to a thread where it need not look
 //! into the object. That a desk may go is said once, where `run_desk` calls it.
-ghost use Rattle.kfs_workers_threads.specs.Passes.{IsPassOf};
+ghost use Rattle.kfs_shared.specs.Passes.{IsPassOf};
 
 use kfs_desk::{Act, ActReply, Desk, Reply};
 use kfs_judge::View;
 use kfs_plan::{Judged, Submission};
-use kfs_workers_threads::{Docketed, Pass, Shared};
+use kfs_shared::{Docketed, Pass, Shared};
 use std::alloc::{Allocator, Global};
 use std::sync::Wait;
 use std::thread::{Threads, for_each_mut};

@@ -2,12 +2,12 @@
 use Rattle.std.proofs.Common.{◌≡◌, ◌↔◌, ◌≤◌, ℕ, Result, Ok, Err, arith}
 use Rattle.std.specs.Prelude.{IfOk, IsErrOf, OnErr}
 use Rattle.kfs_model.specs.Machine.{Call}
-use Rattle.kfs_desk_docket.specs.declared.answers.ActReply.{ActReply}
-use Rattle.kfs_desk_docket.specs.declared.answers.Done.{Done}
-use Rattle.kfs_desk_docket.specs.declared.answers.Unanswered.{Unanswered}
-use Rattle.kfs_desk_docket.specs.declared.answers.Unanswered.TheVariants as unanswered
+use Rattle.kfs_desk.specs.declared.history.answers.ActReply.{ActReply}
+use Rattle.kfs_desk.specs.declared.history.answers.Done.{Done}
+use Rattle.kfs_desk.specs.declared.history.answers.Unanswered.{Unanswered}
+use Rattle.kfs_desk.specs.declared.history.answers.Unanswered.TheVariants as unanswered
 use Rattle.kfs_desk.specs.Machine.{Desk, IsCallOf}
-use Rattle.kfs_c_submission.specs.Submission.{IsFull}
+use Rattle.kfs_c.specs.Submission.Submission.{IsFull}
 use Rattle.kfs_c.specs.Calls.{IsCalled}
 use Rattle.kfs_c.specs.Told.{act_told}
 use Rattle.kfs_c.specs.declared.numbers.ActNumbers.{ActNumbers}

@@ -4,8 +4,8 @@ use Rattle.std.specs.Prelude.{IsTrue}
 use Rattle.kfs_model.specs.Sight.{is_directory}
 use Rattle.kfs_model.specs.Table.{get}
 use Rattle.kfs_model.specs.Tree.{content_of, headers}
-use Rattle.kfs_model_device.specs.Canonical.{canonical_bytes, image_bytes}
-use Rattle.kfs_model_device.specs.ShownTree.{DeviceImage, IsLawful, shown_tree}
+use Rattle.kfs_model.specs.Device.Canonical.{canonical_bytes, image_bytes}
+use Rattle.kfs_model.specs.Device.ShownTree.{DeviceImage, IsLawful, shown_tree}
 use Rattle.kfs_image.specs.Read.{FileIsRead}
 use Rattle.kfs_desk.specs.Machine.{Desk, IsImageOf}
 use Rattle.kfs_c.specs.Reading.{BeginsWith, HasNoNode, IsDirectoryAt, IsRead, saved_bytes}

@@ -4,3 +4,4 @@ pub mod Names
 pub mod Refusals
 pub mod Sent
 pub mod Values
+pub mod LooseLemmas

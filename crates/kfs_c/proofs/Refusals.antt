@@ -3,19 +3,19 @@ use Rattle.std.proofs.Common.{◌≡◌, ◌⊎◌, inl, inr, ℕ, ◌+◌, ◌<
 use Rattle.std.proofs.lemmas.List.{length-take-le}
 use Rattle.std.specs.Prelude.{IfErr, IsErrAnd}
 use Rattle.kfs_model.specs.Access.{Client}
-use Rattle.kfs_model_device.specs.Finding.{finding_of}
-use Rattle.kfs_model_device.specs.RawImage.{RawImage}
-use Rattle.kfs_model_device.specs.Spelling.{ImageAnswer}
-use Rattle.kfs_image_codec.specs.Answers.{OnImageRefusal}
-use Rattle.kfs_image_codec.specs.declared.fault.ImageFault.{ImageFault}
+use Rattle.kfs_model.specs.Device.Finding.{finding_of}
+use Rattle.kfs_model.specs.Device.RawImage.{RawImage}
+use Rattle.kfs_model.specs.Device.Spelling.{ImageAnswer}
+use Rattle.kfs_image.specs.Codec.Answers.{OnImageRefusal}
+use Rattle.kfs_image.specs.declared.codec.fault.ImageFault.{ImageFault}
 use Rattle.kfs_shape.specs.Findings.{Names, finding_shown}
 use Rattle.kfs_shape.specs.declared.fault.ShapeFault.{ShapeFault}
 use Rattle.kfs_shape.specs.declared.fault.ShapeFault.TheVariants as shapes
 use Rattle.kfs_desk.specs.Opening.{begin_fault}
-use Rattle.kfs_desk_docket.specs.declared.answers.BeginFault.{BeginFault}
-use Rattle.kfs_desk_docket.specs.declared.answers.BeginFault.TheVariants as beginnings
+use Rattle.kfs_desk.specs.declared.history.answers.BeginFault.{BeginFault}
+use Rattle.kfs_desk.specs.declared.history.answers.BeginFault.TheVariants as beginnings
 use Rattle.kfs_c.specs.declared.numbers.ClientRow.{ClientRow}
-use Rattle.kfs_c_submission.specs.declared.numbers.FaultNumbers.{FaultNumbers}
+use Rattle.kfs_c.specs.declared.submission.numbers.FaultNumbers.{FaultNumbers}
 use Rattle.kfs_c.specs.declared.opening.Unopened.{Unopened}
 use Rattle.kfs_c.specs.declared.opening.Unopened.TheVariants.{NoMemory, Refused}
 use Rattle.kfs_c.specs.Opening.{AreClientsRefused, AreRowsRefused, BreaksRule, IsNoImage, IsRowRefused, IsRowRight, IsRefusedAs, broken_as, unbegun_as, unread_as}

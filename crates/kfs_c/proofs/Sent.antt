@@ -5,11 +5,11 @@ use denote.Param.SendFields.{declared_send, variants_send}
 use Rattle.std.proofs.Crossing as std
 use Rattle.std.specs.contracts.alloc.Global as Heap
 use Rattle.std.specs.contracts.impls.GlobalAllocator.TheImpl.{ghosts}
-use Rattle.kfs_judge_check.proofs.view.View.TheSendSync as view
+use Rattle.kfs_judge.proofs.check.view.View.TheSendSync as view
 use Rattle.kfs_plan.specs.contracts.judged.Judged as Judged
 use Rattle.kfs_plan.proofs.judged.Judged.TheSendSync as judged
 use Rattle.kfs_desk.proofs.Sent.{desk_send}
-use Rattle.kfs_workers_verdict.specs.contracts.desk_view.DeskView as DeskView
+use Rattle.kfs_desk.specs.contracts.verdict.desk_view.DeskView as DeskView
 use Rattle.kfs_c.specs.contracts.held.Held as Held
 
 -- a view of a desk, and a claim about it that has no bytes

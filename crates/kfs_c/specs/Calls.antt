@@ -5,19 +5,19 @@ use Rattle.kfs_model.specs.Judgement.{State}
 use Rattle.kfs_model.specs.Lease.{LeaseKind, ReadLease, WriteLease}
 use Rattle.kfs_model.specs.Machine.{Call, Lease, Drop, Tick, Migrate}
 use Rattle.kfs_model.specs.Migration.{Move}
-use Rattle.kfs_desk_docket.specs.declared.answers.ActReply.{ActReply}
-use Rattle.kfs_desk_docket.specs.declared.answers.Done.{Done}
-use Rattle.kfs_desk_docket.specs.declared.answers.Done.TheVariants.{Leased, Dropped, Ticked, Moved}
-use Rattle.kfs_desk_docket.specs.declared.answers.Reply.{Reply}
+use Rattle.kfs_desk.specs.declared.history.answers.ActReply.{ActReply}
+use Rattle.kfs_desk.specs.declared.history.answers.Done.{Done}
+use Rattle.kfs_desk.specs.declared.history.answers.Done.TheVariants.{Leased, Dropped, Ticked, Moved}
+use Rattle.kfs_desk.specs.declared.history.answers.Reply.{Reply}
 use Rattle.kfs_plan.specs.Judged.{Judged}
 use Rattle.kfs_plan.specs.Judging.{submission_of, submission_with}
 use Rattle.kfs_desk.specs.Docket.{is_rejudged}
 use Rattle.kfs_desk.specs.Machine.{Desk, IsActed, IsAnswered, IsCurrent}
-use Rattle.kfs_workers_verdict.specs.Verdict.{IsVerdictOn, verdict_of}
+use Rattle.kfs_desk.specs.Verdict.Verdict.{IsVerdictOn, verdict_of}
 use Rattle.kfs_c.specs.Holding.{OnVerdict}
-use Rattle.kfs_c_submission.specs.Told.{reply_told}
+use Rattle.kfs_c.specs.Submission.Told.{reply_told}
 use Rattle.kfs_c.specs.declared.held.Held.{Held}
-use Rattle.kfs_c_submission.specs.declared.numbers.ReplyNumbers.{ReplyNumbers}
+use Rattle.kfs_c.specs.declared.submission.numbers.ReplyNumbers.{ReplyNumbers}
 use Rattle.kfs_c.specs.declared.numbers.ActNumbers.{ActNumbers}
 use Rattle.kfs_c.specs.declared.numbers.MoveRow.{MoveRow}
 use Rattle.kfs_c.specs.Told.{act_told}

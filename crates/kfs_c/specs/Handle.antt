@@ -8,7 +8,7 @@ use Rattle.std.specs.Global.{Global}
 use Rattle.std.specs.contracts.impls.GlobalAllocator.TheImpl.{ghosts}
 use Rattle.kfs_c.specs.contracts.held.Held as held
 use Rattle.kfs_c.specs.declared.held.Held.{Held}
-use Rattle.kfs_c_loose.specs.declared.Loose.{Loose}
+use Rattle.kfs_c.specs.declared.loose.Loose.{Loose}
 
 abbrev pub the_held : RattleType
 the_held = held.the_row

@@ -4,7 +4,7 @@ use Rattle.kfs_model.specs.Judgement.{State}
 use Rattle.kfs_desk.specs.Machine.{Desk}
 use Rattle.kfs_plan.specs.Judged.{Judged}
 use Rattle.std.specs.Global.{Global}
-use Rattle.kfs_c_loose.specs.Status.{closed, wrong_kind}
+use Rattle.kfs_c.specs.Loose.Status.{closed, wrong_kind}
 use Rattle.kfs_c.specs.declared.held.Held.{Held}
 use Rattle.kfs_c.specs.declared.held.Held.TheVariants as helds
 

@@ -4,3 +4,5 @@ pub mod Holding
 pub mod Opening
 pub mod Reading
 pub mod Told
+pub mod Loose
+pub mod Submission

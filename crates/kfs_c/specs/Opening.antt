@@ -4,28 +4,28 @@ use Rattle.kfs_model.specs.Access.{Client, is_grant}
 use Rattle.kfs_model.specs.Limits.{group_limit}
 use Rattle.kfs_model.specs.Machine.{opening}
 use Rattle.kfs_model.specs.Placement.{AreTierSizes, TierSizes}
-use Rattle.kfs_model_device.specs.Finding.{Finding, IsWellFormed, finding_of}
-use Rattle.kfs_model_device.specs.RawImage.{RawImage, image_of}
-use Rattle.kfs_model_device.specs.ShownTree.{DeviceImage, shown_tree}
-use Rattle.kfs_model_device.specs.Spelling.{ImageAnswer}
+use Rattle.kfs_model.specs.Device.Finding.{Finding, IsWellFormed, finding_of}
+use Rattle.kfs_model.specs.Device.RawImage.{RawImage, image_of}
+use Rattle.kfs_model.specs.Device.ShownTree.{DeviceImage, shown_tree}
+use Rattle.kfs_model.specs.Device.Spelling.{ImageAnswer}
 use Rattle.kfs_mode.specs.Clients.{client_row}
 use Rattle.kfs_mode.specs.declared.client.ClientFault.{ClientFault}
 use Rattle.kfs_mode.specs.declared.client.ClientFault.TheVariants as misfits
 use Rattle.kfs_image.specs.Image.{fresh_image}
-use Rattle.kfs_image_codec.specs.Answers.{OnImageRefusal}
-use Rattle.kfs_image_codec.specs.declared.fault.ImageFault.{ImageFault}
-use Rattle.kfs_image_codec.specs.declared.fault.ImageFault.TheVariants as images
+use Rattle.kfs_image.specs.Codec.Answers.{OnImageRefusal}
+use Rattle.kfs_image.specs.declared.codec.fault.ImageFault.{ImageFault}
+use Rattle.kfs_image.specs.declared.codec.fault.ImageFault.TheVariants as images
 use Rattle.kfs_shape.specs.declared.fault.ShapeFault.{ShapeFault}
 use Rattle.kfs_shape.specs.declared.fault.ShapeFault.TheVariants as shapes
 use Rattle.kfs_desk.specs.Machine.{Desk, opened_at}
 use Rattle.kfs_desk.specs.Opening.{begin_fault}
-use Rattle.kfs_desk_docket.specs.declared.answers.BeginFault.{BeginFault}
-use Rattle.kfs_desk_docket.specs.declared.answers.BeginFault.TheVariants as beginnings
+use Rattle.kfs_desk.specs.declared.history.answers.BeginFault.{BeginFault}
+use Rattle.kfs_desk.specs.declared.history.answers.BeginFault.TheVariants as beginnings
 use Rattle.kfs_c.specs.declared.numbers.ClientRow.{ClientRow}
-use Rattle.kfs_c_submission.specs.declared.numbers.FaultNumbers.{FaultNumbers}
+use Rattle.kfs_c.specs.declared.submission.numbers.FaultNumbers.{FaultNumbers}
 use Rattle.kfs_c.specs.declared.opening.Unopened.{Unopened}
 use Rattle.kfs_c.specs.declared.opening.Unopened.TheVariants.{NoMemory, Refused}
-use Rattle.kfs_c_submission.specs.Told.{numbers}
+use Rattle.kfs_c.specs.Submission.Told.{numbers}
 
 -- the groups of a row, out of the list of all
 abbrev pub groups_of : (groups : List ℕ) → ClientRow → List ℕ

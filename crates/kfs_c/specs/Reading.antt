@@ -7,14 +7,14 @@ use Rattle.kfs_model.specs.Access.{Client}
 use Rattle.kfs_model.specs.Lease.{row_of}
 use Rattle.kfs_model.specs.Sight.{is_directory}
 use Rattle.kfs_model.specs.Spelling.{IsName}
-use Rattle.kfs_image_tier.specs.Unused.{unused_places}
+use Rattle.kfs_image.specs.Tier.Unused.{unused_places}
 use Rattle.kfs_model.specs.Table.{get}
 use Rattle.kfs_model.specs.Tree.{NameTable, content_of, headers, target}
-use Rattle.kfs_model_device.specs.Canonical.{canonical_bytes}
-use Rattle.kfs_entry_value.specs.Views.{header_of}
-use Rattle.kfs_entry_value.specs.declared.header.Header.{Header}
+use Rattle.kfs_model.specs.Device.Canonical.{canonical_bytes}
+use Rattle.kfs_types.specs.Views.{header_of}
+use Rattle.kfs_types.specs.declared.header.Header.{Header}
 use Rattle.kfs_desk.specs.Machine.{Desk}
-use Rattle.kfs_program_plan.specs.PlanMade.{HasNoPlan, IsPlanMade}
+use Rattle.kfs_plan_maker.specs.PlanMade.{HasNoPlan, IsPlanMade}
 use Rattle.kfs_c.specs.declared.numbers.NodeNumbers.{NodeNumbers}
 use Rattle.kfs_c.specs.Told.{header_told}
 

@@ -1,19 +1,19 @@
 -- Answers to calls and headers as the numbers that C is told.
 use Rattle.std.specs.Prelude.{ℕ, Bool, true, false, Result, Ok, Err}
-use Rattle.kfs_entry_value.specs.declared.header.Header.{Header}
-use Rattle.kfs_entry_value.specs.declared.header.Kind.{Kind}
-use Rattle.kfs_entry_value.specs.declared.header.Kind.TheVariants as kinds
+use Rattle.kfs_types.specs.declared.header.Header.{Header}
+use Rattle.kfs_types.specs.declared.header.Kind.{Kind}
+use Rattle.kfs_types.specs.declared.header.Kind.TheVariants as kinds
 use Rattle.kfs_lease.specs.declared.leases.LeaseFault.{LeaseFault}
 use Rattle.kfs_lease.specs.declared.leases.LeaseFault.TheVariants as leases
-use Rattle.kfs_migrate_value.specs.declared.moves.MoveFault.{MoveFault}
-use Rattle.kfs_migrate_value.specs.declared.moves.MoveFault.TheVariants as moves
-use Rattle.kfs_desk_docket.specs.declared.answers.ActFault.{ActFault}
-use Rattle.kfs_desk_docket.specs.declared.answers.ActFault.TheVariants as acts
-use Rattle.kfs_desk_docket.specs.declared.answers.ActReply.{ActReply}
-use Rattle.kfs_desk_docket.specs.declared.answers.Done.{Done}
-use Rattle.kfs_desk_docket.specs.declared.answers.Done.TheVariants as dones
-use Rattle.kfs_c_submission.specs.declared.numbers.FaultNumbers.{FaultNumbers}
-use Rattle.kfs_c_submission.specs.Told.{no_fault, numbers}
+use Rattle.kfs_types.specs.declared.moves.moves.MoveFault.{MoveFault}
+use Rattle.kfs_types.specs.declared.moves.moves.MoveFault.TheVariants as moves
+use Rattle.kfs_desk.specs.declared.history.answers.ActFault.{ActFault}
+use Rattle.kfs_desk.specs.declared.history.answers.ActFault.TheVariants as acts
+use Rattle.kfs_desk.specs.declared.history.answers.ActReply.{ActReply}
+use Rattle.kfs_desk.specs.declared.history.answers.Done.{Done}
+use Rattle.kfs_desk.specs.declared.history.answers.Done.TheVariants as dones
+use Rattle.kfs_c.specs.declared.submission.numbers.FaultNumbers.{FaultNumbers}
+use Rattle.kfs_c.specs.Submission.Told.{no_fault, numbers}
 use Rattle.kfs_c.specs.declared.numbers.ActNumbers.{ActNumbers}
 use Rattle.kfs_c.specs.declared.numbers.NodeNumbers.{NodeNumbers}
 

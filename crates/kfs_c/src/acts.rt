@@ -1,19 +1,19 @@
 //! Calls that are no submissions: leases, moments, moves of blocks.
 ghost use Rattle.std.specs.Prelude.{◌≡◌, ◌↔◌, ◌≤◌, ◌<◌, None, map, IfOk, OnErr, IsErrOf};
-ghost use Rattle.kfs_lease_rows.specs.Rows.{kind_of};
+ghost use Rattle.kfs_lease.specs.Rows.Rows.{kind_of};
 ghost use Rattle.kfs_c.specs.Calls.{AreMoved, IsDropped, IsLeased, IsTicked, kind_of_lease, move_of};
 ghost use Rattle.kfs_c.specs.Holding.{HoldsNoDesk, OnDesk, OnDesks};
-ghost use Rattle.kfs_c_loose.specs.Status as status;
-ghost use Rattle.kfs_c_submission.specs.Submission.{IsFull};
+ghost use Rattle.kfs_c.specs.Loose.Status as status;
+ghost use Rattle.kfs_c.specs.Submission.Submission.{IsFull};
 ghost use Rattle.kfs_c.specs.Told.{act_told};
 
 use crate::handle::Handle;
+use crate::loose::status::{DONE, FULL, NO_MEMORY};
 use crate::numbers::{ActNumbers, MoveRow};
 use crate::on_desk;
 use crate::told::act_numbers;
-use kfs_c_loose::status::{DONE, FULL, NO_MEMORY};
+use kfs_desk::history::answers::{ActReply, Done, Unanswered};
 use kfs_desk::{Desk, Move};
-use kfs_desk_docket::answers::{ActReply, Done, Unanswered};
 use kfs_lease::LeaseKind;
 use std::alloc::{AllocError, Global};
 

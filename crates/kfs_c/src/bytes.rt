@@ -1,19 +1,18 @@
 //! Bytes that go into a host's buffer: of files, of the image, of plans.
 ghost use Rattle.std.specs.Prelude.{◌≡◌, ◌↔◌, ◌≤◌, ◌<◌, ◌⊎◌, None, Err, length, IfOk, IsErrOf, OnErr};
 ghost use Rattle.kfs_model.specs.Lease.{row_of};
-ghost use Rattle.kfs_program_plan.specs.PlanMade.{IsPlanMade};
+ghost use Rattle.kfs_plan_maker.specs.PlanMade.{IsPlanMade};
 ghost use Rattle.kfs_c.specs.Holding.{HoldsNoDesk, OnDesk};
 ghost use Rattle.kfs_c.specs.Reading.{AreLonger, BeginsWith, HasNoNode, HasNoPlanFor, IsDirectoryAt, IsPlanFor, IsPlanLonger, IsPlanned, IsRead, LacksPlan, saved_bytes};
-ghost use Rattle.kfs_c_loose.specs.Status as status;
+ghost use Rattle.kfs_c.specs.Loose.Status as status;
 
 use crate::handle::Handle;
+use crate::loose::status::{DIRECTORY, DONE, NO_MEMORY, NOTHING, REFUSED, SHORT};
 use crate::on_desk;
-use kfs_c_loose::status::{DIRECTORY, DONE, NO_MEMORY, NOTHING, REFUSED, SHORT};
 use kfs_desk::Desk;
-use kfs_image::{ReadFault, read_file};
-use kfs_image_encode::encode_image;
+use kfs_image::{ReadFault, encode_image, read_file};
 use kfs_mode::Client;
-use kfs_program_plan::make_plan;
+use kfs_plan_maker::make_plan;
 use std::alloc::{AllocError, Global};
 
 /// Why no plan is made.

@@ -1,12 +1,12 @@
 //! Submissions.
 ghost use Rattle.std.specs.Prelude.{◌≡◌, ◌↔◌, ◌≤◌, ◌<◌, None};
 ghost use Rattle.kfs_c.specs.Holding.{HoldsNoDesk, OnDesk, OnDesks};
-ghost use Rattle.kfs_c_loose.specs.Status as status;
-ghost use Rattle.kfs_c_submission.specs.Submission.{IsFull, IsSubmitted};
+ghost use Rattle.kfs_c.specs.Loose.Status as status;
+ghost use Rattle.kfs_c.specs.Submission.Submission.{IsFull, IsSubmitted};
 
 use crate::handle::Handle;
 use crate::on_desk;
-use kfs_c_submission::{ReplyNumbers, submit};
+use crate::submission::{ReplyNumbers, submit};
 use std::alloc::Global;
 
 /// Judges a submission against the state now and lands it (`Desk::submit_bytes`). It is answered by `DONE`

@@ -4,7 +4,7 @@ ghost use Rattle.kfs_c.specs.Handle.{handle_owns, taken};
 ghost use Rattle.kfs_c.specs.declared.held.Held.{Held as HeldShown};
 
 use crate::held::Held;
-use kfs_c_loose::Loose;
+use crate::loose::Loose;
 use std::alloc::Global;
 use std::marker::Model;
 

@@ -3,9 +3,8 @@ ghost use Rattle.std.specs.Prelude.{◌≡◌, IfSome, IfNone};
 ghost use Rattle.std.specs.Global.{Global};
 ghost use Rattle.kfs_plan.specs.Judged.{Judged as JudgedShown};
 
-use kfs_desk::Desk;
+use kfs_desk::{Desk, DeskView};
 use kfs_plan::Judged;
-use kfs_workers_verdict::DeskView;
 use std::alloc::Global;
 
 /// One of the things that a host holds.

@@ -2,12 +2,12 @@
 ghost use Rattle.std.specs.Prelude.{◌≡◌, ◌↔◌, ◌≤◌, ◌<◌, ◌⊎◌, None, IfNone, IfSome, IsTrue};
 ghost use Rattle.kfs_c.specs.Holding.{HoldsNoDesk, OnDesk};
 ghost use Rattle.kfs_c.specs.Reading.{HasNoLater, HasNoNameAfter, IsListed, IsNameLonger, IsNextName, IsStart};
-ghost use Rattle.kfs_c_loose.specs.Status as status;
+ghost use Rattle.kfs_c.specs.Loose.Status as status;
 
 use crate::bytes::hand_out;
 use crate::handle::Handle;
+use crate::loose::status::{DONE, NOTHING, REFUSED};
 use crate::on_desk;
-use kfs_c_loose::status::{DONE, NOTHING, REFUSED};
 use kfs_desk::Desk;
 use kfs_image::{Image, Name};
 use std::alloc::Global;

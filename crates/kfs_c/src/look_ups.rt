@@ -2,13 +2,13 @@
 ghost use Rattle.std.specs.Prelude.{◌≡◌, ◌↔◌, ◌≤◌, ◌<◌, ◌⊎◌, None, length};
 ghost use Rattle.kfs_c.specs.Holding.{HoldsNoDesk, OnDesk};
 ghost use Rattle.kfs_c.specs.Reading.{HasNoNode, IsNode, IsPlaced, IsUnplaced, free_places};
-ghost use Rattle.kfs_c_loose.specs.Status as status;
+ghost use Rattle.kfs_c.specs.Loose.Status as status;
 
 use crate::handle::Handle;
+use crate::loose::status::{DONE, NOTHING};
 use crate::numbers::NodeNumbers;
 use crate::on_desk;
 use crate::told::node_numbers;
-use kfs_c_loose::status::{DONE, NOTHING};
 use kfs_desk::Desk;
 use std::alloc::Global;
 

@@ -1,6 +1,6 @@
 //! What crosses to C and back: rows, answers and headers as numbers.
 
-use kfs_c_submission::FaultNumbers;
+use crate::submission::FaultNumbers;
 
 /// A client, as a host gives it.
 #[repr(C)]

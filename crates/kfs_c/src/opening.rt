@@ -1,12 +1,12 @@
 //! Opening and closing.
 ghost use Rattle.std.specs.Prelude.{◌≡◌, ◌≤◌, ◌⊎◌, ◌++◌, ◌∷◌, [], All, None, IfErr, IfOk, OnOk, Ok, Some, map};
-ghost use Rattle.kfs_image_codec.specs.RawImages.{raw_of};
-ghost use Rattle.kfs_model_device.specs.RawImage.{image_of};
-ghost use Rattle.kfs_model_device.specs.Finding.{IsWellFormed};
-ghost use Rattle.kfs_model_device.specs.Spelling.{ImageAnswer};
+ghost use Rattle.kfs_image.specs.Codec.RawImages.{raw_of};
+ghost use Rattle.kfs_model.specs.Device.RawImage.{image_of};
+ghost use Rattle.kfs_model.specs.Device.Finding.{IsWellFormed};
+ghost use Rattle.kfs_model.specs.Device.Spelling.{ImageAnswer};
 ghost use Rattle.kfs_c.specs.Holding.{OnDesk};
 ghost use Rattle.kfs_c.specs.Opening.{AreClientsRefused, AreRowsRefused, IsBegun, IsBegunWith, IsImageRefused, IsLoaded, IsLoadedWith, IsNoImage, IsOpenedWith, IsOpeningRefused, IsRowRefused, IsRowRight, IsUnloaded, IsUnopened, IsRefusedAs, broken_as, client_of, misfit_told, sizes_of, sizes_told, stray_told, unbegun_as, unread_as};
-ghost use Rattle.kfs_c_loose.specs.Status as status;
+ghost use Rattle.kfs_c.specs.Loose.Status as status;
 
 use crate::fault_codes::{
     BAD_GRANT, CLIENT_TWICE, GRANT_OVERLAP, GROUPS_OUTSIDE, IMAGE_HEADER, IMAGE_ROW,
@@ -14,10 +14,10 @@ use crate::fault_codes::{
 };
 use crate::handle::Handle;
 use crate::held::Held;
+use crate::loose::status::{DONE, NO_MEMORY, REFUSED};
 use crate::numbers::ClientRow;
 use crate::slot::{put_in, take_out};
-use kfs_c_loose::status::{DONE, NO_MEMORY, REFUSED};
-use kfs_c_submission::{FaultNumbers, fault};
+use crate::submission::{FaultNumbers, fault};
 use kfs_desk::{BeginFault, Desk};
 use kfs_image::{Image, ImageFault, RawImage, TierSizes, decode_image};
 use kfs_mode::{Client, ClientFault};

@@ -5,8 +5,8 @@ ghost use Rattle.kfs_c.specs.Holding.{IsDesk, IsRefusal};
 
 use crate::handle::Handle;
 use crate::held::Held;
-use kfs_c_loose::Loose;
-use kfs_c_loose::status::{WRONG_KIND, closed};
+use crate::loose::Loose;
+use crate::loose::status::{WRONG_KIND, closed};
 use kfs_desk::Desk;
 use std::alloc::Global;
 use std::mem::replace;

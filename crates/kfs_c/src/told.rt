@@ -8,11 +8,11 @@ use crate::fault_codes::{
     MOVE_NOT_MAPPED, MOVE_OUT_OF_RANGE, MOVE_OVERLAP, MOVE_TOO_MANY,
 };
 use crate::numbers::{ActNumbers, NodeNumbers};
-use kfs_c_submission::{FaultNumbers, NO_FAULT, fault};
-use kfs_desk_docket::answers::{ActFault, ActReply, Done};
+use crate::submission::{FaultNumbers, NO_FAULT, fault};
+use kfs_desk::history::answers::{ActFault, ActReply, Done};
 use kfs_image::{Header, Kind};
 use kfs_lease::LeaseFault;
-use kfs_migrate_value::MoveFault;
+use kfs_types::MoveFault;
 
 /// The answer to a call that is no submission.
 pub(crate) fn act_numbers(reply: ActReply) -> ActNumbers

@@ -3,18 +3,17 @@
 ghost use Rattle.std.specs.Prelude.{◌≡◌, ◌↔◌, ◌≤◌, ◌<◌, None, ⊤};
 ghost use Rattle.kfs_c.specs.Calls.{HasLanded, IsJudged, IsLanded};
 ghost use Rattle.kfs_c.specs.Holding.{HoldsNoDesk, HoldsNoView, OnDesk, OnDesks, OnVerdict, OnView};
-ghost use Rattle.kfs_c_loose.specs.Status as status;
-ghost use Rattle.kfs_c_submission.specs.Submission.{IsFull};
+ghost use Rattle.kfs_c.specs.Loose.Status as status;
+ghost use Rattle.kfs_c.specs.Submission.Submission.{IsFull};
 
 use crate::handle::Handle;
 use crate::held::Held;
+use crate::loose::status::{DONE, NO_MEMORY, WRONG_KIND, closed};
 use crate::on_desk;
 use crate::slot::{put_in, take_out};
-use kfs_c_loose::status::{DONE, NO_MEMORY, WRONG_KIND, closed};
-use kfs_c_submission::{ReplyNumbers, reply_numbers, why_number};
-use kfs_desk::Desk;
+use crate::submission::{ReplyNumbers, reply_numbers, why_number};
+use kfs_desk::{Desk, DeskView};
 use kfs_plan::{Judged, Submission};
-use kfs_workers_verdict::DeskView;
 use std::alloc::Global;
 
 /// Has the second handle hold a view of the desk's state now. What it held is freed then; where there is

@@ -5,16 +5,16 @@ use Rattle.kfs_model.specs.Lease.{Leases}
 use Rattle.kfs_model.specs.Judgement.{IsJudgement, No, NoRoom, Refused, State, Submission, Verdict, Yes, reply_to}
 use Rattle.kfs_model.specs.Machine.{Call, IsRead, Replied, Row, Submit, outcome_of, replied}
 use Rattle.kfs_model.proofs.RowFits.{row_fits}
-use Rattle.kfs_entry_value.specs.declared.entry.Log.{Log}
-use Rattle.kfs_entry_value.specs.declared.plan.Plan.{Plan}
+use Rattle.kfs_types.specs.declared.entry.Log.{Log}
+use Rattle.kfs_types.specs.declared.plan.Plan.{Plan}
 use Rattle.kfs_image_nodes.specs.declared.net.Net.{Net}
-use Rattle.kfs_model_device.specs.ShownTree.{DeviceImage, IsLawful}
+use Rattle.kfs_model.specs.Device.ShownTree.{DeviceImage, IsLawful}
 use Rattle.kfs_plan.specs.Judging.{IsVerdict, TellsVerdict}
 use Rattle.kfs_plan.specs.declared.submission.Fault.{Fault}
 use Rattle.kfs_plan.specs.declared.submission.Outcome.{Outcome}
 use Rattle.kfs_plan.specs.declared.submission.Outcome.TheVariants as outcomes
-use Rattle.kfs_desk_docket.specs.declared.answers.Reply.{Reply}
-use Rattle.kfs_desk_docket.specs.declared.answers.Reply.TheVariants as replies
+use Rattle.kfs_desk.specs.declared.history.answers.Reply.{Reply}
+use Rattle.kfs_desk.specs.declared.history.answers.Reply.TheVariants as replies
 use Rattle.kfs_desk.specs.Landing.{AnswersOutcome, CanLand, CanLandYes, HasLanded, ended_by, free_in, leases_left}
 use Rattle.kfs_desk.specs.Machine.{IsAnswered, IsDesk, IsShown, IsStep, AnswerMeans, Parts, shown, state_at, state_of}
 use Rattle.kfs_desk.specs.Docket.{is_rejudged, position_of}

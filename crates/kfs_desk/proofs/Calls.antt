@@ -13,20 +13,20 @@ use Rattle.kfs_model.specs.Migration as migration
 use Rattle.kfs_model.specs.Placement.{Placement, TierSizes}
 use Rattle.kfs_model.specs.FirstAnswer.{first_answer}
 use Rattle.kfs_model.proofs.RowFits.{row_fits}
-use Rattle.kfs_desk_docket.specs.declared.answers.ActFault.{ActFault}
-use Rattle.kfs_desk_docket.specs.declared.answers.ActFault.TheVariants as act_faults
+use Rattle.kfs_desk.specs.declared.history.answers.ActFault.{ActFault}
+use Rattle.kfs_desk.specs.declared.history.answers.ActFault.TheVariants as act_faults
 use Rattle.kfs_migrate.specs.Applied.{AreApplied}
-use Rattle.kfs_migrate_value.specs.Faults.{Refuses}
-use Rattle.kfs_migrate_value.specs.declared.moves.MoveFault.{MoveFault as CodeMoveFault}
-use Rattle.kfs_migrate_value.specs.declared.moves.MoveFault.TheVariants.{NotMapped, OutOfRange, NotFree, Overlap, TooManyMoves, OutOfMemory}
+use Rattle.kfs_types.specs.Moves.Faults.{Refuses}
+use Rattle.kfs_types.specs.declared.moves.moves.MoveFault.{MoveFault as CodeMoveFault}
+use Rattle.kfs_types.specs.declared.moves.moves.MoveFault.TheVariants.{NotMapped, OutOfRange, NotFree, Overlap, TooManyMoves, OutOfMemory}
 use Rattle.kfs_image_nodes.specs.Contents.{Contents, sight_of}
-use Rattle.kfs_model_device.specs.ShownTree.{DeviceImage, IsLawful, shown_tree}
+use Rattle.kfs_model.specs.Device.ShownTree.{DeviceImage, IsLawful, shown_tree}
 use Rattle.kfs_image.specs.Image.{contents_of}
 use Rattle.kfs_image.proofs.ShownTrees.{sight_shown}
 use Rattle.kfs_lease.specs.declared.act.Act.{Act}
 use Rattle.kfs_lease.specs.declared.act.Act.TheVariants as acts
-use Rattle.kfs_desk_docket.specs.declared.answers.Done.{Done}
-use Rattle.kfs_desk_docket.specs.declared.answers.Done.TheVariants.{Moved}
+use Rattle.kfs_desk.specs.declared.history.answers.Done.{Done}
+use Rattle.kfs_desk.specs.declared.history.answers.Done.TheVariants.{Moved}
 use Rattle.kfs_desk.specs.Machine.{Parts, IsActed, IsCallStep, IsChange, IsDesk, IsMigrated, IsShown, SeeTheSame, call_fault_of, call_of, done_by, outcome_at, row_answer, shown, state_at, state_of, told_by_leases}
 use Rattle.kfs_desk.proofs.Dockets.{desk_with}
 

@@ -7,9 +7,9 @@ use Rattle.kfs_model.specs.Access.{Client}
 use Rattle.kfs_model.specs.Machine.{IsRead, Row, after, next}
 use Rattle.kfs_model.specs.Order.{IsInOrder}
 use Rattle.kfs_model.proofs.OrderKept.{step_keeps_order}
-use Rattle.kfs_desk_docket.specs.Legal.{IsLegalDocket}
-use Rattle.kfs_desk_docket.proofs.Longer.{leads_nowhere, leads_on}
-use Rattle.kfs_model_device.specs.ShownTree.{DeviceImage, IsLawful}
+use Rattle.kfs_desk.specs.History.Legal.{IsLegalDocket}
+use Rattle.kfs_desk.proofs.HistoryLemmas.Longer.{leads_nowhere, leads_on}
+use Rattle.kfs_model.specs.Device.ShownTree.{DeviceImage, IsLawful}
 use Rattle.kfs_desk.specs.Machine.{AreShown, IsDesk, IsShown, Parts, state_at, state_of}
 
 -- A lawful image shows its state.

@@ -8,7 +8,7 @@ use Rattle.std.proofs.lemmas.List.Folds.{list_any-append}
 use Rattle.kfs_model.specs.Access.{Client, is_granted}
 use Rattle.kfs_model.specs.CleanStep.{IsClient}
 use Rattle.kfs_model.specs.Limits.{greatest_number}
-use Rattle.kfs_image_tier.specs.Places.{is_free_in}
+use Rattle.kfs_image.specs.Tier.Places.{is_free_in}
 use Rattle.kfs_desk.specs.Grants.{AreUngranted, MarksGranted}
 use Rattle.kfs_desk.specs.Opening.{do_overlap}
 

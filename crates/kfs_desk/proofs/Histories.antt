@@ -6,7 +6,7 @@ use Rattle.kfs_plan.specs.declared.submission.Back.{Back}
 use Rattle.kfs_plan.specs.declared.submission.Submission.{Submission}
 use Rattle.kfs_plan.specs.declared.submission.Why.{Why}
 use Rattle.kfs_plan.specs.declared.submission.Why.TheVariants.{OutOfMemory, DocketFull}
-use Rattle.kfs_desk_docket.specs.declared.answers.Reply.{Reply}
+use Rattle.kfs_desk.specs.declared.history.answers.Reply.{Reply}
 use Rattle.kfs_desk.specs.Machine.{Desk, IsAnswered, IsWhy, IsBackFor, RunsThrough}
 
 module _ {A : Type 0} (old : Desk) (submission : Submission A) where

@@ -14,23 +14,23 @@ use Rattle.kfs_model.specs.Tree.{Tree, headers}
 use Rattle.kfs_model.proofs.Cells.{headers-recut, recut}
 use Rattle.kfs_model.proofs.Marks.{marks_give_bytes}
 use Rattle.kfs_model.proofs.RowFits.{row_fits}
-use Rattle.kfs_entry_value.specs.declared.entry.Log.{Log as CodeLog}
-use Rattle.kfs_entry_value.specs.declared.plan.Plan.{Plan as CodePlan}
+use Rattle.kfs_types.specs.declared.entry.Log.{Log as CodeLog}
+use Rattle.kfs_types.specs.declared.plan.Plan.{Plan as CodePlan}
 use Rattle.kfs_entry.specs.Answers.{log_of, plan_of}
-use Rattle.kfs_model_device.specs.ShownTree.{DeviceImage, IsLawful, shown_tree}
-use Rattle.kfs_image_tier.specs.Unused.{unused_places}
+use Rattle.kfs_model.specs.Device.ShownTree.{DeviceImage, IsLawful, shown_tree}
+use Rattle.kfs_image.specs.Tier.Unused.{unused_places}
 use Rattle.kfs_image_nodes.specs.Contents.{Contents}
 use Rattle.kfs_image_nodes.specs.Change.{reheaded, renamed}
 use Rattle.kfs_image_nodes.specs.declared.net.Net.{Net}
 use Rattle.kfs_image.specs.declared.net.Fill.{Fill}
 use Rattle.kfs_image.specs.Net.{CanApply, applied}
-use Rattle.kfs_image_fill.specs.declared.bytes.LogBytes.{LogBytes}
-use Rattle.kfs_image_fill.specs.Bytes.{entries_of, pieces_of}
-use Rattle.kfs_image_fill.specs.FillOf.{CanLandWith, Fills, HasLandedWith, IsFillOf, places_of}
-use Rattle.kfs_image_fill.proofs.LandedImages.{IsLanding, landed_lawful, landed_placement, landed_tree}
-use Rattle.kfs_plan_sweep.specs.Lefts.{IsFilled, PieceIsInRange}
+use Rattle.kfs_desk.specs.declared.fill.bytes.LogBytes.{LogBytes}
+use Rattle.kfs_desk.specs.Fill.Bytes.{entries_of, pieces_of}
+use Rattle.kfs_desk.specs.Fill.FillOf.{CanLandWith, Fills, HasLandedWith, IsFillOf, places_of}
+use Rattle.kfs_desk.proofs.FillLemmas.LandedImages.{IsLanding, landed_lawful, landed_placement, landed_tree}
+use Rattle.kfs_pieces.specs.Lefts.{IsFilled, PieceIsInRange}
 use Rattle.kfs_plan.specs.Judging.{TellsYes}
-use Rattle.kfs_desk_docket.specs.declared.answers.Reply.TheVariants as replies
+use Rattle.kfs_desk.specs.declared.history.answers.Reply.TheVariants as replies
 use Rattle.kfs_desk.specs.Landing.{ended_by}
 use Rattle.kfs_desk.specs.Machine.{IsDesk, IsDone, IsStep, Parts, state_at, state_of}
 use Rattle.kfs_desk.proofs.Landing.{contents_are, leases_end}

@@ -14,18 +14,18 @@ use Rattle.kfs_model.specs.Judgement.{State, Submission}
 use Rattle.kfs_model.specs.Machine.{leases_after}
 use Rattle.kfs_model.proofs.Tables.{found_from_any, any_from_found}
 use Rattle.kfs_model.proofs.Heads.{get-headers}
-use Rattle.kfs_entry_value.specs.Views.{header_of as shown_header}
-use Rattle.kfs_entry_value.specs.declared.header.Header.{Header as CodeHeader}
-use Rattle.kfs_entry_value.specs.declared.plan.NodeRow.{NodeRow}
-use Rattle.kfs_entry_value.specs.declared.entry.Log.{Log as CodeLog}
-use Rattle.kfs_entry_value.specs.declared.plan.Plan.{Plan as CodePlan}
+use Rattle.kfs_types.specs.Views.{header_of as shown_header}
+use Rattle.kfs_types.specs.declared.header.Header.{Header as CodeHeader}
+use Rattle.kfs_types.specs.declared.plan.NodeRow.{NodeRow}
+use Rattle.kfs_types.specs.declared.entry.Log.{Log as CodeLog}
+use Rattle.kfs_types.specs.declared.plan.Plan.{Plan as CodePlan}
 use Rattle.kfs_image_nodes.specs.declared.net.Net.{Net}
 use Rattle.kfs_image_nodes.specs.Change.{after_rows}
-use Rattle.kfs_model_device.specs.ShownTree.{IsLawful}
+use Rattle.kfs_model.specs.Device.ShownTree.{IsLawful}
 use Rattle.kfs_image.specs.Image.{contents_of}
 use Rattle.kfs_image_nodes.specs.Contents.{contents_in}
 use Rattle.kfs_image.proofs.NetTables.{net_makes}
-use Rattle.kfs_judge_step.specs.Rows.{keyed_node_row}
+use Rattle.kfs_judge.specs.Step.Rows.{keyed_node_row}
 use Rattle.kfs_plan.specs.Judging.{TellsYes}
 use Rattle.kfs_lease.specs.Removed.{without_nodes_in}
 use Rattle.kfs_desk.specs.Landing.{ended_by, ended_with, removed_by, removed_with}

@@ -11,3 +11,6 @@ pub mod Openings
 mod WholePieces
 pub mod Sent
 pub mod Views
+pub mod HistoryLemmas
+pub mod FillLemmas
+pub mod VerdictLemmas

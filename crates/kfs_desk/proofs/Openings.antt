@@ -2,8 +2,8 @@
 use Rattle.std.proofs.Common.{◌≡◌, ◌==◌, Bool, true, false, cond, List, length, Option, Some, None, ap, ◌∙◌}
 use Rattle.std.specs.List.{list_any}
 use Rattle.kfs_model.specs.Access.{Client}
-use Rattle.kfs_desk_docket.specs.declared.answers.BeginFault.{BeginFault}
-use Rattle.kfs_desk_docket.specs.declared.answers.BeginFault.TheVariants.{ClientTwice, GrantOverlap}
+use Rattle.kfs_desk.specs.declared.history.answers.BeginFault.{BeginFault}
+use Rattle.kfs_desk.specs.declared.history.answers.BeginFault.TheVariants.{ClientTwice, GrantOverlap}
 use Rattle.kfs_desk.specs.Opening.{do_overlap, fault_behind}
 
 module _ (earlier : List Client) (client : Client) where

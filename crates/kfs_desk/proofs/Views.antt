@@ -4,12 +4,12 @@ use Rattle.kfs_model.specs.Access.{Client}
 use Rattle.kfs_model.specs.Judgement.{State, client_sight_of}
 use Rattle.kfs_model.specs.Lease.{Leases, holds, row_of}
 use Rattle.kfs_image_nodes.specs.Contents.{sight_of}
-use Rattle.kfs_model_device.specs.ShownTree.{DeviceImage, IsLawful}
+use Rattle.kfs_model.specs.Device.ShownTree.{DeviceImage, IsLawful}
 use Rattle.kfs_image.specs.Image as images
 use Rattle.kfs_image.proofs.ShownTrees.{sight_shown}
-use Rattle.kfs_judge_check.specs.Reads.{Agrees}
-use Rattle.kfs_judge_check.specs.View.{client_sight_in, clients_of, contents_of, leases_of}
-use Rattle.kfs_judge_check.specs.declared.view.View.{View}
+use Rattle.kfs_judge.specs.Check.Reads.{Agrees}
+use Rattle.kfs_judge.specs.Check.View.{client_sight_in, clients_of, contents_of, leases_of}
+use Rattle.kfs_judge.specs.declared.check.view.View.{View}
 use Rattle.kfs_plan.specs.Judged.{HoldsIn, IsKnown, Judged}
 use Rattle.kfs_plan.specs.Judging.{IsVerdict, submission_of}
 use Rattle.kfs_desk.specs.Machine.{IsCurrent, IsViewOf, state_at}

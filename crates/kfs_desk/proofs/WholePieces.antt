@@ -17,11 +17,11 @@ use Rattle.kfs_model.specs.Table.{get, option_or}
 use Rattle.kfs_model.specs.Tree.{Tree, content_of, headers}
 use Rattle.kfs_model.proofs.Heads.{size_is_extent, size_said}
 use Rattle.kfs_model.proofs.LastCover.{mark_is}
-use Rattle.kfs_entry_value.specs.Views.{piece_of, source_of}
-use Rattle.kfs_entry_value.specs.declared.plan.Piece.{Piece as CodePiece}
-use Rattle.kfs_entry_value.specs.declared.plan.Source.{Source as CodeSource}
-use Rattle.kfs_entry_value.specs.declared.plan.Source.TheVariants as sources
-use Rattle.kfs_plan_sweep.specs.Lefts.{IsFilled, IsPlaceShort, PieceIsInRange}
+use Rattle.kfs_types.specs.Views.{piece_of, source_of}
+use Rattle.kfs_types.specs.declared.plan.Piece.{Piece as CodePiece}
+use Rattle.kfs_types.specs.declared.plan.Source.{Source as CodeSource}
+use Rattle.kfs_types.specs.declared.plan.Source.TheVariants as sources
+use Rattle.kfs_pieces.specs.Lefts.{IsFilled, IsPlaceShort, PieceIsInRange}
 
 -- ---- marks of payloads
 

@@ -2,7 +2,7 @@
 use Rattle.std.specs.Prelude.{ℕ, ◌≤◌, List, length}
 use Rattle.kfs_model.specs.Judgement.{State}
 use Rattle.kfs_model.specs.Machine.{Row}
-use Rattle.kfs_desk_docket.specs.Legal.{IsLegalDocket}
+use Rattle.kfs_desk.specs.History.Legal.{IsLegalDocket}
 use Rattle.kfs_desk.specs.Machine.{AreShown, Desk}
 
 -- the state at the start, and how many rows the docket may have

@@ -1,7 +1,7 @@
 -- What the desk's answers say of its docket.
 use Rattle.std.specs.Prelude.{ℕ, Bool}
-use Rattle.kfs_desk_docket.specs.declared.answers.Reply.{Reply}
-use Rattle.kfs_desk_docket.specs.declared.answers.Reply.TheVariants.{Yes, No, NoRoom}
+use Rattle.kfs_desk.specs.declared.history.answers.Reply.{Reply}
+use Rattle.kfs_desk.specs.declared.history.answers.Reply.TheVariants.{Yes, No, NoRoom}
 
 -- the position of the answer's row in the docket
 abbrev pub position_of : Reply → ℕ

@@ -1,6 +1,6 @@
 -- Which node numbers nobody is granted yet, as a list that says so of each number.
 use Rattle.std.specs.Prelude.{◌≡◌, ℕ, ◌≤◌, ◌&&◌, nat_le, not, Bool, List, IsTrue}
-use Rattle.kfs_image_tier.specs.Places.{is_free_in}
+use Rattle.kfs_image.specs.Tier.Places.{is_free_in}
 
 -- no number from the first to the last is granted
 abbrev pub AreUngranted : (ungranted : List Bool) → (first last : ℕ) → Type 0

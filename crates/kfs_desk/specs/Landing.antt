@@ -3,22 +3,22 @@ use Rattle.std.specs.Prelude.{◌≡◌, ℕ, ◌≤◌, ◌<◌, ◌==◌, not,
 use Rattle.std.specs.List.{AllByRecursion}
 use Rattle.kfs_model.specs.Lease.{Leases, without_gone}
 use Rattle.kfs_model.specs.Plan.{PiecesAscend}
-use Rattle.kfs_entry_value.specs.declared.entry.Log.{Log}
-use Rattle.kfs_entry_value.specs.declared.header.Header.{Header}
-use Rattle.kfs_entry_value.specs.declared.plan.NodeRow.{NodeRow}
-use Rattle.kfs_entry_value.specs.declared.plan.Plan.{Plan}
+use Rattle.kfs_types.specs.declared.entry.Log.{Log}
+use Rattle.kfs_types.specs.declared.header.Header.{Header}
+use Rattle.kfs_types.specs.declared.plan.NodeRow.{NodeRow}
+use Rattle.kfs_types.specs.declared.plan.Plan.{Plan}
 use Rattle.kfs_entry.specs.Answers.{SpansAreWithin, log_of, plan_of}
-use Rattle.kfs_plan_sweep.specs.Lefts.{IsFilled, PieceIsInRange}
-use Rattle.kfs_image_tier.specs.Unused.{unused_places}
+use Rattle.kfs_pieces.specs.Lefts.{IsFilled, PieceIsInRange}
+use Rattle.kfs_image.specs.Tier.Unused.{unused_places}
 use Rattle.kfs_image_nodes.specs.declared.net.Net.{Net}
-use Rattle.kfs_model_device.specs.ShownTree.{DeviceImage}
-use Rattle.kfs_image_fill.specs.declared.bytes.LogBytes.{LogBytes}
-use Rattle.kfs_image_fill.specs.Bytes.{entries_of, pieces_of, HasPayloads}
-use Rattle.kfs_image_fill.specs.FillOf.{CanLandWith, HasLandedWith}
+use Rattle.kfs_model.specs.Device.ShownTree.{DeviceImage}
+use Rattle.kfs_desk.specs.declared.fill.bytes.LogBytes.{LogBytes}
+use Rattle.kfs_desk.specs.Fill.Bytes.{entries_of, pieces_of, HasPayloads}
+use Rattle.kfs_desk.specs.Fill.FillOf.{CanLandWith, HasLandedWith}
 use Rattle.kfs_plan.specs.declared.submission.Outcome.{Outcome}
 use Rattle.kfs_plan.specs.declared.submission.Outcome.TheVariants as outcomes
-use Rattle.kfs_desk_docket.specs.declared.answers.Reply.{Reply}
-use Rattle.kfs_desk_docket.specs.declared.answers.Reply.TheVariants as replies
+use Rattle.kfs_desk.specs.declared.history.answers.Reply.{Reply}
+use Rattle.kfs_desk.specs.declared.history.answers.Reply.TheVariants as replies
 
 -- the leases after a row of a net: where the row's node is gone, those on it end
 abbrev pub ended_with : Leases → (number : ℕ) → Option Header → Leases

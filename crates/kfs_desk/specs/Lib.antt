@@ -5,3 +5,6 @@ pub mod Landing
 pub mod Machine
 pub mod Opening
 pub mod HandedIn
+pub mod History
+pub mod Fill
+pub mod Verdict

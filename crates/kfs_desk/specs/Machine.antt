@@ -11,31 +11,31 @@ use Rattle.kfs_model.specs.Machine as machine
 use Rattle.kfs_model.specs.Means.{HasEntriesDone}
 use Rattle.kfs_model.specs.Migration.{Move, MoveFault, fault_of_moves}
 use Rattle.kfs_model.specs.Order.{IsInOrder}
-use Rattle.kfs_desk_docket.specs.Legal.{IsLegalDocket}
+use Rattle.kfs_desk.specs.History.Legal.{IsLegalDocket}
 use Rattle.kfs_lease.specs.Faults as lease_faults
 use Rattle.kfs_migrate.specs.Applied.{AreApplied}
-use Rattle.kfs_migrate_value.specs.Faults as move_faults
-use Rattle.kfs_lease_rows.specs.Rows.{kind_of}
-use Rattle.kfs_desk_docket.specs.declared.answers.ActFault.{ActFault}
-use Rattle.kfs_desk_docket.specs.declared.answers.ActFault.TheVariants as act_faults
-use Rattle.kfs_model_device.specs.ShownTree.{DeviceImage, IsLawful, shown_tree}
+use Rattle.kfs_types.specs.Moves.Faults as move_faults
+use Rattle.kfs_lease.specs.Rows.Rows.{kind_of}
+use Rattle.kfs_desk.specs.declared.history.answers.ActFault.{ActFault}
+use Rattle.kfs_desk.specs.declared.history.answers.ActFault.TheVariants as act_faults
+use Rattle.kfs_model.specs.Device.ShownTree.{DeviceImage, IsLawful, shown_tree}
 use Rattle.kfs_plan.specs.Judging.{refusal_of, submission_of}
 use Rattle.kfs_plan.specs.declared.submission.Back.{Back}
 use Rattle.kfs_plan.specs.declared.submission.Submission.{Submission as CodeSubmission}
 use Rattle.kfs_plan.specs.declared.submission.Why.{Why}
 use Rattle.kfs_plan.specs.declared.submission.Why.TheVariants as whys
 use Rattle.kfs_lease.specs.declared.act.Act.{Act}
-use Rattle.kfs_desk_docket.specs.declared.answers.ActReply.{ActReply}
-use Rattle.kfs_desk_docket.specs.declared.answers.Unanswered.{Unanswered}
-use Rattle.kfs_desk_docket.specs.declared.answers.Unanswered.TheVariants as unanswered
+use Rattle.kfs_desk.specs.declared.history.answers.ActReply.{ActReply}
+use Rattle.kfs_desk.specs.declared.history.answers.Unanswered.{Unanswered}
+use Rattle.kfs_desk.specs.declared.history.answers.Unanswered.TheVariants as unanswered
 use Rattle.kfs_lease.specs.declared.act.Act.TheVariants as acts
-use Rattle.kfs_desk_docket.specs.declared.answers.Done.{Done}
-use Rattle.kfs_desk_docket.specs.declared.answers.Done.TheVariants as dones
-use Rattle.kfs_desk_docket.specs.declared.answers.Reply.{Reply as CodeReply}
-use Rattle.kfs_desk_docket.specs.declared.answers.Reply.TheVariants as replies
-use Rattle.kfs_judge_check.specs.Reads.{Agrees}
-use Rattle.kfs_judge_check.specs.View.{clients_of, contents_of, leases_of}
-use Rattle.kfs_judge_check.specs.declared.view.View.{View}
+use Rattle.kfs_desk.specs.declared.history.answers.Done.{Done}
+use Rattle.kfs_desk.specs.declared.history.answers.Done.TheVariants as dones
+use Rattle.kfs_desk.specs.declared.history.answers.Reply.{Reply as CodeReply}
+use Rattle.kfs_desk.specs.declared.history.answers.Reply.TheVariants as replies
+use Rattle.kfs_judge.specs.Check.Reads.{Agrees}
+use Rattle.kfs_judge.specs.Check.View.{clients_of, contents_of, leases_of}
+use Rattle.kfs_judge.specs.declared.check.view.View.{View}
 use Rattle.kfs_image_nodes.specs.Contents.{sight_of}
 use Rattle.kfs_plan.specs.Judged.{Judged}
 use Rattle.kfs_desk.specs.Docket.{position_of, is_rejudged}

@@ -3,8 +3,8 @@ use Rattle.std.specs.Prelude.{◌==◌, nat_le, max, min, Bool, List, length, Op
 use Rattle.std.specs.List.{list_any}
 use Rattle.kfs_model.specs.Access.{Client}
 use Rattle.kfs_model.specs.FirstAnswer.{first_answer}
-use Rattle.kfs_desk_docket.specs.declared.answers.BeginFault.{BeginFault}
-use Rattle.kfs_desk_docket.specs.declared.answers.BeginFault.TheVariants.{ClientTwice, GrantOverlap}
+use Rattle.kfs_desk.specs.declared.history.answers.BeginFault.{BeginFault}
+use Rattle.kfs_desk.specs.declared.history.answers.BeginFault.TheVariants.{ClientTwice, GrantOverlap}
 
 -- whether some number is in both grants: the greater of the first numbers isn't above the lesser of the
 -- last ones

@@ -1,6 +1,6 @@
 //! What comes back where no desk was begun.
 
-use kfs_desk_docket::answers::BeginFault;
+use crate::history::answers::BeginFault;
 use kfs_image::Image;
 use kfs_mode::Client;
 use std::alloc::Allocator;

@@ -6,15 +6,15 @@ ghost use Rattle.kfs_model.specs.Machine.{opening};
 ghost use Rattle.kfs_model.specs.Means.{DiffersInPlacement};
 ghost use Rattle.kfs_model.specs.Table.{empty, get};
 ghost use Rattle.kfs_model.specs.Tree.{headers};
-ghost use Rattle.kfs_entry_value.specs.Views.{header_of};
-ghost use Rattle.kfs_desk_docket.specs.Legal.{IsLegalDocket};
+ghost use Rattle.kfs_types.specs.Views.{header_of};
+ghost use Rattle.kfs_desk.specs.History.Legal.{IsLegalDocket};
 ghost use Rattle.kfs_mode.specs.Clients.{ClientsAreDistinct};
 ghost use Rattle.kfs_lease.specs.Faults as refusals;
-ghost use Rattle.kfs_lease_rows.specs.Rows.{kind_of};
+ghost use Rattle.kfs_lease.specs.Rows.Rows.{kind_of};
 ghost use Rattle.kfs_image_nodes.specs.Contents.{sight_of};
-ghost use Rattle.kfs_model_device.specs.ShownTree.{IsLawful, shown_tree};
+ghost use Rattle.kfs_model.specs.Device.ShownTree.{IsLawful, shown_tree};
 ghost use Rattle.kfs_image.specs.Image as images;
-ghost use Rattle.kfs_judge_check.specs.View.{clients_of, contents_of, leases_of};
+ghost use Rattle.kfs_judge.specs.Check.View.{clients_of, contents_of, leases_of};
 ghost use Rattle.kfs_plan.specs.Judging.{IsVerdict, submission_of, submission_with};
 ghost use Rattle.kfs_desk.specs.Landing.{AnswersOutcome, CanLand, leases_left};
 ghost use Rattle.kfs_desk.specs.Machine.{AreShown, IsAnswered, IsBackFor, IsCallOf, IsChangeOf, IsCurrent, IsImageOf, IsMigrated, IsViewOf, RunsThrough, SeeTheSame, call_of, done_by, number_of, opened_at, outcome_at, state_at};
@@ -23,15 +23,15 @@ ghost use Rattle.kfs_desk.specs.Opening.{begin_fault};
 
 use crate::back::BeginBack;
 use crate::docket::{HandedIn, add_act, add_answer, add_moves};
+use crate::fill::LogBytes;
 use crate::first_fault::first_fault;
-use crate::state::ShownState;
-use crate::state_change::change_state;
-use kfs_desk_docket::Docket;
-use kfs_desk_docket::answers::{
+use crate::history::Docket;
+use crate::history::answers::{
     Act, ActFault, ActReply, BeginFault, Done, Reply, SubmissionsBack, Unanswered,
 };
+use crate::state::ShownState;
+use crate::state_change::change_state;
 use kfs_image::{Answer, Cell, Header, Image, Shape, look};
-use kfs_image_fill::LogBytes;
 use kfs_judge::View;
 use kfs_lease::{LeaseFault, LeaseKind, Leases};
 use kfs_migrate::{Move, MoveFault, apply_moves, check_moves};

@@ -2,13 +2,13 @@
 ghost use Rattle.std.specs.Prelude.{◌≡◌, ◌+◌, ◌<◌, ◌^◌, ◌++◌, ◌∷◌, [], length, Result};
 ghost use Rattle.kfs_model.specs.Machine.{Migrate, Row};
 ghost use Rattle.kfs_plan.specs.Judging.{submission_of};
-ghost use Rattle.kfs_desk_docket.specs.declared.answers.Done.TheVariants.{Moved};
+ghost use Rattle.kfs_desk.specs.declared.history.answers.Done.TheVariants.{Moved};
 ghost use Rattle.kfs_desk.specs.Machine.{IsCallStep, IsStep, call_of, done_by};
 ghost use Rattle.kfs_desk.specs.HandedIn.{handed_in};
 
+use crate::history::answers::{ActFault, Done, Reply};
+use crate::history::{Docket, OneRow, RowRule};
 use crate::state::ShownState;
-use kfs_desk_docket::answers::{ActFault, Done, Reply};
-use kfs_desk_docket::{Docket, OneRow, RowRule};
 use kfs_lease::Act;
 use kfs_migrate::Move;
 use kfs_plan::Submission;

@@ -6,10 +6,10 @@ ghost use Rattle.kfs_mode.specs.Clients.{ClientsAreDistinct};
 ghost use Rattle.kfs_desk.specs.Opening.{begin_fault};
 ghost use Rattle.kfs_desk.specs.Grants.{AreUngranted, MarksGranted};
 
-use kfs_desk_docket::answers::BeginFault;
-use kfs_entry_value::GREATEST_NUMBER;
-use kfs_image_tier::Places;
+use crate::history::answers::BeginFault;
+use kfs_image::Places;
 use kfs_mode::Client;
+use kfs_types::GREATEST_NUMBER;
 use std::alloc::{AllocError, Allocator};
 use std::collections::BTreeSet;
 

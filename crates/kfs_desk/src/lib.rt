@@ -1,21 +1,26 @@
 //! The desk: it owns the image, the clients and their leases, and answers calls one after another.
 //!
-//! It stands on `kfs_plan` (judging), `kfs_image_fill` (landing), `kfs_lease` and `kfs_desk_docket`;
-//! workers and engine stand on it. Begin with `Desk::begin`, then `Desk::view` and `Desk::land`.
+//! It stands on `kfs_plan` (judging), `kfs_image` and `kfs_lease`; workers and program stand on it. Begin
+//! with `Desk::begin`, then `Desk::view` and `Desk::land`. `fill` has what a landing does to blocks,
+//! `history` the docket's rows, which contracts alone see, and `verdict` what a worker holds of a desk.
 #![tactic(auto)]
 
 mod back;
 mod desk;
 mod docket;
+mod fill;
 mod first_fault;
+pub mod history;
 mod state;
 mod state_change;
+mod verdict;
 
 pub use back::BeginBack;
 pub use desk::Desk;
-pub use kfs_desk_docket::Docket;
-pub use kfs_desk_docket::answers::{
+pub use history::answers::{
     Act, ActFault, ActReply, BeginFault, Done, Reply, SubmissionsBack, Unanswered,
 };
+pub use history::{Docket, OneRow};
 pub use kfs_migrate::{Move, MoveFault};
 pub use kfs_plan::{Back, Why};
+pub use verdict::{DeskView, WORKERS, none_of};

@@ -2,17 +2,17 @@
 ghost use Rattle.std.specs.Prelude.{◌≡◌, ◌++◌, IfOk, OnErr, OnOk};
 ghost use Rattle.std.specs.List.{AllByRecursion};
 ghost use Rattle.kfs_model.specs.Plan.{PiecesAscend};
-ghost use Rattle.kfs_plan_sweep.specs.Lefts.{IsFilled, PieceIsInRange};
-ghost use Rattle.kfs_image_fill.specs.Bytes.{HasPayloads, pieces_of};
-ghost use Rattle.kfs_image_fill.specs.FillOf.{CanLandWith, HasLandedWith};
+ghost use Rattle.kfs_pieces.specs.Lefts.{IsFilled, PieceIsInRange};
+ghost use Rattle.kfs_desk.specs.Fill.Bytes.{HasPayloads, pieces_of};
+ghost use Rattle.kfs_desk.specs.Fill.FillOf.{CanLandWith, HasLandedWith};
 ghost use Rattle.kfs_lease.specs.Removed.{without_nodes_in};
 ghost use Rattle.kfs_desk.specs.Landing.{ended_by, removed_by, removed_with, CanLandBytes, IsLandedWith};
 
+use crate::fill::{LogBytes, land_bytes};
 use kfs_entry::NodeRow;
-use kfs_entry_value::Change;
 use kfs_image::{Image, Net};
-use kfs_image_fill::{LogBytes, land_bytes};
 use kfs_lease::Leases;
+use kfs_types::Change;
 use std::alloc::{AllocError, Allocator};
 use std::sync::Arc;
 
@@ -26,7 +26,7 @@ struct ImageChange<'a, 'b, A: Allocator> {
 
 impl<'a, 'b, A: Allocator + Copy> Change for ImageChange<'a, 'b, A> {
     ghost use Rattle.std.specs.Prelude.{◌≡◌, refl};
-    ghost use Rattle.kfs_entry_value.specs.Nested.{Becomes};
+    ghost use Rattle.kfs_types.specs.Nested.{Becomes};
     ghost use Rattle.kfs_desk.specs.Landing.{CanLandBytes, IsLandedWith};
 
     ghost can_make = { λ before. CanLandBytes before.image.now before.bytes before.net.now };

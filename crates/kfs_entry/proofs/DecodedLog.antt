@@ -9,11 +9,11 @@ use Rattle.kfs_model.specs.Limits.{latest_version}
 use Rattle.kfs_model.specs.Spelling.{AreRows, Begins, LogHeader, IsLogHeader, log_header, IsEntry, entry_bytes, IsLog, log_bytes, LogAnswer}
 use Rattle.kfs_model.proofs.AnswersExist.{spelled_log}
 use Rattle.kfs_model.proofs.EntryLaws.{is_of_latest}
-use Rattle.kfs_entry_value.specs.declared.entry.Entry.{Entry as CodeEntry}
-use Rattle.kfs_entry_value.specs.declared.entry.Span.{Span}
+use Rattle.kfs_types.specs.declared.entry.Entry.{Entry as CodeEntry}
+use Rattle.kfs_types.specs.declared.entry.Span.{Span}
 use Rattle.kfs_entry.specs.declared.fault.SpellFault.{SpellFault}
 use Rattle.kfs_entry.specs.declared.fault.SpellFault.TheVariants as faults
-use Rattle.kfs_entry_value.specs.Views.{entry_of, IsSpanned, IsWithin}
+use Rattle.kfs_types.specs.Views.{entry_of, IsSpanned, IsWithin}
 use Rattle.kfs_entry.specs.Missing.{EntryMissing}
 use Rattle.kfs_entry.specs.Answers.{OnRefusal}
 use Rattle.kfs_entry.proofs.Spans.{is_spanned}

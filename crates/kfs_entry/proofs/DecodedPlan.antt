@@ -3,13 +3,13 @@ use Rattle.std.proofs.Common.{◌≡◌, ℕ, List, ◌++◌, length, drop, map,
 use Rattle.kfs_model.specs.PlanRow.{Plan}
 use Rattle.kfs_model.specs.Spelling.{AreRows, Begins, BeginsWithRows, LacksRow, PlanHeader, IsPlanHeader, plan_header, PartLacksRow, PlanAnswer, name_row_bytes, IsNameRow, node_row_bytes, IsNodeRow, piece_bytes, IsPiece, plan_bytes, IsPlan}
 use Rattle.kfs_model.proofs.AnswersExist.{plan_is_spelled}
-use Rattle.kfs_entry_value.specs.declared.plan.NameRow.{NameRow}
-use Rattle.kfs_entry_value.specs.declared.plan.NodeRow.{NodeRow}
-use Rattle.kfs_entry_value.specs.declared.plan.Piece.{Piece}
-use Rattle.kfs_entry_value.specs.Views.{name_row_of, node_row_of, piece_of}
+use Rattle.kfs_types.specs.declared.plan.NameRow.{NameRow}
+use Rattle.kfs_types.specs.declared.plan.NodeRow.{NodeRow}
+use Rattle.kfs_types.specs.declared.plan.Piece.{Piece}
+use Rattle.kfs_types.specs.Views.{name_row_of, node_row_of, piece_of}
 use Rattle.kfs_entry.specs.declared.fault.SpellFault.{SpellFault}
 use Rattle.kfs_entry.specs.declared.fault.SpellFault.TheVariants as faults
-use Rattle.kfs_entry_codec.specs.RowList.{AreRead}
+use Rattle.kfs_entry.specs.Codec.RowList.{AreRead}
 use Rattle.kfs_entry.specs.Missing.{PartRowMissing}
 use Rattle.kfs_entry.specs.Answers.{OnRefusal}
 use Rattle.kfs_entry.proofs.RowLaws.{stand_from, stop_from}

@@ -5,3 +5,4 @@ pub mod Answered
 pub mod DecodedLog
 pub mod DecodedPlan
 pub mod Ranges
+pub mod CodecLemmas

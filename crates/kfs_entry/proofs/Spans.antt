@@ -3,10 +3,10 @@ use Rattle.std.proofs.Common.{◌≡◌, ℕ, ◌+◌, ◌-◌, ◌≤◌, List,
 use Rattle.std.proofs.lemmas.List.{length-take-le}
 use Rattle.kfs_model.specs.Limits.{payload_limit}
 use Rattle.kfs_model.specs.Spelling.{IsEntry}
-use Rattle.kfs_entry_value.specs.Views.{entry_of, span_bytes, IsSpanned, IsWithin}
-use Rattle.kfs_entry_value.specs.declared.entry.Entry.{Entry as CodeEntry}
-use Rattle.kfs_entry_value.specs.declared.entry.Entry.TheVariants as entries
-use Rattle.kfs_entry_value.specs.declared.entry.Span.{Span}
+use Rattle.kfs_types.specs.Views.{entry_of, span_bytes, IsSpanned, IsWithin}
+use Rattle.kfs_types.specs.declared.entry.Entry.{Entry as CodeEntry}
+use Rattle.kfs_types.specs.declared.entry.Entry.TheVariants as entries
+use Rattle.kfs_types.specs.declared.entry.Span.{Span}
 
 -- a span in the source has as many bytes as it is long
 span_length : (source : List ℕ) (p : Span) → p.start ≤ p.end → p.end ≤ length source → length (span_bytes source p) ≡ p.end - p.start

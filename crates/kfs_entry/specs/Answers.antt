@@ -3,12 +3,12 @@ use Rattle.std.specs.Prelude.{ℕ, List, map, Result, Ok, Err}
 use Rattle.std.specs.List.{AllByRecursion}
 use Rattle.kfs_entry.specs.declared.fault.SpellFault.{SpellFault}
 use Rattle.kfs_entry.specs.declared.fault.SpellFault.TheVariants as faults
-use Rattle.kfs_entry_value.specs.declared.entry.Log.{Log as CodeLog}
-use Rattle.kfs_entry_value.specs.declared.plan.Plan.{Plan as CodePlan}
+use Rattle.kfs_types.specs.declared.entry.Log.{Log as CodeLog}
+use Rattle.kfs_types.specs.declared.plan.Plan.{Plan as CodePlan}
 use Rattle.kfs_model.specs.Entry.{Log}
 use Rattle.kfs_model.specs.PlanRow.{Plan}
 use Rattle.kfs_model.specs.Spelling.{SpellingFault, BadHeader, BadEntry, Trailing, BadRow}
-use Rattle.kfs_entry_value.specs.Views.{entry_of, name_row_of, node_row_of, piece_of, IsSpanned, IsWithin}
+use Rattle.kfs_types.specs.Views.{entry_of, name_row_of, node_row_of, piece_of, IsSpanned, IsWithin}
 
 -- the log, with the payloads' bytes in place of their spans
 abbrev pub log_of : {A : Type 0} → List ℕ → CodeLog A → Log

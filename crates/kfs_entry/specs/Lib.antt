@@ -1,2 +1,3 @@
 pub mod Missing
 pub mod Answers
+pub mod Codec

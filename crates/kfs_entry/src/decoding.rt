@@ -4,13 +4,13 @@ ghost use Rattle.kfs_model.specs.Limits.{entry_limit};
 ghost use Rattle.kfs_model.specs.Entry.{Log as LogValue};
 ghost use Rattle.kfs_model.specs.PlanRow.{Plan as PlanValue};
 ghost use Rattle.kfs_model.specs.Spelling.{SpellingFault, LogAnswer, PlanAnswer};
-ghost use Rattle.kfs_entry_codec.specs.RowList.{AreRead};
+ghost use Rattle.kfs_entry.specs.Codec.RowList.{AreRead};
 ghost use Rattle.kfs_entry.specs.Missing.{EntryMissing, PartRowMissing};
 ghost use Rattle.kfs_entry.specs.Answers.{OnAnswer, log_of, plan_of, AreSpanned, SpansAreWithin};
 
+use crate::codec::{RowsFault, SpelledRow, headers, read_rows};
 use crate::fault::SpellFault;
-use kfs_entry_codec::{RowsFault, SpelledRow, headers, read_rows};
-use kfs_entry_value::{Entry, Log, NameRow, NodeRow, Piece, Plan, RowList, Span};
+use kfs_types::{Entry, Log, NameRow, NodeRow, Piece, Plan, RowList, Span};
 use std::alloc::Allocator;
 
 /// Reads the entries of a log of this version.

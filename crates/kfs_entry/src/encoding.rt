@@ -3,9 +3,9 @@ ghost use Rattle.std.specs.Prelude.{◌≡◌, ◌<◌, ◌^◌, length, IfOk};
 ghost use Rattle.kfs_model.specs.Spelling.{IsLog, IsVersion, log_bytes, plan_bytes};
 ghost use Rattle.kfs_entry.specs.Answers.{log_of, plan_of, SpansAreWithin};
 
-use kfs_entry_codec::headers::{LogHeader, PlanHeader};
-use kfs_entry_codec::{headers, rows_len, write_rows};
-use kfs_entry_value::{Log, Plan};
+use crate::codec::headers::{LogHeader, PlanHeader};
+use crate::codec::{headers, rows_len, write_rows};
+use kfs_types::{Log, Plan};
 use std::alloc::{AllocError, Allocator};
 
 /// Writes a log as bytes, in the version that it has. `source` is the bytes that the spans of its

@@ -1,17 +1,19 @@
 //! Update logs and digest plans ("Strata", SOSP 2017), as values and as bytes.
 //!
-//! It stands on `kfs_entry_value` (the values) and `kfs_entry_codec` (the fields); the judge and the
-//! plan checker stand on it. Begin with `decode_log` and `encode_log`. docs/FORMATS.md has the formats.
+//! It stands on `kfs_types` (the values); the judge and the plan checker stand on it. Begin with
+//! `decode_log` and `encode_log`; `codec` has the fields and rows. docs/FORMATS.md has the formats.
 #![tactic(auto)]
 
+pub mod codec;
 mod decoding;
 mod encoding;
 mod fault;
 
+pub use codec::{RowsFault, SpelledRow, read_rows};
 pub use decoding::{decode_log, decode_plan};
 pub use encoding::{encode_log, encode_plan};
 pub use fault::SpellFault;
-pub use kfs_entry_value::{
+pub use kfs_types::{
     ENTRY_LIMIT, Entry, GREATEST_MODE, GREATEST_MODE_OF_VERSION_1, Header, Kind, LATEST_VERSION,
     Log, Name, NameRow, NodeRow, PAYLOAD_LIMIT, Piece, Plan, RowList, Source, Span,
 };

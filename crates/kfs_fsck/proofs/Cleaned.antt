@@ -8,15 +8,15 @@ use Rattle.kfs_model.proofs.TableLaws.{same_table, same_entries_table, get-mappe
 use Rattle.kfs_model.specs.Tree.{Tree, FileBody, body_over, node_over, content_of}
 use Rattle.kfs_model.specs.Soundness.{IsSoundOver}
 use Rattle.kfs_model.specs.Placement.{Place, Placement, tier_size, numbers_from}
-use Rattle.kfs_model_device.specs.Device.{Devices, AreBlocks, byte_on}
-use Rattle.kfs_model_device.specs.ShownTree.{DeviceImage, IsLawful, file_byte, file_bytes, shown_tree}
-use Rattle.kfs_model_device.specs.RawImage.{table_of}
-use Rattle.kfs_model_device.specs.Listed.{block_bytes, extent_row}
-use Rattle.kfs_model_device.specs.Canonical.{block_of, block_extent}
-use Rattle.kfs_model_device.proofs.Among.{Among, among_map, from_map}
-use Rattle.kfs_model_device.proofs.RowTables.{get_among, among_get, sorted_entries}
-use Rattle.kfs_model_device.proofs.ShownHeads.{bytes_shown, length-file_bytes}
-use Rattle.kfs_image_raw.proofs.Inserted.{sorted_has_each}
+use Rattle.kfs_model.specs.Device.Device.{Devices, AreBlocks, byte_on}
+use Rattle.kfs_model.specs.Device.ShownTree.{DeviceImage, IsLawful, file_byte, file_bytes, shown_tree}
+use Rattle.kfs_model.specs.Device.RawImage.{table_of}
+use Rattle.kfs_model.specs.Device.Listed.{block_bytes, extent_row}
+use Rattle.kfs_model.specs.Device.Canonical.{block_of, block_extent}
+use Rattle.kfs_model.proofs.DeviceLemmas.Among.{Among, among_map, from_map}
+use Rattle.kfs_model.proofs.DeviceLemmas.RowTables.{get_among, among_get, sorted_entries}
+use Rattle.kfs_model.proofs.DeviceLemmas.ShownHeads.{bytes_shown, length-file_bytes}
+use Rattle.kfs_image.proofs.RawLemmas.Inserted.{sorted_has_each}
 use Rattle.kfs_fsck.proofs.JoinedPlaces.{alike_below}
 
 -- ---- entries of tables

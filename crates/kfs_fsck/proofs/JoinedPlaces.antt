@@ -3,9 +3,9 @@ use Rattle.std.proofs.Common.{◌≡◌, ℕ, zero, suc, ◌+◌, ◌*◌, ◌<�
 use Rattle.std.specs.List.{flat_map, AllByRecursion}
 use Rattle.std.proofs.lemmas.List.{map-append, take-append-le, drop-append-le, length-drop}
 use Rattle.kfs_model.specs.Placement.{numbers_from, below}
-use Rattle.kfs_model_device.specs.RawImage.{ExtentRow, place_in, bytes_in, places_in, blocks_in}
-use Rattle.kfs_model_device.specs.Canonical.{goes_on, as_one, with_extent, joined_extents}
-use Rattle.kfs_model_device.proofs.JoinedExtents.{GoesOn, it_goes_on}
+use Rattle.kfs_model.specs.Device.RawImage.{ExtentRow, place_in, bytes_in, places_in, blocks_in}
+use Rattle.kfs_model.specs.Device.Canonical.{goes_on, as_one, with_extent, joined_extents}
+use Rattle.kfs_model.proofs.DeviceLemmas.JoinedExtents.{GoesOn, it_goes_on}
 
 -- ---- numbers in a row
 

@@ -14,14 +14,14 @@ use Rattle.kfs_model.specs.Check.{is_some_and}
 use Rattle.kfs_model.specs.Placement.{TierSizes, tier_size}
 use Rattle.kfs_model.proofs.CleanIsAllowed.{left, right}
 use Rattle.kfs_model.proofs.Counts.{tally, is_tally, any_tally, is_less}
-use Rattle.kfs_model_device.specs.RawImage.{ExtentRow, RawImage, heads_of}
-use Rattle.kfs_model_device.specs.Rules.{Test, test, with_previous, is_above, ends_in_file, tier_test, share_place, place_test, rule_8, rule_9, rule_10}
-use Rattle.kfs_model_device.specs.Finding.{least_of, least_failed}
-use Rattle.kfs_model_device.specs.Canonical.{goes_on, as_one, with_extent, joined_extents}
-use Rattle.kfs_model_device.proofs.Among.{Among, among_all}
-use Rattle.kfs_model_device.proofs.JoinedExtents.{GoesOn, it_goes_on}
-use Rattle.kfs_model_device.proofs.OnlyOne.{among_any}
-use Rattle.kfs_model_device.proofs.RulesHold.{AllHold}
+use Rattle.kfs_model.specs.Device.RawImage.{ExtentRow, RawImage, heads_of}
+use Rattle.kfs_model.specs.Device.Rules.{Test, test, with_previous, is_above, ends_in_file, tier_test, share_place, place_test, rule_8, rule_9, rule_10}
+use Rattle.kfs_model.specs.Device.Finding.{least_of, least_failed}
+use Rattle.kfs_model.specs.Device.Canonical.{goes_on, as_one, with_extent, joined_extents}
+use Rattle.kfs_model.proofs.DeviceLemmas.Among.{Among, among_all}
+use Rattle.kfs_model.proofs.DeviceLemmas.JoinedExtents.{GoesOn, it_goes_on}
+use Rattle.kfs_model.proofs.DeviceLemmas.OnlyOne.{among_any}
+use Rattle.kfs_model.proofs.DeviceLemmas.RulesHold.{AllHold}
 use Rattle.kfs_shape.specs.Extents.{is_behind, is_full}
 use Rattle.kfs_shape.specs.Places.{first_position, has_position}
 use Rattle.kfs_shape.proofs.NameCounts.{all_hold}

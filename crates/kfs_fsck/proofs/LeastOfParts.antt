@@ -6,11 +6,11 @@ use Rattle.std.proofs.lemmas.List.{map-append}
 use Rattle.rayon.specs.Lists.{Reduces, chunks_of}
 use Rattle.rayon.proofs.Reducing.{Reduces-fold}
 use Rattle.rayon.proofs.ToStd.{slice-map, chunks_of-concat}
-use Rattle.kfs_model_device.specs.RawImage.{RawNode}
-use Rattle.kfs_model_device.specs.Rules.{Test}
-use Rattle.kfs_model_device.specs.Finding.{least_of, least_failed}
-use Rattle.kfs_image_codec.specs.declared.raw.RawNode.{RawNode as CodeRawNode}
-use Rattle.kfs_image_codec.specs.RawImages.{raw_node_of}
+use Rattle.kfs_model.specs.Device.RawImage.{RawNode}
+use Rattle.kfs_model.specs.Device.Rules.{Test}
+use Rattle.kfs_model.specs.Device.Finding.{least_of, least_failed}
+use Rattle.kfs_image.specs.declared.codec.raw.RawNode.{RawNode as CodeRawNode}
+use Rattle.kfs_image.specs.Codec.RawImages.{raw_node_of}
 use Rattle.kfs_shape.specs.Least.{merged}
 use Rattle.kfs_shape.proofs.Tests.{merged_none}
 

@@ -17,21 +17,21 @@ use Rattle.kfs_model.specs.Placement.{AreTierSizes, tier_size}
 use Rattle.kfs_model.proofs.CleanIsAllowed.{found, right}
 use Rattle.kfs_model.proofs.Counts.{is_less}
 use Rattle.kfs_model.proofs.Tables.{left_part, right_part}
-use Rattle.kfs_model_device.specs.ShownTree.{DeviceImage, IsLawful, shown_tree}
-use Rattle.kfs_model_device.specs.RawImage.{RawNode, ExtentRow, RawImage, IsSpelled, node_entry, heads_of, placement_of, image_of, table_of}
-use Rattle.kfs_model_device.specs.Rules.{Test, rules, kind_fits, share_place}
-use Rattle.kfs_model_device.specs.Finding.{Finding, least_failed, finding_from, finding_of, IsWellFormed}
-use Rattle.kfs_model_device.specs.Listed.{AreRowsOfImage, raw_node, name_row, rows_of}
-use Rattle.kfs_model_device.specs.Spelling.{IsRawNode, IsExtentRow, IsRawImage}
-use Rattle.kfs_model_device.specs.Canonical.{canonical_rows, joined_extents}
-use Rattle.kfs_model_device.proofs.Among.{Among, among_all, from_map}
-use Rattle.kfs_model_device.proofs.ImageAnswers.{raw_image_spelled}
-use Rattle.kfs_model_device.proofs.LaidOut.{extents_placed, blocks_written}
-use Rattle.kfs_model_device.proofs.ListedTree.{rows_are}
-use Rattle.kfs_model_device.proofs.OnlyOne.{among_any, only_one}
-use Rattle.kfs_model_device.proofs.RowTables.{sorted_rows}
-use Rattle.kfs_model_device.proofs.RulesHold.{IsLaid, all_laid, numbers_in_range, headers_fit, extents_ascend}
-use Rattle.kfs_model_device.proofs.SoundImage.{each_head, heads_counted, tree_sound, node_rows, name_rows}
+use Rattle.kfs_model.specs.Device.ShownTree.{DeviceImage, IsLawful, shown_tree}
+use Rattle.kfs_model.specs.Device.RawImage.{RawNode, ExtentRow, RawImage, IsSpelled, node_entry, heads_of, placement_of, image_of, table_of}
+use Rattle.kfs_model.specs.Device.Rules.{Test, rules, kind_fits, share_place}
+use Rattle.kfs_model.specs.Device.Finding.{Finding, least_failed, finding_from, finding_of, IsWellFormed}
+use Rattle.kfs_model.specs.Device.Listed.{AreRowsOfImage, raw_node, name_row, rows_of}
+use Rattle.kfs_model.specs.Device.Spelling.{IsRawNode, IsExtentRow, IsRawImage}
+use Rattle.kfs_model.specs.Device.Canonical.{canonical_rows, joined_extents}
+use Rattle.kfs_model.proofs.DeviceLemmas.Among.{Among, among_all, from_map}
+use Rattle.kfs_model.proofs.DeviceLemmas.ImageAnswers.{raw_image_spelled}
+use Rattle.kfs_model.proofs.DeviceLemmas.LaidOut.{extents_placed, blocks_written}
+use Rattle.kfs_model.proofs.DeviceLemmas.ListedTree.{rows_are}
+use Rattle.kfs_model.proofs.DeviceLemmas.OnlyOne.{among_any, only_one}
+use Rattle.kfs_model.proofs.DeviceLemmas.RowTables.{sorted_rows}
+use Rattle.kfs_model.proofs.DeviceLemmas.RulesHold.{IsLaid, all_laid, numbers_in_range, headers_fit, extents_ascend}
+use Rattle.kfs_model.proofs.DeviceLemmas.SoundImage.{each_head, heads_counted, tree_sound, node_rows, name_rows}
 use Rattle.kfs_shape.proofs.SharedPlaces.{AreSmall}
 use Rattle.kfs_fsck.specs.OldImages.{IsRenewed}
 use Rattle.kfs_fsck.proofs.Cleaned.{cleaned, cleaned_tree, cleaned_lawful, cleaned_extents}

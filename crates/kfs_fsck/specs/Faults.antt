@@ -1,8 +1,8 @@
 -- Why the checker lets no image in.
 use Rattle.std.specs.Prelude.{◌≡◌, Some}
-use Rattle.kfs_model_device.specs.Finding.{finding_of}
-use Rattle.kfs_image_codec.specs.declared.raw.RawImage.{RawImage as CodeRawImage}
-use Rattle.kfs_image_codec.specs.RawImages.{raw_of}
+use Rattle.kfs_model.specs.Device.Finding.{finding_of}
+use Rattle.kfs_image.specs.declared.codec.raw.RawImage.{RawImage as CodeRawImage}
+use Rattle.kfs_image.specs.Codec.RawImages.{raw_of}
 use Rattle.kfs_shape.specs.Findings.{finding_shown}
 use Rattle.kfs_fsck.specs.declared.fault.FsckFault.{FsckFault}
 use Rattle.kfs_fsck.specs.declared.fault.FsckFault.TheVariants.{Found, OutOfMemory}

@@ -1,11 +1,11 @@
 -- An image of an old version, spelled as one of the latest.
 use Rattle.std.specs.Prelude.{◌≡◌, Ok}
 use Rattle.kfs_model.specs.Limits.{latest_version}
-use Rattle.kfs_model_device.specs.ShownTree.{shown_tree}
-use Rattle.kfs_model_device.specs.RawImage.{RawImage, image_of, placement_of}
-use Rattle.kfs_model_device.specs.Finding.{IsWellFormed}
-use Rattle.kfs_model_device.specs.Spelling.{ImageAnswer}
-use Rattle.kfs_model_device.specs.Canonical.{image_bytes}
+use Rattle.kfs_model.specs.Device.ShownTree.{shown_tree}
+use Rattle.kfs_model.specs.Device.RawImage.{RawImage, image_of, placement_of}
+use Rattle.kfs_model.specs.Device.Finding.{IsWellFormed}
+use Rattle.kfs_model.specs.Device.Spelling.{ImageAnswer}
+use Rattle.kfs_model.specs.Device.Canonical.{image_bytes}
 
 -- what the rows show is spelled as rows of the latest version, which break no rule and show the same
 pub record IsRenewed (raw : RawImage) : Type 0 where

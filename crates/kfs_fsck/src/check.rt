@@ -1,8 +1,8 @@
 //! The checker: the check by all ten rules, and the image of rows that break none.
 ghost use Rattle.std.specs.Prelude.{◌≡◌, IfOk, IfErr};
-ghost use Rattle.kfs_model_device.specs.RawImage.{image_of};
-ghost use Rattle.kfs_model_device.specs.Finding.{IsWellFormed};
-ghost use Rattle.kfs_image_codec.specs.RawImages.{raw_of};
+ghost use Rattle.kfs_model.specs.Device.RawImage.{image_of};
+ghost use Rattle.kfs_model.specs.Device.Finding.{IsWellFormed};
+ghost use Rattle.kfs_image.specs.Codec.RawImages.{raw_of};
 ghost use Rattle.kfs_fsck.specs.Faults.{Tells};
 
 use crate::fault::FsckFault;
@@ -13,7 +13,7 @@ use std::alloc::Allocator;
 use std::thread::Threads;
 
 /// Lets a raw image in: the image of its rows, if they break none of the ten rules of
-/// crates/kfs_model_device/specs/Rules.antt. What is found is what `check_shape` finds. The rules of
+/// crates/kfs_model/specs/Device/Rules.antt. What is found is what `check_shape` finds. The rules of
 /// single nodes are tested in several threads.
 ///
 /// Refused with `Found`, the least rule that is broken and the least number at which it is, or with

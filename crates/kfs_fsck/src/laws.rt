@@ -1,10 +1,10 @@
 //! Laws of the definitions. Each is the contract of a function that has nothing to do when it is
 //! called.
 ghost use Rattle.std.specs.Prelude.{◌≡◌, ◌++◌, ℕ, List, Ok};
-ghost use Rattle.kfs_model_device.specs.RawImage.{RawImage};
-ghost use Rattle.kfs_model_device.specs.Rules.{Test};
-ghost use Rattle.kfs_model_device.specs.Finding.{IsWellFormed, least_failed};
-ghost use Rattle.kfs_model_device.specs.Spelling.{ImageAnswer};
+ghost use Rattle.kfs_model.specs.Device.RawImage.{RawImage};
+ghost use Rattle.kfs_model.specs.Device.Rules.{Test};
+ghost use Rattle.kfs_model.specs.Device.Finding.{IsWellFormed, least_failed};
+ghost use Rattle.kfs_model.specs.Device.Spelling.{ImageAnswer};
 ghost use Rattle.kfs_shape.specs.Least.{merged};
 ghost use Rattle.kfs_fsck.specs.OldImages.{IsRenewed};
 

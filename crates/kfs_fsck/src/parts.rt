@@ -1,8 +1,8 @@
 //! Tests of node rows in parts, each in a thread of its own where there are several. The least number of
 //! all rows is the least of those of the parts.
 ghost use Rattle.std.specs.Prelude.{◌≡◌, None, Option, map};
-ghost use Rattle.kfs_model_device.specs.Finding.{least_failed};
-ghost use Rattle.kfs_image_codec.specs.RawImages.{raw_node_of};
+ghost use Rattle.kfs_model.specs.Device.Finding.{least_failed};
+ghost use Rattle.kfs_image.specs.Codec.RawImages.{raw_node_of};
 ghost use Rattle.kfs_shape.specs.Least.{merged};
 ghost use Rattle.kfs_shape.specs.NodeTests.{test_of};
 

@@ -2,15 +2,15 @@
 use Rattle.std.proofs.Common.{◌≡◌, List, Ok, Err, sym, ap, subst, ◌∙◌}
 use Rattle.std.specs.Prelude.{◌<◌, All, OnOk, OnErr, vec_len}
 use Rattle.std.specs.declared.result.Result.{Result}
-use Rattle.kfs_entry_value.specs.declared.plan.NameRow.{NameRow}
-use Rattle.kfs_entry_value.specs.declared.plan.NodeRow.{NodeRow}
+use Rattle.kfs_types.specs.declared.plan.NameRow.{NameRow}
+use Rattle.kfs_types.specs.declared.plan.NodeRow.{NodeRow}
 use Rattle.kfs_model.specs.Limits.{block_size}
 use Rattle.kfs_model.specs.Placement.{IsLaid, Placement, tier_size}
-use Rattle.kfs_model_device.specs.ShownTree.{DeviceImage, IsLawful}
-use Rattle.kfs_image_blocks.specs.declared.fill.BlockRow.{BlockRow}
-use Rattle.kfs_image_blocks.specs.declared.fill.BlockRun.{BlockRun}
-use Rattle.kfs_image_blocks.specs.Blocks.{BlocksShown}
-use Rattle.kfs_image_blocks.specs.Fill.{CanFill, filled, less, mapped_by, written_by}
+use Rattle.kfs_model.specs.Device.ShownTree.{DeviceImage, IsLawful}
+use Rattle.kfs_image.specs.declared.blocks.fill.BlockRow.{BlockRow}
+use Rattle.kfs_image.specs.declared.blocks.fill.BlockRun.{BlockRun}
+use Rattle.kfs_image.specs.Blocks.Blocks.{BlocksShown}
+use Rattle.kfs_image.specs.Blocks.Fill.{CanFill, filled, less, mapped_by, written_by}
 use Rattle.kfs_image_nodes.specs.declared.net.Net.{Net}
 use Rattle.kfs_image_nodes.specs.Contents.{Contents}
 use Rattle.kfs_image_nodes.specs.Change.{after_rows, renamed, reheaded}

@@ -9,20 +9,20 @@ use Rattle.kfs_model.specs.Placement.{Placement}
 use Rattle.kfs_model.specs.Table.{Table, pairs, numbers, get, changed, insert}
 use Rattle.kfs_model.specs.Tree.{NameTable, name_order}
 use Rattle.kfs_model.proofs.TableLaws.{same_table, get-changed}
-use Rattle.kfs_model_device.specs.Device.{Devices}
-use Rattle.kfs_model_device.specs.ShownTree.{DeviceImage, IsLawful, shown_tree}
-use Rattle.kfs_entry_value.specs.declared.plan.NameRow.{NameRow}
-use Rattle.kfs_entry_value.specs.declared.plan.NodeRow.{NodeRow}
-use Rattle.kfs_entry_value.specs.Views.{header_of}
+use Rattle.kfs_model.specs.Device.Device.{Devices}
+use Rattle.kfs_model.specs.Device.ShownTree.{DeviceImage, IsLawful, shown_tree}
+use Rattle.kfs_types.specs.declared.plan.NameRow.{NameRow}
+use Rattle.kfs_types.specs.declared.plan.NodeRow.{NodeRow}
+use Rattle.kfs_types.specs.Views.{header_of}
 use Rattle.kfs_map_chunks.specs.Edits.{KeysAscend}
 use Rattle.kfs_map_chunks.specs.Overlays.{Say, overlaid}
 use Rattle.kfs_map_chunks.specs.Tables.{table_after}
 use Rattle.kfs_map_chunks.proofs.Overlays.{overlaid_none, table_after_said}
-use Rattle.kfs_image_tier.specs.declared.change.NewBlock.{NewBlock}
-use Rattle.kfs_image_tier.specs.Tiers.{with_blocks}
-use Rattle.kfs_image_tier.proofs.TierLists.{rest_at}
-use Rattle.kfs_image_blocks.specs.Blocks.{BlocksShown, CanChange, changed as changed_blocks}
-use Rattle.kfs_image_blocks.specs.Moves.{BlockEdit}
+use Rattle.kfs_image.specs.declared.tier.change.NewBlock.{NewBlock}
+use Rattle.kfs_image.specs.Tier.Tiers.{with_blocks}
+use Rattle.kfs_image.proofs.TierLemmas.TierLists.{rest_at}
+use Rattle.kfs_image.specs.Blocks.Blocks.{BlocksShown, CanChange, changed as changed_blocks}
+use Rattle.kfs_image.specs.Blocks.Moves.{BlockEdit}
 use Rattle.kfs_image_nodes.specs.Contents.{Contents}
 use Rattle.kfs_image_nodes.specs.Change.{after_rows, led_to, renamed, reheaded}
 use Rattle.kfs_image_nodes.specs.Rows.{FitPages}

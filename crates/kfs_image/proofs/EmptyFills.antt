@@ -4,9 +4,9 @@ use Rattle.std.specs.Prelude.{vec_len}
 use Rattle.kfs_model.specs.Limits.{block_size}
 use Rattle.kfs_model.specs.Placement.{Placement, tier_size}
 use Rattle.kfs_model.proofs.TableLaws.{same_table, get-retain}
-use Rattle.kfs_model_device.specs.ShownTree.{DeviceImage, IsLawful}
-use Rattle.kfs_image_blocks.specs.declared.fill.BlockRow.{BlockRow}
-use Rattle.kfs_image_blocks.specs.Fill.{less, mapped_by, written_by}
+use Rattle.kfs_model.specs.Device.ShownTree.{DeviceImage, IsLawful}
+use Rattle.kfs_image.specs.declared.blocks.fill.BlockRow.{BlockRow}
+use Rattle.kfs_image.specs.Blocks.Fill.{less, mapped_by, written_by}
 use Rattle.kfs_image_nodes.specs.declared.net.Net.{Net}
 use Rattle.kfs_image_nodes.specs.Change.{reheaded}
 use Rattle.kfs_image.specs.declared.net.Fill.{Fill}

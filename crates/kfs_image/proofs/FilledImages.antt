@@ -14,13 +14,13 @@ use Rattle.kfs_model.specs.Soundness.{AreSound}
 use Rattle.kfs_model.specs.Placement.{TierSizes, Place, Placement, IsBlock, IsPlacement, is_free, tier_size}
 use Rattle.kfs_model.proofs.Heads.{get-headers}
 use Rattle.kfs_model.proofs.TableLaws.{same_table, get-changed, get-insert, get-mapped, get-retain}
-use Rattle.kfs_model_device.specs.Device.{Devices, AreBlocks}
-use Rattle.kfs_model_device.specs.ShownTree.{DeviceImage, IsLawful, file_bytes, shown_tree}
-use Rattle.kfs_model_device.proofs.ShownHeads.{length-file_bytes}
-use Rattle.kfs_image_tier.proofs.MovedPlaces.{used_by, used_from}
-use Rattle.kfs_image_blocks.specs.declared.fill.BlockRow.{BlockRow}
-use Rattle.kfs_image_blocks.specs.declared.fill.BlockRun.{BlockRun}
-use Rattle.kfs_image_blocks.specs.Fill.{less, mapped_by, written_by}
+use Rattle.kfs_model.specs.Device.Device.{Devices, AreBlocks}
+use Rattle.kfs_model.specs.Device.ShownTree.{DeviceImage, IsLawful, file_bytes, shown_tree}
+use Rattle.kfs_model.proofs.DeviceLemmas.ShownHeads.{length-file_bytes}
+use Rattle.kfs_image.proofs.TierLemmas.MovedPlaces.{used_by, used_from}
+use Rattle.kfs_image.specs.declared.blocks.fill.BlockRow.{BlockRow}
+use Rattle.kfs_image.specs.declared.blocks.fill.BlockRun.{BlockRun}
+use Rattle.kfs_image.specs.Blocks.Fill.{less, mapped_by, written_by}
 use Rattle.kfs_image_nodes.specs.declared.net.Net.{Net}
 use Rattle.kfs_image_nodes.specs.Change.{reheaded}
 use Rattle.kfs_image.specs.declared.net.Fill.{Fill}

@@ -10,9 +10,9 @@ use Rattle.kfs_model.specs.Fresh.{fresh_tree}
 use Rattle.kfs_model.proofs.FreshTree.{fresh_is_sound}
 use Rattle.kfs_model.proofs.Heads.{get-headers}
 use Rattle.kfs_model.specs.Placement.{TierSizes, AreTierSizes, Place, Placement}
-use Rattle.kfs_model_device.specs.Device.{Devices}
-use Rattle.kfs_model_device.specs.ShownTree.{IsLawful, file_bytes, shown_tree}
-use Rattle.kfs_image_blocks.specs.Blocks.{BlocksShown}
+use Rattle.kfs_model.specs.Device.Device.{Devices}
+use Rattle.kfs_model.specs.Device.ShownTree.{IsLawful, file_bytes, shown_tree}
+use Rattle.kfs_image.specs.Blocks.Blocks.{BlocksShown}
 use Rattle.kfs_image_nodes.specs.Contents.{Contents, root_alone}
 use Rattle.kfs_image.specs.Image.{image_with, fresh_image}
 

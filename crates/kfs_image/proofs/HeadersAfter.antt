@@ -2,13 +2,13 @@
 use Rattle.std.proofs.Common.{◌≡◌, ◌≢◌, ℕ, ◌+◌, ◌<◌, ◌≤◌, cond, List, [], ◌∷◌, ◌++◌, length, get_or, take, Option, option_map, refl, sym, ap, ◌∙◌}
 use Rattle.std.specs.Ordering.{nat_cmp, eq_by_cmp}
 use Rattle.std.proofs.lemmas.List.{take_all, take_more}
-use Rattle.kfs_entry_value.specs.declared.header.Header.{Header as CodeHeader}
-use Rattle.kfs_entry_value.specs.declared.plan.NodeRow.{NodeRow}
-use Rattle.kfs_entry_value.specs.Views.{header_of}
+use Rattle.kfs_types.specs.declared.header.Header.{Header as CodeHeader}
+use Rattle.kfs_types.specs.declared.plan.NodeRow.{NodeRow}
+use Rattle.kfs_types.specs.Views.{header_of}
 use Rattle.kfs_model.specs.Header.{Header}
 use Rattle.kfs_model.specs.Table.{Table, numbers, get, changed}
 use Rattle.kfs_model.proofs.TableLaws.{get-changed}
-use Rattle.kfs_image_tier.proofs.BlockTables.{eq_by_cmp-same, eq_by_cmp-other}
+use Rattle.kfs_image.proofs.TierLemmas.BlockTables.{eq_by_cmp-same, eq_by_cmp-other}
 use Rattle.kfs_image_nodes.specs.Change.{reheaded}
 
 reheaded_last : (heads : Table numbers Header) (rows : List NodeRow) (row : NodeRow) → reheaded heads (rows ++ row ∷ []) ≡ changed (reheaded heads rows) row.number (option_map header_of row.now)

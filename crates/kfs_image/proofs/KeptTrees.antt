@@ -10,9 +10,9 @@ use Rattle.kfs_model.specs.Soundness.{AreSound, IsSound}
 use Rattle.kfs_model.specs.Placement.{Place, Placement, IsBlock, block_count, numbers_from, tier_size}
 use Rattle.kfs_model.proofs.Heads.{get-headers}
 use Rattle.kfs_model.proofs.WrittenBlocks.{begins_below}
-use Rattle.kfs_model_device.specs.Device.{Devices, byte_on}
-use Rattle.kfs_model_device.specs.ShownTree.{DeviceImage, IsLawful, file_byte, file_bytes, shown_tree}
-use Rattle.kfs_model_device.proofs.ShownHeads.{length-file_bytes}
+use Rattle.kfs_model.specs.Device.Device.{Devices, byte_on}
+use Rattle.kfs_model.specs.Device.ShownTree.{DeviceImage, IsLawful, file_byte, file_bytes, shown_tree}
+use Rattle.kfs_model.proofs.DeviceLemmas.ShownHeads.{length-file_bytes}
 use Rattle.kfs_image.specs.Net.{blocks_in, is_block, cut}
 
 -- each file of the tree after has the bytes that it had before, or none

@@ -9,3 +9,8 @@ pub mod KeptTrees
 pub mod NetTables
 mod ReadFile
 pub mod ShownTrees
+pub mod TierLemmas
+pub mod BlocksLemmas
+pub mod CodecLemmas
+pub mod RawLemmas
+pub mod EncodeLemmas

@@ -15,9 +15,9 @@ use Rattle.kfs_model.specs.Plan.{AreDifferences, number_now, header_now, keyed_n
 use Rattle.kfs_model.proofs.Exact.{IsExact, options-exact, numbers-exact, headers-exact}
 use Rattle.kfs_model.proofs.Differences.{differences_only, get-differences}
 use Rattle.kfs_model.proofs.Tables.{left_part, right_part, find_below}
-use Rattle.kfs_entry_value.specs.Views.{header_of, name_row_of, node_row_of}
-use Rattle.kfs_entry_value.specs.declared.plan.NameRow.{NameRow}
-use Rattle.kfs_entry_value.specs.declared.plan.NodeRow.{NodeRow}
+use Rattle.kfs_types.specs.Views.{header_of, name_row_of, node_row_of}
+use Rattle.kfs_types.specs.declared.plan.NameRow.{NameRow}
+use Rattle.kfs_types.specs.declared.plan.NodeRow.{NodeRow}
 use Rattle.kfs_image_nodes.specs.Contents.{Contents, contents_in}
 use Rattle.kfs_image_nodes.specs.Change.{led_to, renamed, reheaded, after_rows}
 

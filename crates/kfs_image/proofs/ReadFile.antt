@@ -9,8 +9,8 @@ use Rattle.kfs_model.specs.Table.{get}
 use Rattle.kfs_model.proofs.TableLaws.{get-mapped}
 use Rattle.kfs_model.specs.Tree.{content_of, node_over}
 use Rattle.kfs_model.specs.Sight.{is_directory}
-use Rattle.kfs_model_device.specs.ShownTree.{DeviceImage, file_byte, file_bytes, shown_tree}
-use Rattle.kfs_model_device.proofs.ShownHeads.{length-file_bytes, bytes_shown}
+use Rattle.kfs_model.specs.Device.ShownTree.{DeviceImage, file_byte, file_bytes, shown_tree}
+use Rattle.kfs_model.proofs.DeviceLemmas.ShownHeads.{length-file_bytes, bytes_shown}
 use Rattle.kfs_image.specs.Read.{bytes_from, FileIsRead}
 
 nothing : (room : ℕ) → ◌≡◌ {A = List ℕ} (take room []) []

@@ -5,7 +5,7 @@ use Rattle.kfs_model.specs.Header.{Header}
 use Rattle.kfs_model.specs.Table.{get}
 use Rattle.kfs_model.specs.Tree.{target, entry_count, headers}
 use Rattle.kfs_model.specs.Sight.{sight, parent_in, is_directory}
-use Rattle.kfs_model_device.specs.ShownTree.{DeviceImage, IsLawful, shown_tree}
+use Rattle.kfs_model.specs.Device.ShownTree.{DeviceImage, IsLawful, shown_tree}
 use Rattle.kfs_image_nodes.specs.Contents.{sight_of}
 use Rattle.kfs_image_nodes.specs.Indexes.{AreInPages}
 use Rattle.kfs_image_nodes.specs.NodeEdits.{IsNumber, AreNumbered}

@@ -3,8 +3,8 @@ use Rattle.std.specs.Prelude.{◌≡◌, ◌<◌, All, List, [], ◌∷◌, vec_
 use Rattle.kfs_model.specs.Limits.{block_size}
 use Rattle.kfs_model.specs.Table.{changed, insert}
 use Rattle.kfs_model.specs.Placement.{TierSizes, tier_size}
-use Rattle.kfs_entry_value.specs.Views.{header_of}
-use Rattle.kfs_model_device.specs.ShownTree.{DeviceImage, IsLawful}
+use Rattle.kfs_types.specs.Views.{header_of}
+use Rattle.kfs_model.specs.Device.ShownTree.{DeviceImage, IsLawful}
 use Rattle.kfs_image.specs.Image.{place_at}
 use Rattle.kfs_image.specs.declared.edit.Edit.{Edit}
 use Rattle.kfs_image.specs.declared.edit.Edit.TheVariants.{Header, Name, Map, Bytes}

@@ -2,8 +2,8 @@
 use Rattle.std.specs.Prelude.{ℕ}
 use Rattle.kfs_model.specs.Table.{empty}
 use Rattle.kfs_model.specs.Placement.{Place, TierSizes}
-use Rattle.kfs_model_device.specs.ShownTree.{DeviceImage}
-use Rattle.kfs_image_blocks.specs.Blocks.{BlocksShown}
+use Rattle.kfs_model.specs.Device.ShownTree.{DeviceImage}
+use Rattle.kfs_image.specs.Blocks.Blocks.{BlocksShown}
 use Rattle.kfs_image_nodes.specs.Contents.{Contents, root_alone}
 
 -- a pair of tier and number, as a place

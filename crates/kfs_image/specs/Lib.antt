@@ -4,3 +4,8 @@ pub mod Image
 pub mod Net
 pub mod Parts
 pub mod Read
+pub mod Tier
+pub mod Blocks
+pub mod Codec
+pub mod Raw
+pub mod Encode

@@ -5,8 +5,8 @@ use Rattle.kfs_model.specs.Limits.{block_size}
 use Rattle.kfs_model.specs.Table.{Table, numbers, get, retain}
 use Rattle.kfs_model.specs.Sight.{is_file}
 use Rattle.kfs_model.specs.Placement.{Placement, tier_size, block_count}
-use Rattle.kfs_model_device.specs.ShownTree.{DeviceImage, IsLawful}
-use Rattle.kfs_image_blocks.specs.Fill.{less, mapped_by, written_by}
+use Rattle.kfs_model.specs.Device.ShownTree.{DeviceImage, IsLawful}
+use Rattle.kfs_image.specs.Blocks.Fill.{less, mapped_by, written_by}
 use Rattle.kfs_image_nodes.specs.declared.net.Net.{Net}
 use Rattle.kfs_image_nodes.specs.Change.{renamed, reheaded}
 use Rattle.kfs_image.specs.declared.net.Fill.{Fill}

@@ -3,10 +3,10 @@ use Rattle.std.specs.Prelude.{◌≡◌, ℕ, ◌<◌, All, List, map, Option, v
 use Rattle.kfs_model.specs.Limits.{block_size}
 use Rattle.kfs_model.specs.Placement.{TierSizes, tier_size}
 use Rattle.kfs_model.specs.Plan.{number_now}
-use Rattle.kfs_model_device.specs.ShownTree.{DeviceImage}
+use Rattle.kfs_model.specs.Device.ShownTree.{DeviceImage}
 use Rattle.kfs_map_chunks.specs.Overlays.{overlaid}
-use Rattle.kfs_image_tier.specs.declared.change.NewBlock.{NewBlock}
-use Rattle.kfs_image_tier.specs.Tiers.{with_blocks}
+use Rattle.kfs_image.specs.declared.tier.change.NewBlock.{NewBlock}
+use Rattle.kfs_image.specs.Tier.Tiers.{with_blocks}
 use Rattle.kfs_image_nodes.specs.Change.{led_to, renamed, reheaded}
 use Rattle.kfs_image.specs.declared.edit.Edit.{Edit}
 use Rattle.kfs_image.specs.declared.edit.Edit.TheVariants.{Header, Name, Map, Bytes}

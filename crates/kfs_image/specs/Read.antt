@@ -2,7 +2,7 @@
 use Rattle.std.specs.Prelude.{◌≡◌, ℕ, ◌++◌, List, length, take, drop}
 use Rattle.kfs_model.specs.Table.{get}
 use Rattle.kfs_model.specs.Tree.{content_of}
-use Rattle.kfs_model_device.specs.ShownTree.{DeviceImage, shown_tree}
+use Rattle.kfs_model.specs.Device.ShownTree.{DeviceImage, shown_tree}
 
 -- the bytes of a file from `start` on: as many as there is room for and the file has
 abbrev pub bytes_from : DeviceImage → (number start room : ℕ) → List ℕ

@@ -1,14 +1,14 @@
 //! Single changes of an image.
 ghost use Rattle.std.specs.Prelude.{◌≡◌, [], IfOk, OnOk, option_map};
 ghost use Rattle.kfs_model.specs.Placement.{TierSizes};
-ghost use Rattle.kfs_model_device.specs.ShownTree.{DeviceImage};
+ghost use Rattle.kfs_model.specs.Device.ShownTree.{DeviceImage};
 ghost use Rattle.kfs_image.specs.Edit.{edited, WritesWholeBlocks};
 ghost use Rattle.kfs_image.specs.Image.{place_at};
 ghost use Rattle.kfs_image.specs.Parts.{plain, with_parts, PartsAreOf, BlocksAreWhole};
 
-use kfs_entry_value::{Header, Name, NameRow, NodeRow};
-use kfs_image_blocks::{NewBlock, Place};
+use crate::blocks::{NewBlock, Place};
 use kfs_map_chunks::Overlay;
+use kfs_types::{Header, Name, NameRow, NodeRow};
 use std::alloc::{AllocError, Allocator};
 
 /// A change of one header, one name, one block's place or one place's bytes. `None` removes what is

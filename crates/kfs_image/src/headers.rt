@@ -1,12 +1,12 @@
 //! The headers of nodes, now and after rows.
 ghost use Rattle.std.specs.Prelude.{◌≡◌, option_map};
-ghost use Rattle.kfs_entry_value.specs.Views.{header_of};
+ghost use Rattle.kfs_types.specs.Views.{header_of};
 ghost use Rattle.kfs_model.specs.Table.{get};
 ghost use Rattle.kfs_image_nodes.specs.Change.{reheaded};
 
 use crate::image::Image;
-use kfs_entry_value::{Header, NodeRow};
 use kfs_image_nodes::{Answer, Cell, look};
+use kfs_types::{Header, NodeRow};
 use std::alloc::Allocator;
 
 /// The header of the node with this number, or none. Takes no memory.

@@ -5,12 +5,12 @@ ghost use Rattle.kfs_model.specs.Tree.{target};
 ghost use Rattle.kfs_model.specs.Limits.{block_size};
 ghost use Rattle.kfs_model.specs.Placement.{tier_size};
 ghost use Rattle.kfs_model.specs.Sight.{is_directory};
-ghost use Rattle.kfs_model_device.specs.ShownTree.{IsLawful, file_byte};
-ghost use Rattle.kfs_model_device.specs.RawImage.{image_of};
-ghost use Rattle.kfs_model_device.specs.Finding.{IsWellFormed};
-ghost use Rattle.kfs_image_codec.specs.RawImages.{raw_of};
+ghost use Rattle.kfs_model.specs.Device.ShownTree.{IsLawful, file_byte};
+ghost use Rattle.kfs_model.specs.Device.RawImage.{image_of};
+ghost use Rattle.kfs_model.specs.Device.Finding.{IsWellFormed};
+ghost use Rattle.kfs_image.specs.Codec.RawImages.{raw_of};
 ghost use Rattle.kfs_map_chunks.specs.Starts.{is_from, IsNextEntry};
-ghost use Rattle.kfs_image_tier.specs.Unused.{IsNextUnused, AreTakenFrom, unused_places};
+ghost use Rattle.kfs_image.specs.Tier.Unused.{IsNextUnused, AreTakenFrom, unused_places};
 ghost use Rattle.kfs_image_nodes.specs.Change.{after_rows, renamed, reheaded};
 ghost use Rattle.kfs_image_nodes.specs.Look.{IsAfter, IsNext, IsNextNode};
 ghost use Rattle.kfs_image_nodes.specs.Rows.{FitPages};
@@ -19,18 +19,18 @@ ghost use Rattle.kfs_image.specs.Image.{contents_of, fresh_image, place_at};
 ghost use Rattle.kfs_image.specs.Net.{CanApply, applied};
 ghost use Rattle.kfs_image.specs.Read.{FileIsRead};
 
+use crate::blocks::{ChangeBlocks, FileBlocks, FillBlocks, MoveBlocks, Place};
+use crate::codec::RawImage;
 use crate::edit::{Edit, Parts};
 use crate::headers::header;
 use crate::net::Fill;
+use crate::raw::{raw_blocks, raw_shape, tell_spelled};
 use crate::read::ReadFault;
 use crate::released::released_blocks;
-use kfs_entry_value::{BLOCK_SIZE, Change, Kind, Name, NameRow, NodeRow, TierSizes};
-use kfs_image_blocks::{ChangeBlocks, FileBlocks, FillBlocks, MoveBlocks, Place};
-use kfs_image_codec::RawImage;
 use kfs_image_nodes::{Net, Shape};
-use kfs_image_raw::{raw_blocks, raw_shape, tell_spelled};
 use kfs_map_chunks::key_edits;
-use kfs_model_device::laws::well_formed_image_is_lawful;
+use kfs_model::device::laws::well_formed_image_is_lawful;
+use kfs_types::{BLOCK_SIZE, Change, Kind, Name, NameRow, NodeRow, TierSizes};
 use std::alloc::{AllocError, Allocator};
 use std::marker::Model;
 use std::ops::Bound;
@@ -50,7 +50,7 @@ pub struct Image<A: Allocator> {
 }
 
 impl<A: Allocator> Model for Image<A> {
-    ghost use Rattle.kfs_model_device.specs.ShownTree.{DeviceImage, IsLawful};
+    ghost use Rattle.kfs_model.specs.Device.ShownTree.{DeviceImage, IsLawful};
     ghost use Rattle.kfs_image.specs.Image.{image_with};
 
     ghost Value = { DeviceImage };

@@ -1,28 +1,38 @@
 //! The image of the file system: nodes, names, and the blocks of files on three tiers.
 //!
-//! It stands on `kfs_image_nodes` (nodes and names, which views share) and `kfs_image_blocks` (blocks
-//! and tiers); the desk owns an image. Begin with `Image::fresh`, `look` and `read_file`.
+//! It stands on `kfs_image_nodes` (nodes and names, which views share); the desk owns an image. Begin with
+//! `Image::fresh`, `look` and `read_file`. The order of its folders: `tier` (which blocks of a device are
+//! free), `blocks` (where the blocks of files lie), `codec` (raw images, from bytes), `raw` (an image of a
+//! raw one), and `encode` (an image as bytes).
 #![tactic(auto)]
 
+mod blocks;
+pub mod codec;
 mod edit;
+mod encode;
 mod headers;
 mod image;
 mod net;
+mod raw;
 mod read;
 mod released;
+pub mod tier;
 
+pub use blocks::{BlockRow, BlockRun, Place};
+pub use codec::{Extent, ExtentRow, ImageFault, RawImage, RawNode, decode_image};
 pub use edit::Edit;
+pub use encode::encode_image;
 #[doc(hidden)]
 pub use headers::{header, header_after};
 pub use image::Image;
-pub use kfs_entry_value::{
+pub use kfs_image_nodes::{Answer, Cell, HeaderPage, Net, Page, Shape, look};
+pub use kfs_types::{
     BLOCK_SIZE, GREATEST_MODE, GREATEST_NUMBER, Header, Kind, LINK_LIMIT, Name, NameRow, NodeRow,
     ROOT, SIZE_LIMIT, TIER_LIMIT, TierSizes,
 };
-pub use kfs_image_blocks::{BlockRow, BlockRun, Place};
-pub use kfs_image_codec::{Extent, ExtentRow, ImageFault, RawImage, RawNode, decode_image};
-pub use kfs_image_nodes::{Answer, Cell, HeaderPage, Net, Page, Shape, look};
 #[doc(hidden)]
 pub use net::net_apply_moving;
 pub use net::{Fill, net_apply};
+pub use raw::raw_headers;
 pub use read::{ReadFault, read_file};
+pub use tier::Places;

@@ -2,8 +2,8 @@
 ghost use Rattle.std.specs.Prelude.{◌≡◌, [], IfOk, OnOk, OnErr};
 ghost use Rattle.kfs_image.specs.Net.{CanApply, applied};
 
+use crate::blocks::{BlockRow, BlockRun};
 use crate::image::Image;
-use kfs_image_blocks::{BlockRow, BlockRun};
 use kfs_image_nodes::Net;
 use std::alloc::{AllocError, Allocator};
 

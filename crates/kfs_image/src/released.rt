@@ -1,13 +1,13 @@
 //! The blocks that a landing unmaps.
 ghost use Rattle.std.specs.Prelude.{◌≡◌, ◌-◌, ◌^◌, map, min, option_map, IfOk};
-ghost use Rattle.kfs_entry_value.specs.Views.{header_of};
+ghost use Rattle.kfs_types.specs.Views.{header_of};
 ghost use Rattle.kfs_image.specs.Released.{AreReleased, behind};
 ghost use Rattle.kfs_image.specs.Net.{blocks_in};
 
-use kfs_entry_value::{BLOCK_SIZE, Header, Kind, NodeRow};
-use kfs_image_blocks::BlockRun;
+use crate::blocks::BlockRun;
 use kfs_image_nodes::header_edits;
 use kfs_map_pages::NumberEdit;
+use kfs_types::{BLOCK_SIZE, Header, Kind, NodeRow};
 use std::alloc::{AllocError, Allocator};
 
 /// The runs of blocks to be unmapped: of each node that changes, those behind the file's end, or all if

@@ -7,7 +7,7 @@ use Rattle.std.specs.declared.cmp.Ordering.TheVariants.{Less, Equal, Greater}
 use Rattle.std.specs.Ordering.{is_eq}
 use Rattle.std.specs.List.{AllByRecursion}
 use Rattle.std.specs.FinMap.Entries.{find, is_sorted}
-use Rattle.kfs_entry_value.specs.declared.plan.NameRow.{NameRow}
+use Rattle.kfs_types.specs.declared.plan.NameRow.{NameRow}
 use Rattle.kfs_model.specs.Table.{Order, Table, numbers, empty, get}
 use Rattle.kfs_model.specs.Tree.{name_order}
 use Rattle.kfs_map_chunks.specs.Tables.{table}

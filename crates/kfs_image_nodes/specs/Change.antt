@@ -1,8 +1,8 @@
 -- What the rows of a net do to nodes and names.
 use Rattle.std.specs.Prelude.{ℕ, ◌==◌, List, [], ◌∷◌, Option, Some, None, option_map, if◌then◌else◌}
-use Rattle.kfs_entry_value.specs.declared.plan.NameRow.{NameRow}
-use Rattle.kfs_entry_value.specs.declared.plan.NodeRow.{NodeRow}
-use Rattle.kfs_entry_value.specs.Views.{header_of}
+use Rattle.kfs_types.specs.declared.plan.NameRow.{NameRow}
+use Rattle.kfs_types.specs.declared.plan.NodeRow.{NodeRow}
+use Rattle.kfs_types.specs.Views.{header_of}
 use Rattle.kfs_model.specs.Header.{Header}
 use Rattle.kfs_model.specs.Table.{Table, numbers, changed}
 use Rattle.kfs_model.specs.Tree.{NameTable}

@@ -1,6 +1,6 @@
 -- What overlays of names and counts show over the maps.
 use Rattle.std.specs.Prelude.{◌≡◌, ℕ, All, List, map}
-use Rattle.kfs_entry_value.specs.declared.plan.NameRow.{NameRow}
+use Rattle.kfs_types.specs.declared.plan.NameRow.{NameRow}
 use Rattle.kfs_model.specs.Spelling.{IsName}
 use Rattle.kfs_model.specs.Table.{Table, numbers}
 use Rattle.kfs_model.specs.Tree.{NameTable, name_order}

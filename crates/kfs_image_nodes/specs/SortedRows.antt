@@ -1,6 +1,6 @@
 -- Name rows as entries of the map of names.
 use Rattle.std.specs.Prelude.{◌≡◌, ℕ, ◌==◌, ◌&&◌, List, map, count_by}
-use Rattle.kfs_entry_value.specs.declared.plan.NameRow.{NameRow}
+use Rattle.kfs_types.specs.declared.plan.NameRow.{NameRow}
 use Rattle.kfs_model.specs.Table.{Table, numbers}
 use Rattle.kfs_image_nodes.specs.Indexes.{by_node, count_at, ArePositive}
 

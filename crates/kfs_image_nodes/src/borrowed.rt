@@ -1,6 +1,6 @@
 //! A change that a caller lends, to be made together with a change of the tables.
 
-use kfs_entry_value::Change;
+use kfs_types::Change;
 use std::alloc::AllocError;
 
 /// A change, by reference.

@@ -1,6 +1,6 @@
 //! What can be looked up in a shape.
 
-use kfs_entry_value::{Header, Name};
+use kfs_types::{Header, Name};
 
 /// A cell: one thing that a shape shows. Numbers are any of 32 bits; those that are no node's have
 /// answers too.

@@ -7,9 +7,9 @@ ghost use Rattle.kfs_image_nodes.specs.NodeEdits.{left_by, node_edit, IsNumber};
 ghost use Rattle.kfs_map_chunks.specs.Overlays.{said_or};
 
 use crate::overlay::number_edits;
-use kfs_entry_value::{GREATEST_NUMBER, Header, NodeRow};
 use kfs_map_chunks::Overlay;
 use kfs_map_pages::NumberEdit;
+use kfs_types::{GREATEST_NUMBER, Header, NodeRow};
 use std::alloc::{AllocError, Allocator};
 
 /// The new headers that the rows make, row after row, ascending by number. Rows with numbers that no

@@ -1,10 +1,10 @@
 //! The headers of a page of nodes.
 ghost use Rattle.std.specs.Prelude.{◌≡◌, option_map};
-ghost use Rattle.kfs_entry_value.specs.Views.{header_of};
+ghost use Rattle.kfs_types.specs.Views.{header_of};
 ghost use Rattle.kfs_model.specs.Table.{get};
 
-use kfs_entry_value::Header;
 use kfs_map_pages::Page;
+use kfs_types::Header;
 use std::alloc::Allocator;
 
 /// What a page of nodes shows of its 64 numbers.

@@ -1,7 +1,7 @@
 //! The nodes and names of an image, as views share them.
 ghost use Rattle.std.specs.Prelude.{◌≡◌, ℕ, ◌<◌, T, All, List, Some, None, option_map, IfSome, IfNone, IfOk, OnOk, OnErr};
 ghost use Rattle.std.specs.FinMap.Entries.{is_sorted};
-ghost use Rattle.kfs_entry_value.specs.Views.{header_of};
+ghost use Rattle.kfs_types.specs.Views.{header_of};
 ghost use Rattle.kfs_model.specs.Table.{empty, get};
 ghost use Rattle.kfs_map_pages.specs.Shown.{part};
 ghost use Rattle.kfs_model.specs.Spelling.{IsName};
@@ -17,11 +17,9 @@ ghost use Rattle.kfs_map_chunks.specs.Tables.{table};
 
 use crate::cell::{Answer, Cell};
 use crate::rows::{NodeTables, name_key};
-use kfs_entry_value::{
-    Change, GREATEST_MODE_OF_VERSION_1, Header, Kind, Name, NameRow, NodeRow, ROOT,
-};
 use kfs_map_chunks::Near;
 use kfs_map_pages::{Page, Pages};
+use kfs_types::{Change, GREATEST_MODE_OF_VERSION_1, Header, Kind, Name, NameRow, NodeRow, ROOT};
 use std::alloc::{AllocError, Allocator};
 use std::marker::Model;
 

@@ -13,9 +13,9 @@ ghost use Rattle.kfs_image_nodes.specs.NameEdits.{names_seen, counts_seen, ways_
 use crate::overlay::number_edits;
 use crate::rows::{name_key, target_of};
 use crate::tallies::Tallies;
-use kfs_entry_value::{Name, NameRow};
 use kfs_map_chunks::{Chunks, KeyEdit, Near, Overlay, key_edits, push_above};
 use kfs_map_pages::{NumberEdit, Pages};
+use kfs_types::{Name, NameRow};
 use std::alloc::{AllocError, Allocator};
 
 /// New names, new counts of each directory's names, and new counts of uplinks: how many names of a

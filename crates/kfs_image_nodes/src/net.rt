@@ -1,6 +1,6 @@
 //! The change that a log makes to names and nodes.
 
-use kfs_entry_value::{NameRow, NodeRow};
+use kfs_types::{NameRow, NodeRow};
 use std::alloc::Allocator;
 
 /// The net change of a log: the names and nodes that are different after it.

@@ -6,9 +6,9 @@ ghost use Rattle.kfs_map_pages.specs.Edits.{AreEdits};
 ghost use Rattle.kfs_image_nodes.specs.NodeEdits.{edits_from};
 ghost use Rattle.kfs_image_nodes.specs.Overlays.{SayOfNumbers};
 
-use kfs_entry_value::GREATEST_NUMBER;
 use kfs_map_chunks::Overlay;
 use kfs_map_pages::NumberEdit;
+use kfs_types::GREATEST_NUMBER;
 use std::alloc::{AllocError, Allocator};
 use std::collections::BTreeMap;
 

@@ -1,7 +1,7 @@
 //! The maps that hold the nodes and names of a shape, with counts of the names.
 ghost use Rattle.std.specs.Prelude.{◌≡◌, ℕ, ◌≤◌, ◌<◌, T, All, true, option_map, IfOk, IfSome, IfNone, OnOk, OnErr, Some, None, List, [], ◌∷◌};
 ghost use Rattle.std.specs.FinMap.Entries.{is_sorted};
-ghost use Rattle.kfs_entry_value.specs.Views.{header_of};
+ghost use Rattle.kfs_types.specs.Views.{header_of};
 ghost use Rattle.kfs_model.specs.Spelling.{IsName};
 ghost use Rattle.kfs_model.specs.Table.{get, empty, changed};
 ghost use Rattle.kfs_model.specs.Tree.{entry_count, name_order, target};
@@ -20,9 +20,9 @@ use crate::borrowed::Borrowed;
 use crate::edits::header_edits;
 use crate::name_edits::{NameEdits, name_edits};
 use crate::sorted_rows::{NameCounts, counts_of, names_of};
-use kfs_entry_value::{Change, Header, Name, NameRow, NodeRow, Nothing};
 use kfs_map_chunks::{Chunks, EditChunks, Near};
 use kfs_map_pages::{EditPages, NumberEdit, Pages};
+use kfs_types::{Change, Header, Name, NameRow, NodeRow, Nothing};
 use std::alloc::{AllocError, Allocator};
 use std::ops::Bound;
 

@@ -13,9 +13,9 @@ ghost use Rattle.kfs_image_nodes.specs.SortedRows.{name_entry, name_entries, Cou
 use crate::overlay::number_edits;
 use crate::rows::name_key;
 use crate::tallies::Tallies;
-use kfs_entry_value::{Name, NameRow, Nothing};
 use kfs_map_chunks::{ChunkList, Chunks, Key, key_edits};
 use kfs_map_pages::Pages;
+use kfs_types::{Name, NameRow, Nothing};
 use std::alloc::{AllocError, Allocator};
 
 /// The map of the rows' names.

@@ -2,14 +2,14 @@
 use Rattle.std.specs.Prelude.{ℕ, List, map, length, Option}
 use Rattle.std.specs.List.{AllByRecursion}
 use Rattle.kfs_model.specs.Looked.{looked_cells}
-use Rattle.kfs_entry_value.specs.Views.{entry_of, IsWithin}
-use Rattle.kfs_entry_value.specs.declared.entry.Entry.{Entry as CodeEntry}
-use Rattle.kfs_entry_value.specs.declared.entry.Span.{Span}
-use Rattle.kfs_judge_step.specs.declared.log_judge.LogJudge.{LogJudge}
+use Rattle.kfs_types.specs.Views.{entry_of, IsWithin}
+use Rattle.kfs_types.specs.declared.entry.Entry.{Entry as CodeEntry}
+use Rattle.kfs_types.specs.declared.entry.Span.{Span}
+use Rattle.kfs_judge.specs.declared.step.log_judge.LogJudge.{LogJudge}
 use Rattle.kfs_judge.specs.declared.walk.EntryFault.{EntryFault}
-use Rattle.kfs_judge_draft.specs.Overlay.{ChangesAreAmong}
-use Rattle.kfs_judge_check.specs.Recorders.{Known, ReadsAt}
-use Rattle.kfs_judge_step.specs.FileSizes.{HasFilesOf}
+use Rattle.kfs_judge.specs.Draft.Overlay.{ChangesAreAmong}
+use Rattle.kfs_judge.specs.Check.Recorders.{Known, ReadsAt}
+use Rattle.kfs_judge.specs.Step.FileSizes.{HasFilesOf}
 use Rattle.kfs_judge.specs.Walks.{EndsAt}
 
 -- the payloads' spans lie in the source

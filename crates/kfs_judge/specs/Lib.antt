@@ -1,2 +1,5 @@
 pub mod Walks
 pub mod EntriesEntered
+pub mod Draft
+pub mod Check
+pub mod Step

@@ -1,13 +1,17 @@
 //! Judges a client's log against a view of the nodes and names, the leases and the clients.
 //!
-//! It stands on `kfs_judge_step`, which enters the entries one by one; `kfs_plan` stands on it. Begin
-//! with `judge_entries`.
+//! It stands on `kfs_image_nodes`, `kfs_lease` and `kfs_pieces`; `kfs_plan` stands on it. Begin with
+//! `judge_entries`. The order of its folders: `draft` (what the log has changed so far), `check` (views,
+//! what is read of them, and the checks of an entry), and `step` (each entry's checks and its change).
 #![tactic(auto)]
 
+mod check;
+mod draft;
 pub mod laws;
+mod step;
 mod walk;
 
+pub use check::{Keeping, KeptReads, Read, ReadAnswer, Reads, Reason, View};
 pub use kfs_image_nodes::Net;
-pub use kfs_judge_check::{Keeping, KeptReads, Read, ReadAnswer, Reads, Reason, View};
-pub use kfs_plan_sweep::FileSize;
+pub use kfs_pieces::FileSize;
 pub use walk::{EntryFault, Walk, judge_entries, judge_entries_keeping};

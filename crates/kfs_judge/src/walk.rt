@@ -5,18 +5,18 @@ ghost use Rattle.kfs_model.specs.Lease.{row_of};
 ghost use Rattle.kfs_model.specs.Limits.{entry_limit};
 ghost use Rattle.kfs_model.specs.Sight.{Sight};
 ghost use Rattle.kfs_judge.specs.EntriesEntered.{HasTheirFiles, RunStopsAt, ReadsTheirCells, WritesTheirCells};
-ghost use Rattle.kfs_judge_draft.specs.Overlay.{has_created, over, ShiftsBy, ChangesAreAmong};
-ghost use Rattle.kfs_judge_check.specs.Kept.{keeps_reads};
-ghost use Rattle.kfs_judge_check.specs.Reads.{Agrees, AreOnce};
-ghost use Rattle.kfs_judge_check.specs.Recorders.{GoesOn};
-ghost use Rattle.kfs_judge_check.specs.View.{clients_of, client_sight_in};
+ghost use Rattle.kfs_judge.specs.Draft.Overlay.{has_created, over, ShiftsBy, ChangesAreAmong};
+ghost use Rattle.kfs_judge.specs.Check.Kept.{keeps_reads};
+ghost use Rattle.kfs_judge.specs.Check.Reads.{Agrees, AreOnce};
+ghost use Rattle.kfs_judge.specs.Check.Recorders.{GoesOn};
+ghost use Rattle.kfs_judge.specs.Check.View.{clients_of, client_sight_in};
 ghost use Rattle.kfs_judge.specs.Walks.{HasOrderedSizes, IsRowOf, IsWalkOf, IsCellWalkOf, ReadsLookedCells};
 
+use crate::check::{Keeping, Reads, Reason, View};
+use crate::step::LogJudge;
 use kfs_entry::{Entry, Log, Span};
 use kfs_image_nodes::Net;
-use kfs_judge_check::{Keeping, Reads, Reason, View};
-use kfs_judge_step::LogJudge;
-use kfs_plan_sweep::FileSize;
+use kfs_pieces::FileSize;
 use std::alloc::{AllocError, Allocator};
 use thiserror::Error;
 

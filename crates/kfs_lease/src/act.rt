@@ -1,6 +1,6 @@
 //! The calls for leases, as values.
 
-use kfs_lease_rows::LeaseKind;
+use crate::rows::LeaseKind;
 
 /// A call for the desk's leases, with its arguments.
 #[derive(Clone, Copy)]

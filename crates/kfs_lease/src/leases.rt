@@ -5,17 +5,17 @@ ghost use Rattle.kfs_model.specs.Lease.{no_leases, holds, granted, dropped, tick
 ghost use Rattle.kfs_mode.specs.Clients.{ClientsAreDistinct};
 ghost use Rattle.kfs_image_nodes.specs.Contents.{sight_of};
 ghost use Rattle.kfs_lease.specs.Faults.{Refuses};
-ghost use Rattle.kfs_lease_rows.specs.Rows.{kind_of};
+ghost use Rattle.kfs_lease.specs.Rows.Rows.{kind_of};
 ghost use Rattle.kfs_lease.specs.Removed.{without_nodes_in};
 ghost use Rattle.kfs_lease.specs.declared.leases.LeaseFault.TheVariants.{OutOfMemory};
 
 mod writer;
 
 use crate::path::{names_of, walk};
-use kfs_entry_value::Change;
+use crate::rows::{Lease, LeaseKind, LeaseRows};
 use kfs_image_nodes::Shape;
-use kfs_lease_rows::{Lease, LeaseKind, LeaseRows};
 use kfs_mode::{Client, find_client};
+use kfs_types::Change;
 use std::alloc::{AllocError, AllocFailed, Allocator};
 use std::marker::Model;
 use thiserror::Error;
@@ -33,7 +33,7 @@ pub struct Leases<A: Allocator> {
 
 impl<A: Allocator> Model for Leases<A> {
     ghost use Rattle.kfs_model.specs.Lease.{Leases as LeaseTable};
-    ghost use Rattle.kfs_lease_rows.specs.Rows.{table_in, EndsAreExact};
+    ghost use Rattle.kfs_lease.specs.Rows.Rows.{table_in, EndsAreExact};
 
     ghost Value = { LeaseTable };
 

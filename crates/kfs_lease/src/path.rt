@@ -9,14 +9,14 @@ ghost use Rattle.kfs_image_nodes.specs.Contents.{sight_of};
 ghost use Rattle.kfs_model.specs.Table.{get};
 ghost use Rattle.kfs_model.specs.Tree.{target};
 ghost use Rattle.kfs_model.specs.Sight.{is_directory};
-ghost use Rattle.kfs_entry_value.specs.Views.{header_of as header_shown};
+ghost use Rattle.kfs_types.specs.Views.{header_of as header_shown};
 ghost use Rattle.kfs_lease.specs.Paths.{left_of, parts_left, walked_along, WalkGoesOn, WalkStops};
 ghost use Rattle.kfs_lease.specs.Faults.{fault_of};
 
 use crate::leases::LeaseFault;
-use kfs_entry_value::ROOT;
 use kfs_image_nodes::{Answer, Cell, Header, Kind, Name, Shape, look};
 use kfs_mode::{Client, Want, may};
+use kfs_types::ROOT;
 use std::alloc::Allocator;
 
 /// The parts of a path between its slashes, in order.

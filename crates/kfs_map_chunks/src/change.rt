@@ -12,7 +12,7 @@ use crate::entries::Entries;
 use crate::key::Key;
 use crate::part::Part;
 use crate::place::{place, place_part, run_of, run_of_part};
-use kfs_entry_value::Change;
+use kfs_types::Change;
 use std::alloc::{AllocError, Allocator};
 use std::ops::Bound;
 use std::sync::Arc;

@@ -3,7 +3,7 @@ ghost use Rattle.std.specs.Prelude.{◌≡◌, ◌≤◌, refl};
 ghost use Rattle.kfs_model.specs.Table.{Order, pairs, numbers};
 ghost use Rattle.kfs_model.specs.Tree.{name_order};
 
-use kfs_entry_value::Name;
+use kfs_types::Name;
 
 /// A key of a map in chunks. Keys are ordered, only equal keys compare as equal, and a key takes no
 /// memory of its own: chunks are copied as they lie in memory.

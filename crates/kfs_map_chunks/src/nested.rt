@@ -4,7 +4,7 @@ ghost use Rattle.std.proofs.Common.{rules};
 use crate::chunks::Chunks;
 use crate::edit::KeyEdit;
 use crate::key::Key;
-use kfs_entry_value::Change;
+use kfs_types::Change;
 use std::alloc::{AllocError, Allocator};
 
 /// Edits of a map in chunks, and the change to be made together with them.
@@ -19,7 +19,7 @@ pub struct EditChunks<'a, K: Key, V: Copy, A: Allocator, T> {
 }
 
 impl<'a, K: Key, V: Copy, A: Allocator + Clone, T: Change> Change for EditChunks<'a, K, V, A, T> {
-    ghost use Rattle.kfs_entry_value.specs.Nested.{Becomes};
+    ghost use Rattle.kfs_types.specs.Nested.{Becomes};
     ghost use Rattle.kfs_map_chunks.specs.Edits.{rewritten, KeysAscend};
 
     ghost can_make = { λ before. KeysAscend K.order.compare before.edits.now × T.can_make before.then };

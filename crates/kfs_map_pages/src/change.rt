@@ -8,7 +8,7 @@ ghost use Rattle.kfs_map_pages.specs.Shown.{slot_shows, HasIndex, AreIndexedFrom
 use crate::edit::{NumberEdit, page_of, run_of};
 use crate::group::{GROUP_LEN, Group};
 use crate::page::Page;
-use kfs_entry_value::{Change, Nothing};
+use kfs_types::{Change, Nothing};
 use std::alloc::{AllocError, Allocator};
 use std::sync::Arc;
 

@@ -10,7 +10,7 @@ use crate::change::{MOST_TOGETHER, change_each, change_groups};
 use crate::edit::{NumberEdit, page_of};
 use crate::group::{GROUP_LEN, Group, nothing, page_at};
 use crate::page::Page;
-use kfs_entry_value::Change;
+use kfs_types::Change;
 use std::alloc::{AllocError, Allocator};
 use std::marker::Model;
 use std::sync::Arc;

@@ -16,8 +16,8 @@ use Rattle.kfs_model.specs.Table.{pairs, numbers, get, changed, insert}
 use Rattle.kfs_model.specs.Tree.{Tree, tree_over}
 use Rattle.kfs_model.proofs.MovedBlocks.{CanBeMade, IsAmong, each_follows, among_follows, found_among, free_has_none, has_source-is, has_target-is, has_target-same, moved_more, placed_after}
 use Rattle.kfs_model.proofs.TableLaws.{same_table, get-insert, get-mapped}
-use Rattle.kfs_model_device.specs.Device.{Devices, byte_on}
-use Rattle.kfs_model_device.specs.ShownTree.{DeviceImage, IsLawful, file_byte, shown_tree}
+use Rattle.kfs_model.specs.Device.Device.{Devices, byte_on}
+use Rattle.kfs_model.specs.Device.ShownTree.{DeviceImage, IsLawful, file_byte, shown_tree}
 use Rattle.kfs_image.specs.declared.edit.Edit.{Edit}
 use Rattle.kfs_image.specs.declared.edit.Edit.TheVariants.{Map, Bytes}
 use Rattle.kfs_image.specs.Edit.{CanEdit, WritesWholeBlocks, edited, edited_all}

@@ -9,15 +9,15 @@ use Rattle.kfs_model.specs.Migration as model
 use Rattle.kfs_model.specs.Migration.{Move, source, has_source, has_target, moves_overlap, fault_of_move, fault_of_moves, move_limit}
 use Rattle.kfs_model.specs.Placement.{TierSizes, Place, Placement, tier_size, is_free}
 use Rattle.kfs_model.specs.Table.{get}
-use Rattle.kfs_image_tier.specs.Unused.{IsNextUnused, AreTakenFrom}
+use Rattle.kfs_image.specs.Tier.Unused.{IsNextUnused, AreTakenFrom}
 use Rattle.std.proofs.lemmas.Bool.{both_ways, cases_Bool}
 use Rattle.kfs_model.proofs.FirstAnswer.{first_is, none_more}
 use Rattle.kfs_model.proofs.MovedBlocks.{by_tests}
 use Rattle.kfs_model.specs.Limits.{block_size}
-use Rattle.kfs_model_device.specs.ShownTree.{DeviceImage, file_byte}
+use Rattle.kfs_model.specs.Device.ShownTree.{DeviceImage, file_byte}
 use Rattle.kfs_migrate.specs.Applied.{AreBytesOf}
-use Rattle.kfs_migrate_value.specs.declared.moves.MoveFault.{MoveFault}
-use Rattle.kfs_migrate_value.specs.Faults.{Refuses, fault_of}
+use Rattle.kfs_types.specs.declared.moves.moves.MoveFault.{MoveFault}
+use Rattle.kfs_types.specs.Moves.Faults.{Refuses, fault_of}
 use Rattle.kfs_migrate.specs.Faults.{IsPossible}
 
 -- a test of each element that is one of two tests

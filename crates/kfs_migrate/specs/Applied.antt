@@ -5,8 +5,8 @@ use Rattle.kfs_model.specs.Limits.{block_size}
 use Rattle.kfs_model.specs.Migration.{Move, has_target, moved_by}
 use Rattle.kfs_model.specs.Placement.{Place}
 use Rattle.kfs_model.specs.Table.{get}
-use Rattle.kfs_model_device.specs.Device.{AreBlocks}
-use Rattle.kfs_model_device.specs.ShownTree.{DeviceImage, file_byte}
+use Rattle.kfs_model.specs.Device.Device.{AreBlocks}
+use Rattle.kfs_model.specs.Device.ShownTree.{DeviceImage, file_byte}
 use Rattle.kfs_image.specs.declared.edit.Edit.{Edit}
 use Rattle.kfs_image.specs.declared.edit.Edit.TheVariants.{Map, Bytes}
 use Rattle.kfs_image.specs.Edit.{edited_all, WritesWholeBlocks}

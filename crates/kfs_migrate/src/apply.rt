@@ -1,12 +1,11 @@
 //! The change that moves make to an image.
 ghost use Rattle.std.specs.Prelude.{◌≡◌, None, IfOk, OnOk, OnErr};
 ghost use Rattle.kfs_model.specs.Migration.{fault_of_moves};
-ghost use Rattle.kfs_model_device.specs.ShownTree.{shown_tree};
+ghost use Rattle.kfs_model.specs.Device.ShownTree.{shown_tree};
 ghost use Rattle.kfs_migrate.specs.Applied.{AreApplied, AreBytesOf, AreEditsOf, AddsEdits};
 
-use kfs_entry_value::BLOCK_LEN;
 use kfs_image::{Edit, Image};
-use kfs_migrate_value::Move;
+use kfs_types::{BLOCK_LEN, Move};
 use std::alloc::{AllocError, Allocator};
 
 /// Makes the moves, all at once: each block lies at its target then, with its bytes. Nothing else

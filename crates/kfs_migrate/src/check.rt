@@ -2,11 +2,11 @@
 ghost use Rattle.std.specs.Prelude.{◌≡◌, ◌<◌, List, length, None, IfErr, OnOk};
 ghost use Rattle.kfs_model.specs.Placement.{tier_size, is_free};
 ghost use Rattle.kfs_model.specs.Migration.{Move as ModelMove, fault_of_move, fault_of_moves};
-ghost use Rattle.kfs_migrate_value.specs.Faults.{Refuses};
+ghost use Rattle.kfs_types.specs.Moves.Faults.{Refuses};
 ghost use Rattle.kfs_migrate.specs.Faults.{IsPossible};
 
 use kfs_image::Image;
-use kfs_migrate_value::{Move, MoveFault};
+use kfs_types::{Move, MoveFault};
 use std::alloc::Allocator;
 use std::collections::BTreeSet;
 

@@ -1,7 +1,7 @@
 //! Migration: blocks of files move to other places, on other tiers or the same one. The tree that the
 //! image shows stays as it is.
 //!
-//! It stands on `kfs_image` and `kfs_migrate_value`. Begin with `check_moves`, then `apply_moves`.
+//! It stands on `kfs_image`. Begin with `check_moves`, then `apply_moves`.
 #![tactic(auto)]
 
 mod apply;
@@ -9,4 +9,4 @@ mod check;
 
 pub use apply::apply_moves;
 pub use check::{MOVE_LIMIT, check_moves};
-pub use kfs_migrate_value::{Move, MoveFault};
+pub use kfs_types::{Move, MoveFault};

@@ -9,7 +9,7 @@ ghost use Rattle.kfs_model.specs.Lease.{row_of};
 ghost use Rattle.kfs_mode.specs.Clients.{ClientsAreDistinct, client_row};
 
 use arrayvec::ArrayVec;
-use kfs_entry_value::GREATEST_NUMBER;
+use kfs_types::GREATEST_NUMBER;
 use std::marker::Model;
 use thiserror::Error;
 

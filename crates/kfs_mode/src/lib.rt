@@ -1,7 +1,7 @@
 //! Clients, and what the permission bits of a node grant them (POSIX.1-2017, XBD 4.5).
 //!
-//! It stands on `kfs_entry_value` and `arrayvec`; leases, judge and desk stand on it. Begin with
-//! `Client::new` and `may`.
+//! It stands on `kfs_types` and `arrayvec`; leases, judge and desk stand on it. Begin with `Client::new`
+//! and `may`.
 #![tactic(auto)]
 
 mod class;

@@ -64,3 +64,5 @@ pub mod ReadingIs
 pub mod LastCover
 pub mod SameNeed
 pub mod RowsMean
+pub mod DeviceLemmas
+pub mod CanonicalLemmas

@@ -32,3 +32,5 @@ pub mod Machine
 pub mod Order
 pub mod Laws
 pub mod Means
+pub mod Examples
+pub mod Device

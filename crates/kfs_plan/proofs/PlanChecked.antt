@@ -14,18 +14,18 @@ use Rattle.kfs_model.specs.FirstWrong.{Names, Nodes, Pieces, same_header, same_h
 use Rattle.kfs_model.proofs.Exact.{numbers-exact, headers-exact}
 use Rattle.kfs_model.proofs.Differences.{differences_only}
 use Rattle.kfs_entry.specs.Answers.{plan_of}
-use Rattle.kfs_entry_value.specs.Views.{name_row_of, node_row_of, piece_of}
-use Rattle.kfs_entry_value.specs.declared.plan.Plan.{Plan as CodePlan}
-use Rattle.kfs_plan_sweep.specs.declared.sizes.FileSize.{FileSize}
-use Rattle.kfs_plan_sweep.specs.Sizes.{AreSizes, AreSwept}
-use Rattle.kfs_plan_sweep.proofs.LogMade.{of_value}
-use Rattle.kfs_plan_sweep.proofs.SizesBetween.{sizes_between}
+use Rattle.kfs_types.specs.Views.{name_row_of, node_row_of, piece_of}
+use Rattle.kfs_types.specs.declared.plan.Plan.{Plan as CodePlan}
+use Rattle.kfs_pieces.specs.declared.sizes.FileSize.{FileSize}
+use Rattle.kfs_pieces.specs.Sizes.{AreSizes, AreSwept}
+use Rattle.kfs_pieces.proofs.LogMade.{of_value}
+use Rattle.kfs_pieces.proofs.SizesBetween.{sizes_between}
 use Rattle.kfs_image_nodes.specs.declared.net.Net.{Net}
 use Rattle.kfs_plan.specs.declared.rows.RowFault.{RowFault as CodeRowFault}
 use Rattle.kfs_plan.specs.PlanCheck.{first_unlike, TellsRow}
-use Rattle.kfs_judge_step.specs.Rows.{keyed_name_row, keyed_node_row}
+use Rattle.kfs_judge.specs.Step.Rows.{keyed_name_row, keyed_node_row}
 use Rattle.kfs_judge.specs.Walks.{ComesToTree}
-use Rattle.kfs_judge_step.specs.Nets.{IsNetOf}
+use Rattle.kfs_judge.specs.Step.Nets.{IsNetOf}
 use Rattle.kfs_plan.proofs.MarkedRuns.{EndsBeside, ends_beside}
 
 module _ {A : Type 0} (client : Client) (before : ClientSight) (tree : Tree ℕ) (entries : List Entry) (after : Tree ℕ) (net : Net A) (plan : CodePlan A) (beside : EndsBeside client before tree entries after) (differs : IsNetOf (sight tree) (sight after) net) where

@@ -7,26 +7,26 @@ use Rattle.std.proofs.Common.{ap, sym, ◌∙◌, arith, inl, inr}
 use Rattle.std.proofs.lemmas.Bool.{eq-eqb, ne_eqb, cases_eq}
 use Rattle.std.proofs.lemmas.Iterator.Adapters.{position_from-zero}
 use Rattle.kfs_model.specs.FirstWrong.{Names, Nodes, Pieces, same_kind, same_header, same_headers, same_place, same_pair, first_difference, first_wrong_piece, or_else}
-use Rattle.kfs_plan_sweep.specs.PiecesApart.{first_apart}
+use Rattle.kfs_pieces.specs.PiecesApart.{first_apart}
 use Rattle.kfs_model.specs.Plan.{ArePieces}
 use Rattle.kfs_model.specs.Run.{Mark}
 use Rattle.kfs_model.specs.Tree.{Tree}
-use Rattle.kfs_plan_sweep.proofs.PiecesApart.{first_wrong_is_apart}
-use Rattle.kfs_entry_value.specs.Views.{header_of, kind_of, piece_of}
-use Rattle.kfs_entry_value.specs.declared.header.Kind.{Kind as CodeKind}
-use Rattle.kfs_entry_value.specs.declared.header.Kind.TheVariants as kinds
-use Rattle.kfs_entry_value.specs.declared.header.Header.{Header as CodeHeader}
-use Rattle.kfs_entry_value.specs.declared.plan.NameRow.{NameRow as CodeNameRow}
-use Rattle.kfs_entry_value.specs.declared.plan.NodeRow.{NodeRow as CodeNodeRow}
-use Rattle.kfs_entry_value.specs.declared.plan.Piece.{Piece as CodePiece}
-use Rattle.kfs_entry_value.specs.declared.plan.Plan.{Plan as CodePlan}
-use Rattle.kfs_entry_value.specs.contracts.plan.NameRowPartialEq.TheImpl as names
-use Rattle.kfs_entry_value.specs.contracts.plan.NodeRowPartialEq.TheImpl as nodes
-use Rattle.kfs_entry_value.specs.contracts.header.HeaderPartialEq.TheImpl as heads
-use Rattle.kfs_entry_value.specs.contracts.header.KindPartialEq.TheImpl as kind_tests
+use Rattle.kfs_pieces.proofs.PiecesApart.{first_wrong_is_apart}
+use Rattle.kfs_types.specs.Views.{header_of, kind_of, piece_of}
+use Rattle.kfs_types.specs.declared.header.Kind.{Kind as CodeKind}
+use Rattle.kfs_types.specs.declared.header.Kind.TheVariants as kinds
+use Rattle.kfs_types.specs.declared.header.Header.{Header as CodeHeader}
+use Rattle.kfs_types.specs.declared.plan.NameRow.{NameRow as CodeNameRow}
+use Rattle.kfs_types.specs.declared.plan.NodeRow.{NodeRow as CodeNodeRow}
+use Rattle.kfs_types.specs.declared.plan.Piece.{Piece as CodePiece}
+use Rattle.kfs_types.specs.declared.plan.Plan.{Plan as CodePlan}
+use Rattle.kfs_types.specs.contracts.plan.NameRowPartialEq.TheImpl as names
+use Rattle.kfs_types.specs.contracts.plan.NodeRowPartialEq.TheImpl as nodes
+use Rattle.kfs_types.specs.contracts.header.HeaderPartialEq.TheImpl as heads
+use Rattle.kfs_types.specs.contracts.header.KindPartialEq.TheImpl as kind_tests
 use Rattle.kfs_image_nodes.specs.declared.net.Net.{Net}
 use Rattle.kfs_plan.specs.PlanCheck.{first_unlike}
-use Rattle.kfs_judge_step.specs.Rows.{keyed_name_row, keyed_node_row}
+use Rattle.kfs_judge.specs.Step.Rows.{keyed_name_row, keyed_node_row}
 
 -- ---- the first difference, by a search for a pair that differs
 

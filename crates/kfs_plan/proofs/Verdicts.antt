@@ -19,11 +19,11 @@ use Rattle.kfs_model.specs.Machine.{OneByOne}
 use Rattle.kfs_model.specs.CleanStep.{IsClient, Fits}
 use Rattle.kfs_model.proofs.RightPlan.{right_from_none}
 use Rattle.kfs_entry.specs.Answers.{log_of, plan_of, OnRefusal}
-use Rattle.kfs_entry_value.specs.declared.entry.Log.{Log as CodeLog}
-use Rattle.kfs_entry_value.specs.declared.plan.Plan.{Plan as CodePlan}
+use Rattle.kfs_types.specs.declared.entry.Log.{Log as CodeLog}
+use Rattle.kfs_types.specs.declared.plan.Plan.{Plan as CodePlan}
 use Rattle.kfs_entry.specs.declared.fault.SpellFault.{SpellFault}
 use Rattle.kfs_entry.specs.declared.fault.SpellFault.TheVariants as spelling
-use Rattle.kfs_plan_sweep.specs.declared.sizes.FileSize.{FileSize}
+use Rattle.kfs_pieces.specs.declared.sizes.FileSize.{FileSize}
 use Rattle.kfs_image_nodes.specs.declared.net.Net.{Net}
 use Rattle.kfs_plan.specs.declared.rows.RowFault.{RowFault as CodeRowFault}
 use Rattle.kfs_plan.specs.declared.rows.RowFault.TheVariants as rows
@@ -34,15 +34,15 @@ use Rattle.kfs_plan.specs.declared.submission.Outcome.TheVariants as outcomes
 use Rattle.kfs_judge.specs.declared.walk.EntryFault.{EntryFault as CodeEntryFault}
 use Rattle.kfs_plan.specs.Judging.{row_fault_of, spelling_fault_of, refusal_of, RefusesByFault, is_before_entries, stops_before, AreOfLog, AreLooked, AreSpelled, AgreesWithReads, IsVerdict, OutcomeIsSettled}
 use Rattle.kfs_judge.specs.declared.walk.Walk.{Walk}
-use Rattle.kfs_judge_check.specs.declared.reads.Read.{Read}
-use Rattle.kfs_judge_check.specs.declared.reads.ReadAnswer.{ReadAnswer}
+use Rattle.kfs_judge.specs.declared.check.reads.Read.{Read}
+use Rattle.kfs_judge.specs.declared.check.reads.ReadAnswer.{ReadAnswer}
 use Rattle.kfs_plan.specs.PlanCheck.{TellsOfEachRun, TellsRow}
-use Rattle.kfs_judge_check.specs.declared.view.View.{View}
-use Rattle.kfs_judge_check.specs.Reads.{Agrees}
-use Rattle.kfs_judge_check.specs.View.{client_sight_in}
+use Rattle.kfs_judge.specs.declared.check.view.View.{View}
+use Rattle.kfs_judge.specs.Check.Reads.{Agrees}
+use Rattle.kfs_judge.specs.Check.View.{client_sight_in}
 use Rattle.kfs_judge.specs.Walks.{ComesToTree, fault_of, IsWalkOf}
 use Rattle.kfs_model.proofs.AnswersExist.{log_has_answer, plan_has_answer}
-use Rattle.kfs_judge_check.proofs.Lists.{row_has_number}
+use Rattle.kfs_judge.proofs.CheckLemmas.Lists.{row_has_number}
 use Rattle.kfs_plan.proofs.PlanChecked.{told_at_end}
 
 module _ (s : State) (number : ℕ) where

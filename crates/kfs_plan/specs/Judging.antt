@@ -16,8 +16,8 @@ use Rattle.kfs_model.specs.Machine.{OneByOne}
 use Rattle.kfs_model.specs.Spelling.{SpellingFault, BadHeader, BadEntry, Trailing, BadRow, LogAnswer, PlanAnswer}
 use Rattle.kfs_model.specs.Judgement.{State, Submission, Fault, ClientUnknown, ClientWrong, BadLog, BadPlan, AtEntry, AtRow, Verdict, Yes, No, IsJudgement, client_sight_of}
 use Rattle.kfs_entry.specs.Answers.{AreSpanned, SpansAreWithin, log_of, plan_of}
-use Rattle.kfs_entry_value.specs.declared.entry.Log.{Log as CodeLog}
-use Rattle.kfs_entry_value.specs.declared.plan.Plan.{Plan as CodePlan}
+use Rattle.kfs_types.specs.declared.entry.Log.{Log as CodeLog}
+use Rattle.kfs_types.specs.declared.plan.Plan.{Plan as CodePlan}
 use Rattle.kfs_entry.specs.declared.fault.SpellFault.{SpellFault}
 use Rattle.kfs_entry.specs.declared.fault.SpellFault.TheVariants as spelling
 use Rattle.kfs_image_nodes.specs.declared.net.Net.{Net}
@@ -30,16 +30,16 @@ use Rattle.kfs_plan.specs.declared.submission.Outcome.{Outcome}
 use Rattle.kfs_plan.specs.declared.submission.Outcome.TheVariants as outcomes
 use Rattle.kfs_plan.specs.declared.spelling.Spelled.{Spelled}
 use Rattle.kfs_plan.specs.declared.spelling.Spelled.TheVariants as readings
-use Rattle.kfs_judge_check.specs.declared.view.View.{View}
+use Rattle.kfs_judge.specs.declared.check.view.View.{View}
 use Rattle.kfs_judge.specs.declared.walk.EntryFault.{EntryFault as CodeEntryFault}
-use Rattle.kfs_judge_check.specs.declared.reads.Read.{Read}
-use Rattle.kfs_judge_check.specs.declared.reads.ReadAnswer.{ReadAnswer}
-use Rattle.kfs_plan_sweep.specs.declared.sizes.FileSize.{FileSize}
+use Rattle.kfs_judge.specs.declared.check.reads.Read.{Read}
+use Rattle.kfs_judge.specs.declared.check.reads.ReadAnswer.{ReadAnswer}
+use Rattle.kfs_pieces.specs.declared.sizes.FileSize.{FileSize}
 use Rattle.kfs_plan.specs.PlanCheck.{TellsOfEachRun}
-use Rattle.kfs_judge_check.specs.Reads.{Agrees, AreAmong}
-use Rattle.kfs_judge_check.specs.View.{clients_of, client_sight_in}
+use Rattle.kfs_judge.specs.Check.Reads.{Agrees, AreAmong}
+use Rattle.kfs_judge.specs.Check.View.{clients_of, client_sight_in}
 use Rattle.kfs_judge.specs.Walks.{fault_of}
-use Rattle.kfs_judge_step.specs.Nets.{IsNetOf}
+use Rattle.kfs_judge.specs.Step.Nets.{IsNetOf}
 
 -- ---- faults; a refusal of memory is none, since it isn't a fault of the submission
 

@@ -10,17 +10,17 @@ use Rattle.kfs_model.specs.FirstWrong.{RowFault, Names, Nodes, Pieces, same_pair
 use Rattle.kfs_model.specs.Placement.{need}
 use Rattle.kfs_model.specs.CleanStep.{Fits}
 use Rattle.kfs_entry.specs.Answers.{SpansAreWithin, plan_of}
-use Rattle.kfs_entry_value.specs.Views.{entry_of, piece_of}
-use Rattle.kfs_entry_value.specs.declared.entry.Log.{Log as CodeLog}
-use Rattle.kfs_entry_value.specs.declared.plan.Plan.{Plan as CodePlan}
-use Rattle.kfs_plan_sweep.specs.declared.sizes.FileSize.{FileSize}
-use Rattle.kfs_plan_sweep.specs.Sizes.{AreSizes}
+use Rattle.kfs_types.specs.Views.{entry_of, piece_of}
+use Rattle.kfs_types.specs.declared.entry.Log.{Log as CodeLog}
+use Rattle.kfs_types.specs.declared.plan.Plan.{Plan as CodePlan}
+use Rattle.kfs_pieces.specs.declared.sizes.FileSize.{FileSize}
+use Rattle.kfs_pieces.specs.Sizes.{AreSizes}
 use Rattle.kfs_image_nodes.specs.declared.net.Net.{Net}
 use Rattle.kfs_plan.specs.declared.rows.RowFault.{RowFault as CodeRowFault}
 use Rattle.kfs_plan.specs.declared.rows.RowFault.TheVariants as faults
-use Rattle.kfs_judge_check.specs.Reads.{Agrees}
+use Rattle.kfs_judge.specs.Check.Reads.{Agrees}
 use Rattle.kfs_judge.specs.declared.walk.Walk.{Walk}
-use Rattle.kfs_judge_step.specs.Rows.{keyed_name_row, keyed_node_row}
+use Rattle.kfs_judge.specs.Step.Rows.{keyed_name_row, keyed_node_row}
 
 -- the answer names the first wrong row, or is the need where there is none; a refusal of memory says
 -- nothing

@@ -3,8 +3,8 @@ ghost use Rattle.std.specs.Prelude.{◌≡◌, ◌↔◌, IsTrue};
 ghost use Rattle.std.specs.Option.{option_map};
 ghost use Rattle.kfs_model.specs.Sight as sights;
 ghost use Rattle.kfs_model.specs.Lease.{row_of};
-ghost use Rattle.kfs_judge_check.specs.Reads.{Agrees, answer_of, cell_of, look_answer_of};
-ghost use Rattle.kfs_judge_check.specs.View.{clients_of, client_sight_in};
+ghost use Rattle.kfs_judge.specs.Check.Reads.{Agrees, answer_of, cell_of, look_answer_of};
+ghost use Rattle.kfs_judge.specs.Check.View.{clients_of, client_sight_in};
 ghost use Rattle.kfs_plan.specs.Judged.{HoldsIn, IsKnown};
 
 use crate::submission::{Outcome, Submission};

@@ -1,6 +1,6 @@
 //! Judges a client's submission: client, log, plan, entries, plan rows.
 //!
-//! It stands on `kfs_judge` (the entries) and `kfs_plan_sweep` (the pieces); desk, workers and report
+//! It stands on `kfs_judge` (the entries) and `kfs_pieces` (the pieces); desk, workers and report
 //! stand on it. Begin with `judge`, and with `check_plan` for a log that was judged before.
 #![tactic(auto)]
 

@@ -3,10 +3,10 @@ ghost use Rattle.std.specs.Prelude.{◌≤◌, ◌+◌, ◌*◌, IfOk, IsOk, len
 ghost use Rattle.std.specs.List.{AllByRecursion};
 ghost use Rattle.kfs_model.specs.Access.{Client as ClientRow};
 ghost use Rattle.kfs_model.specs.Limits.{entry_limit};
-ghost use Rattle.kfs_entry_value.specs.Views.{piece_of, IsSpanned};
+ghost use Rattle.kfs_types.specs.Views.{piece_of, IsSpanned};
 ghost use Rattle.kfs_judge.specs.Walks.{HasOrderedSizes, IsWalkOf};
 ghost use Rattle.kfs_plan.specs.PlanCheck.{ArePiecesOf};
-ghost use Rattle.kfs_plan_sweep.specs.RangeCounts.{grown_count};
+ghost use Rattle.kfs_pieces.specs.RangeCounts.{grown_count};
 
 use kfs_entry::{Log, Piece};
 use kfs_judge::Walk;
@@ -32,6 +32,6 @@ pub fn sweep<A: Allocator + Copy>(
     // They are at most two for each file that grew and for each entry.
     ensures few { IfOk result (λ out. length out.items ≤ 2 * (grown_count walk.now.sizes.items + length log.now.entries)) }
 {
-    let out = kfs_plan_sweep::sweep(alloc, walk.sizes.as_slice(), log.entries.as_slice())?;
+    let out = kfs_pieces::sweep(alloc, walk.sizes.as_slice(), log.entries.as_slice())?;
     Ok(out)
 }

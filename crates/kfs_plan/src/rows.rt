@@ -4,8 +4,8 @@ ghost use Rattle.std.specs.List.{AllByRecursion};
 ghost use Rattle.kfs_model.specs.Access.{Client as ClientRow};
 ghost use Rattle.kfs_model.specs.FirstWrong.{first_difference};
 ghost use Rattle.kfs_model.specs.Limits.{entry_limit};
-ghost use Rattle.kfs_entry_value.specs.Views.{IsSpanned};
-ghost use Rattle.kfs_plan_sweep.specs.Sizes.{SizesAscend, IsSize};
+ghost use Rattle.kfs_types.specs.Views.{IsSpanned};
+ghost use Rattle.kfs_pieces.specs.Sizes.{SizesAscend, IsSize};
 ghost use Rattle.kfs_judge.specs.Walks.{HasOrderedSizes, IsWalkOf};
 ghost use Rattle.kfs_plan.specs.PlanCheck.{TellsOfEachRun, TellsOfEachTree};
 ghost use Rattle.kfs_plan.specs.declared.rows.RowFault.TheVariants.{OutOfMemory};
@@ -13,7 +13,7 @@ ghost use Rattle.kfs_plan.specs.declared.rows.RowFault.TheVariants.{OutOfMemory}
 use kfs_entry::{Log, Plan};
 use kfs_image_nodes::Net;
 use kfs_judge::Walk;
-use kfs_plan_sweep::{FileSize, first_piece_apart, need_of, sweep};
+use kfs_pieces::{FileSize, first_piece_apart, need_of, sweep};
 use std::alloc::{AllocError, Allocator};
 use thiserror::Error;
 

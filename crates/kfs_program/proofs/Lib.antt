@@ -2,3 +2,6 @@
 pub mod Lines
 pub mod Planned
 pub mod Told
+pub mod EngineLemmas
+pub mod VerdictsLemmas
+pub mod ImagesLemmas

@@ -2,9 +2,9 @@
 use Rattle.std.proofs.Common.{◌≡◌, ℕ, nat_lt, List, [], ◌∷◌, ◌++◌, length, codes, bytes_eq, refl, ap, subst, ◌∙◌, arith, option_map, Bool, true, false, Option, Some, None, Result, Ok, Err, if◌then◌else◌}
 use Rattle.std.specs.Result.{IsErrAnd}
 use Rattle.kfs_model.specs.Access.{Client}
-use Rattle.kfs_model_device.specs.ShownTree.{DeviceImage}
+use Rattle.kfs_model.specs.Device.ShownTree.{DeviceImage}
 use Rattle.kfs_program_command.specs.Command.{Load, asked_by}
-use Rattle.kfs_program_images.specs.Loading.{AppendsLine, LoadsWith}
+use Rattle.kfs_program.specs.Images.Loading.{AppendsLine, LoadsWith}
 use Rattle.kfs_program_text.specs.Decimals.{hexadecimal}
 use Rattle.kfs_program_text.specs.Parts.{line_of}
 use Rattle.kfs_program_text.specs.Reading.{ReadsAs, first_by, only}

@@ -3,10 +3,10 @@ use Rattle.std.specs.Prelude.{◌≡◌, ℕ, List, [], ◌∷◌, ◌++◌, Boo
 use Rattle.std.specs.Io.KnownBytes.{Consumes, IsAtEnd}
 use Rattle.std.specs.List.{AllByRecursion}
 use Rattle.kfs_program_text.specs.Streams.{Exchanges}
-use Rattle.kfs_program_images.specs.Showing.{AnswersImage, Passes, Shows, bytes_said}
-use Rattle.kfs_program_engine.specs.Transcript.{LineIsShort}
-use Rattle.kfs_program_engine.specs.declared.fault.EngineFault.{EngineFault}
-use Rattle.kfs_program_engine.specs.declared.fault.EngineFault.TheVariants.{ReadFault, WriteFault, LongLine, OutOfMemory}
+use Rattle.kfs_program.specs.Images.Showing.{AnswersImage, Passes, Shows, bytes_said}
+use Rattle.kfs_program.specs.Engine.Transcript.{LineIsShort}
+use Rattle.kfs_program.specs.declared.engine.fault.EngineFault.{EngineFault}
+use Rattle.kfs_program.specs.declared.engine.fault.EngineFault.TheVariants.{ReadFault, WriteFault, LongLine, OutOfMemory}
 use Rattle.kfs_program.specs.Lines.{AreFirstLines, IsUnreadable}
 use Rattle.kfs_program.specs.Planning.{SaysOfPlan, WantsForPlan}
 use Rattle.kfs_program.specs.declared.answer.LineWord.{LineWord}

@@ -2,15 +2,15 @@
 use Rattle.std.specs.Prelude.{◌≡◌, ◌⊎◌, ◌≤◌, ◌==◌, ℕ, List, [], length, slice_index_or, codes, Bool, true, false, Option, Some, None, Result, Ok, Err, if◌then◌else◌}
 use Rattle.std.specs.Borrow.{Bor}
 use Rattle.std.specs.Io.KnownBytes.{IsAtEnd}
-use Rattle.kfs_program_engine.specs.Transcript.{IsSession}
+use Rattle.kfs_program.specs.Engine.Transcript.{IsSession}
 use Rattle.kfs_program_text.specs.Streams.{Exchanges}
 use Rattle.kfs_program.specs.Answer.{IsAnswered}
 use Rattle.kfs_program.specs.declared.answer.LineWord.{LineWord}
 use Rattle.kfs_program.specs.declared.answer.LineWord.TheVariants.{Fsck, Show, Plan}
 use Rattle.kfs_program.specs.declared.run.Subcommand.{Subcommand}
 use Rattle.kfs_program.specs.declared.run.Subcommand.TheVariants.{Run, Lines}
-use Rattle.kfs_program_engine.specs.declared.fault.EngineFault.{EngineFault}
-use Rattle.kfs_program_engine.specs.declared.fault.EngineFault.TheVariants.{ReadFault, WriteFault, LongLine, OutOfMemory}
+use Rattle.kfs_program.specs.declared.engine.fault.EngineFault.{EngineFault}
+use Rattle.kfs_program.specs.declared.engine.fault.EngineFault.TheVariants.{ReadFault, WriteFault, LongLine, OutOfMemory}
 
 abbrev pub fault_status_of : EngineFault → ℕ
 fault_status_of ReadFault = 3

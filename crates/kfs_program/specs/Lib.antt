@@ -2,3 +2,6 @@ pub mod Answer
 pub mod Exit
 pub mod Lines
 pub mod Planning
+pub mod Engine
+pub mod Verdicts
+pub mod Images

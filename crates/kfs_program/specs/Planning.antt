@@ -1,14 +1,14 @@
 -- The word `plan`: what it says for an image, a client and a log.
 use Rattle.std.specs.Prelude.{◌≡◌, ℕ, List, [], ◌∷◌, ◌++◌, Bool, true, false, codes, bytes_eq, Option, Some, None, Ok, Err, if◌then◌else◌}
 use Rattle.kfs_model.specs.Access.{Client}
-use Rattle.kfs_model_device.specs.ShownTree.{DeviceImage, shown_tree}
+use Rattle.kfs_model.specs.Device.ShownTree.{DeviceImage, shown_tree}
 use Rattle.kfs_program_text.specs.Cut.{cut, space}
 use Rattle.kfs_program_text.specs.Decimals.{hexadecimal}
 use Rattle.kfs_program_text.specs.Parts.{line_of}
 use Rattle.kfs_program_text.specs.Reading.{only}
 use Rattle.kfs_program_command.specs.Command.{Command, Load, Row, Setup, asked_by}
-use Rattle.kfs_program_images.specs.Loading.{IsLoaded, SaysWhyNot}
-use Rattle.kfs_program_engine.specs.PlanLine.{SaysPlan}
+use Rattle.kfs_program.specs.Images.Loading.{IsLoaded, SaysWhyNot}
+use Rattle.kfs_program.specs.Engine.PlanLine.{SaysPlan}
 use Rattle.kfs_report.specs.Text.{client_text}
 
 -- the text of a line that isn't the one wanted

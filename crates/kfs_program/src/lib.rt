@@ -1,13 +1,17 @@
 //! The program `kfs`, over any reader and writer: the words of its command line, and its exit status.
 //!
-//! It stands on `kfs_program_engine` and `kfs_program_images`, and on `clap`, which no other crate reads;
-//! the program `kfs` stands on it. Begin with `run_words`.
+//! It stands on `kfs_desk`, `kfs_plan_maker`, `kfs_report`, and on `clap`, which no other crate reads; the
+//! program `kfs` stands on it. Begin with `run_words`. The order of its folders: `images` (images in
+//! lines), `verdicts` (what a session's workers hold), and `engine` (commands in, replies out).
 #![tactic(auto)]
 
 mod answer;
+pub mod engine;
+mod images;
 mod input;
 mod planning;
 mod run;
+mod verdicts;
 
-pub use kfs_program_engine::{EngineFault, LINE_LIMIT, engine};
+pub use engine::{EngineFault, LINE_LIMIT, engine};
 pub use run::{run_words, status_message};

@@ -8,12 +8,12 @@ ghost use Rattle.kfs_program.specs.Answer.{Tells};
 ghost use Rattle.kfs_program.specs.Planning.{RefusesClient, RefusesImage, SaysForLog, TakesClient, TakesImage, bad_line, log_said};
 ghost use Rattle.kfs_program.specs.declared.answer.LineWord.TheVariants.{Plan};
 
+use crate::engine::{EngineFault, plan_line};
+use crate::images::load;
 use crate::input::Unread;
 use kfs_image::Image;
 use kfs_mode::{Client, ClientFault};
 use kfs_program_command::{Command, OpeningCommand};
-use kfs_program_engine::{EngineFault, plan_line};
-use kfs_program_images::load;
 use kfs_program_text::{Refusal, Words};
 use kfs_report::client_line;
 use std::alloc::{AllocError, Allocator};

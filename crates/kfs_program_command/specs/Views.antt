@@ -1,5 +1,5 @@
 -- The code's commands in terms of the definitions.
-use Rattle.kfs_lease_rows.specs.Rows.{kind_of}
+use Rattle.kfs_lease.specs.Rows.Rows.{kind_of}
 use Rattle.kfs_lease.specs.declared.act.Act.{Act}
 use Rattle.kfs_lease.specs.declared.act.Act.TheVariants as acts
 use Rattle.kfs_plan.specs.Judging.{submission_of}

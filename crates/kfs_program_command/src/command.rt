@@ -1,6 +1,6 @@
 //! The commands of a session.
 ghost use Rattle.std.specs.Prelude.{◌≡◌, ℕ, List, true, false, IfOk, IsErrOf, None, Some, option_map};
-ghost use Rattle.kfs_lease_rows.specs.Rows.{kind_of};
+ghost use Rattle.kfs_lease.specs.Rows.Rows.{kind_of};
 ghost use Rattle.kfs_plan.specs.Judging.{submission_of};
 ghost use Rattle.kfs_program_command.specs.Command.{Land as LandLine, Listing as ListingLine, Load, Node as NodeLine, Request, Setup, Submit as SubmitLine, asked_by, client_of, drop_of, judge_of, kind_named, landing_worker, last_worker, lease_of, load_of, move_of, moves_in, new_of, plan_of, read_of, submission_in, submit_of};
 ghost use Rattle.kfs_program_command.specs.Reading.{begin_of, command_named, docket_of, first_move, land_of, listing_of, named_by, node_of, save_of, tick_of};
@@ -11,10 +11,10 @@ ghost use Rattle.kfs_program_text.specs.Reading.{ReadsAs, ReadsExactly, checked,
 use crate::worker::{LAST_WORKER, Worker};
 use kfs_image_nodes::TierSizes;
 use kfs_lease::{Act, LeaseKind};
-use kfs_migrate_value::Move;
 use kfs_mode::{Client, ClientFault};
 use kfs_plan::Submission;
 use kfs_program_text::{Refusal, Words};
+use kfs_types::Move;
 use std::alloc::Allocator;
 
 /// The most bytes that a `read` line may ask for.

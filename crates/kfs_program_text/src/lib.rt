@@ -1,8 +1,8 @@
 //! Text for the program: lines and their words, the parts of a reply, and reads and writes of whole
 //! texts.
 //!
-//! It stands on `kfs_entry_value`, `hex`, `itoa` and `memchr`; `kfs_program_command`, `kfs_report` and
-//! `kfs_program_engine` stand on it. Begin with `words.rt`.
+//! It stands on `kfs_types`, `hex`, `itoa` and `memchr`; `kfs_program_command`, `kfs_report` and
+//! `kfs_program` stand on it. Begin with `words.rt`.
 #![tactic(auto)]
 
 mod digits;

@@ -1,6 +1,6 @@
 //! The parts of a reply's line. The caller has made room for them.
 ghost use Rattle.std.specs.Prelude.{◌≡◌, ◌+◌, ◌≤◌, ◌++◌, length, decimal};
-ghost use Rattle.kfs_entry_value.specs.Room.{Appends, spare_of};
+ghost use Rattle.kfs_types.specs.Room.{Appends, spare_of};
 ghost use Rattle.kfs_program_text.specs.Parts.{field_text, flag_text, numbered_text, octal_text};
 
 use itoa::Buffer;

@@ -1,7 +1,7 @@
 -- A refusal without a number is its name alone.
 use Rattle.std.proofs.Common.{◌≡◌, ◌≢◌, ℕ, refl}
-use Rattle.kfs_judge_check.specs.declared.check.Reason.{Reason}
-use Rattle.kfs_judge_check.specs.declared.check.Reason.TheVariants as reason
+use Rattle.kfs_judge.specs.declared.check.check.Reason.{Reason}
+use Rattle.kfs_judge.specs.declared.check.check.Reason.TheVariants as reason
 use Rattle.kfs_lease.specs.declared.leases.LeaseFault.{LeaseFault}
 use Rattle.kfs_lease.specs.declared.leases.LeaseFault.TheVariants as lease
 use Rattle.kfs_report.specs.Text.{reason_name, reason_text, lease_name, lease_text}

@@ -3,34 +3,34 @@ use Rattle.std.specs.Prelude.{◌≡◌, ℕ, ◌≤◌, List, Vec, ◌++◌, Bo
 use Rattle.std.specs.declared.alloc.AllocError.{AllocError}
 use Rattle.kfs_entry.specs.declared.fault.SpellFault.{SpellFault}
 use Rattle.kfs_entry.specs.declared.fault.SpellFault.TheVariants as spell
-use Rattle.kfs_entry_value.specs.declared.header.Header.{Header}
-use Rattle.kfs_entry_value.specs.declared.header.Kind.{Kind}
-use Rattle.kfs_entry_value.specs.declared.header.Kind.TheVariants.{File, Directory}
-use Rattle.kfs_image_codec.specs.declared.fault.ImageFault.{ImageFault}
-use Rattle.kfs_image_codec.specs.declared.fault.ImageFault.TheVariants as image
-use Rattle.kfs_judge_check.specs.declared.check.Reason.{Reason}
-use Rattle.kfs_judge_check.specs.declared.check.Reason.TheVariants as reason
+use Rattle.kfs_types.specs.declared.header.Header.{Header}
+use Rattle.kfs_types.specs.declared.header.Kind.{Kind}
+use Rattle.kfs_types.specs.declared.header.Kind.TheVariants.{File, Directory}
+use Rattle.kfs_image.specs.declared.codec.fault.ImageFault.{ImageFault}
+use Rattle.kfs_image.specs.declared.codec.fault.ImageFault.TheVariants as image
+use Rattle.kfs_judge.specs.declared.check.check.Reason.{Reason}
+use Rattle.kfs_judge.specs.declared.check.check.Reason.TheVariants as reason
 use Rattle.kfs_lease.specs.declared.leases.LeaseFault.{LeaseFault}
 use Rattle.kfs_lease.specs.declared.leases.LeaseFault.TheVariants as lease
-use Rattle.kfs_migrate_value.specs.declared.moves.MoveFault.{MoveFault}
-use Rattle.kfs_migrate_value.specs.declared.moves.MoveFault.TheVariants as move
+use Rattle.kfs_types.specs.declared.moves.moves.MoveFault.{MoveFault}
+use Rattle.kfs_types.specs.declared.moves.moves.MoveFault.TheVariants as move
 use Rattle.kfs_mode.specs.declared.client.ClientFault.{ClientFault}
 use Rattle.kfs_mode.specs.declared.client.ClientFault.TheVariants.{TooManyGroups, BadGrant}
 use Rattle.kfs_plan.specs.declared.submission.Fault.{Fault}
 use Rattle.kfs_plan.specs.declared.submission.Fault.TheVariants.{UnknownClient, BadLog, WrongClient, BadPlan, Entry, Row}
 use Rattle.kfs_plan.specs.declared.rows.RowFault.{RowFault}
 use Rattle.kfs_plan.specs.declared.rows.RowFault.TheVariants as row
-use Rattle.kfs_desk_docket.specs.declared.answers.ActFault.{ActFault}
-use Rattle.kfs_desk_docket.specs.declared.answers.ActFault.TheVariants as act_fault
-use Rattle.kfs_desk_docket.specs.declared.answers.ActReply.{ActReply}
-use Rattle.kfs_desk_docket.specs.declared.answers.BeginFault.{BeginFault}
-use Rattle.kfs_desk_docket.specs.declared.answers.BeginFault.TheVariants as begin
-use Rattle.kfs_desk_docket.specs.declared.answers.Done.{Done}
-use Rattle.kfs_desk_docket.specs.declared.answers.Done.TheVariants as done
-use Rattle.kfs_desk_docket.specs.declared.answers.Reply.{Reply}
-use Rattle.kfs_desk_docket.specs.declared.answers.Reply.TheVariants.{Yes, No, NoRoom}
+use Rattle.kfs_desk.specs.declared.history.answers.ActFault.{ActFault}
+use Rattle.kfs_desk.specs.declared.history.answers.ActFault.TheVariants as act_fault
+use Rattle.kfs_desk.specs.declared.history.answers.ActReply.{ActReply}
+use Rattle.kfs_desk.specs.declared.history.answers.BeginFault.{BeginFault}
+use Rattle.kfs_desk.specs.declared.history.answers.BeginFault.TheVariants as begin
+use Rattle.kfs_desk.specs.declared.history.answers.Done.{Done}
+use Rattle.kfs_desk.specs.declared.history.answers.Done.TheVariants as done
+use Rattle.kfs_desk.specs.declared.history.answers.Reply.{Reply}
+use Rattle.kfs_desk.specs.declared.history.answers.Reply.TheVariants.{Yes, No, NoRoom}
 use Rattle.kfs_program_text.specs.Parts.{field_text, flag_text, line_of, numbered_text, octal_text}
-use Rattle.kfs_entry_value.specs.Room.{spare_of}
+use Rattle.kfs_types.specs.Room.{spare_of}
 
 -- ---- refusals by name
 

@@ -1,6 +1,6 @@
 //! The lines of the desk's answers, as the program prints them.
 //!
-//! It stands on `kfs_desk_docket`, `kfs_shape` and `kfs_program_text`; `kfs_program_engine` stands on it.
+//! It stands on `kfs_desk`, `kfs_shape` and `kfs_program_text`; `kfs_program` stands on it.
 //! Begin with `reply_line`. docs/FORMATS.md has the texts.
 #![tactic(auto)]
 

@@ -4,12 +4,12 @@
 //! memory is taken.
 ghost use Rattle.std.specs.Prelude.{◌≡◌, ◌+◌, ◌≤◌, ◌++◌, length, codes};
 ghost use Rattle.kfs_report.specs.Text.{AddsLine, reply_text, fault_text, head_text, act_text, done_text, node_text, header_text, kind_text, counts_text, client_text, begin_text, finding_text, image_fault_text};
-ghost use Rattle.kfs_entry_value.specs.Room.{Appends, spare_of};
+ghost use Rattle.kfs_types.specs.Room.{Appends, spare_of};
 
 mod names;
 
-use kfs_desk_docket::answers::{ActReply, BeginFault, Done, Reply};
-use kfs_image_codec::ImageFault;
+use kfs_desk::history::answers::{ActReply, BeginFault, Done, Reply};
+use kfs_image::ImageFault;
 use kfs_image_nodes::{Header, Kind};
 use kfs_mode::ClientFault;
 use kfs_plan::Fault;

@@ -2,17 +2,18 @@
 //! exit status with what is expected, byte by byte; some of them in little memory, too, and with reads and
 //! writes that fail.
 //!
-//! It stands on `kfs_program` and `kfs_test_scripts`. docs/EXAMPLES.md lists the scripts. Begin with
+//! It stands on `kfs_program` and `kfs_rows`. docs/EXAMPLES.md lists the scripts. Begin with
 //! `main`.
 #![tactic(auto)]
 
 mod memory;
 mod runs;
+mod scripts;
 mod streams;
 
 use kfs_program::run_words;
-use kfs_test_scripts::{Case, ScriptFault, script_names};
 use memory::run_in_little_memory;
+use scripts::{Case, ScriptFault, script_names};
 use std::io;
 use std::process::ExitCode;
 use std::rt::Files;

@@ -1,7 +1,7 @@
 //! Scripts in little memory: with each growth of memory refused in turn, and with few bytes.
 
 use crate::runs::{DONE, Outcome, run};
-use kfs_test_scripts::{Case, ScriptFault};
+use crate::scripts::{Case, ScriptFault};
 use kfs_test_support::refusing::Refusing;
 use std::alloc::{AllocError, Global};
 use std::thread::Threads;

@@ -1,7 +1,7 @@
 //! A run of lines, and what comes of it.
 
+use crate::scripts::Script;
 use kfs_program::run_words;
-use kfs_test_scripts::Script;
 use std::alloc::Allocator;
 use std::thread::Threads;
 

@@ -1,8 +1,8 @@
 //! Scripts whose input or output fails: at each read in turn, and at each write.
 
 use crate::runs::run;
+use crate::scripts::{Case, ScriptFault};
 use kfs_program::run_words;
-use kfs_test_scripts::{Case, ScriptFault};
 use std::io;
 use std::io::{ErrorKind, Read, Write};
 use std::thread::Threads;

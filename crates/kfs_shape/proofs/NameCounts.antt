@@ -7,8 +7,8 @@ use Rattle.std.specs.Map.{lookup}
 use Rattle.std.specs.List.{AllByRecursion}
 use Rattle.std.proofs.lemmas.List.{drop_more, drop_all, get_or-replicate, length-replicate}
 use Rattle.std.proofs.lemmas.Option.{slice_get-get_or}
-use Rattle.kfs_entry_value.specs.declared.plan.NameRow.{NameRow as CodeNameRow}
-use Rattle.kfs_entry_value.specs.Views.{name_row_of}
+use Rattle.kfs_types.specs.declared.plan.NameRow.{NameRow as CodeNameRow}
+use Rattle.kfs_types.specs.Views.{name_row_of}
 use Rattle.kfs_model.specs.Header.{Header}
 use Rattle.kfs_model.specs.PlanRow.{NameRow}
 use Rattle.kfs_model.specs.Table.{Table, numbers}
@@ -16,11 +16,11 @@ use Rattle.kfs_model.specs.Tree.{name_order, name_count}
 use Rattle.kfs_model.proofs.CleanIsAllowed.{left}
 use Rattle.kfs_model.proofs.Counts.{tally, is_tally}
 use Rattle.kfs_model.specs.Plan.{keyed_name}
-use Rattle.kfs_model_device.specs.RawImage.{RawNode, RawImage, heads_of, names_of}
-use Rattle.kfs_model_device.specs.Rules.{Test, with_previous, directory_test, rule_4}
-use Rattle.kfs_model_device.specs.Finding.{least_of, least_failed}
-use Rattle.kfs_model_device.proofs.RowTables.{AreAbove, sorted_entries, sorted_rows}
-use Rattle.kfs_model_device.proofs.RulesHold.{AllHold}
+use Rattle.kfs_model.specs.Device.RawImage.{RawNode, RawImage, heads_of, names_of}
+use Rattle.kfs_model.specs.Device.Rules.{Test, with_previous, directory_test, rule_4}
+use Rattle.kfs_model.specs.Device.Finding.{least_of, least_failed}
+use Rattle.kfs_model.proofs.DeviceLemmas.RowTables.{AreAbove, sorted_entries, sorted_rows}
+use Rattle.kfs_model.proofs.DeviceLemmas.RulesHold.{AllHold}
 use Rattle.kfs_shape.specs.Counts.{count_at}
 use Rattle.kfs_shape.specs.NameCounts.{leads_to, count_in, CountsLeads, CountsNames}
 

@@ -9,10 +9,10 @@ use Rattle.kfs_model.specs.Header.{Header}
 use Rattle.kfs_model.specs.Table.{Table, numbers, pairs, get}
 use Rattle.kfs_model.proofs.CleanIsAllowed.{left, right}
 use Rattle.kfs_model.proofs.Counts.{tally, is_tally}
-use Rattle.kfs_model_device.specs.RawImage.{ExtentRow}
-use Rattle.kfs_model_device.specs.Rules.{test, with_previous, is_above, share_block, ends_in_file, is_extent, extent_test}
-use Rattle.kfs_model_device.specs.Finding.{least_failed}
-use Rattle.kfs_model_device.proofs.Among.{Among}
+use Rattle.kfs_model.specs.Device.RawImage.{ExtentRow}
+use Rattle.kfs_model.specs.Device.Rules.{test, with_previous, is_above, share_block, ends_in_file, is_extent, extent_test}
+use Rattle.kfs_model.specs.Device.Finding.{least_failed}
+use Rattle.kfs_model.proofs.DeviceLemmas.Among.{Among}
 use Rattle.kfs_shape.proofs.OneLeast.{Clean, same_least}
 use Rattle.kfs_shape.specs.Extents.{is_behind, is_full, is_in_place}
 

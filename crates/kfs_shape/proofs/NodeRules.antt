@@ -3,9 +3,9 @@ use Rattle.std.proofs.Common.{◌≡◌, ℕ, ◌<◌, ◌≤◌, ◌||◌, List
 use Rattle.std.specs.List.{AllByRecursion}
 use Rattle.kfs_model.specs.Sight.{is_file}
 use Rattle.kfs_model.specs.Tree.{name_count}
-use Rattle.kfs_model_device.specs.RawImage.{RawNode, RawImage, names_of}
-use Rattle.kfs_model_device.specs.Rules.{Test, test, names_fit, names_test, climb_test, reaches_root, rule_1, rule_6, rule_7}
-use Rattle.kfs_model_device.specs.Finding.{least_failed}
+use Rattle.kfs_model.specs.Device.RawImage.{RawNode, RawImage, names_of}
+use Rattle.kfs_model.specs.Device.Rules.{Test, test, names_fit, names_test, climb_test, reaches_root, rule_1, rule_6, rule_7}
+use Rattle.kfs_model.specs.Device.Finding.{least_failed}
 use Rattle.kfs_shape.specs.Climbs.{ancestor_at, is_root, top_test}
 use Rattle.kfs_shape.specs.NameCounts.{count_in, CountsNames, counted_test}
 use Rattle.kfs_shape.proofs.NameCounts.{all_hold}

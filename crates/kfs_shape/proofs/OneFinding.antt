@@ -2,9 +2,9 @@
 use Rattle.std.proofs.Common.{◌≡◌, ℕ, List, [], ◌∷◌, ◌++◌, Option, Some, None, Result, Ok, Err, refl, sym, ap, ◌∙◌}
 use Rattle.std.specs.Result.{IsErrAnd}
 use Rattle.kfs_model.specs.Table.{option_or}
-use Rattle.kfs_model_device.specs.RawImage.{RawImage}
-use Rattle.kfs_model_device.specs.Rules.{Test}
-use Rattle.kfs_model_device.specs.Finding.{Finding, least_failed, finding_from, finding_of}
+use Rattle.kfs_model.specs.Device.RawImage.{RawImage}
+use Rattle.kfs_model.specs.Device.Rules.{Test}
+use Rattle.kfs_model.specs.Device.Finding.{Finding, least_failed, finding_from, finding_of}
 use Rattle.kfs_shape.specs.declared.fault.ShapeFault.{ShapeFault}
 use Rattle.kfs_shape.specs.declared.fault.ShapeFault.TheVariants.{Found, OutOfMemory}
 use Rattle.kfs_shape.specs.Findings.{finding_shown, node_rules, name_rules, extent_rules, Names, FindsNoneWhere}

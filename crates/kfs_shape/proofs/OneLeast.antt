@@ -2,8 +2,8 @@
 use Rattle.std.proofs.Common.{◌≡◌, ℕ, ◌<◌, ◌≤◌, Bool, true, false, cond, List, [], ◌∷◌, map, ⊎_elim, Option, Some, None, refl, ap, arith}
 use Rattle.std.specs.List.{AllByRecursion}
 use Rattle.std.proofs.lemmas.Bool.{cases_lt}
-use Rattle.kfs_model_device.specs.Rules.{Test, test}
-use Rattle.kfs_model_device.specs.Finding.{least_of, least_failed}
+use Rattle.kfs_model.specs.Device.Rules.{Test, test}
+use Rattle.kfs_model.specs.Device.Finding.{least_of, least_failed}
 
 -- no number up to this one
 abbrev pub Past : ℕ → Option ℕ → Type 0

@@ -5,21 +5,21 @@ use Rattle.std.proofs.lemmas.Bool.{and_right, ne_eqb}
 use Rattle.std.proofs.lemmas.List.{append-nil, drop_more, drop_all, get_or-replicate, length-replicate, take_all}
 use Rattle.std.proofs.lemmas.List.Elements.{recursion_from_All, All-map}
 use Rattle.std.proofs.lemmas.Option.{slice_get-get_or, slice_get_past}
-use Rattle.kfs_entry_value.specs.declared.plan.NameRow.{NameRow as CodeNameRow}
-use Rattle.kfs_entry_value.specs.Views.{name_row_of}
+use Rattle.kfs_types.specs.declared.plan.NameRow.{NameRow as CodeNameRow}
+use Rattle.kfs_types.specs.Views.{name_row_of}
 use Rattle.kfs_model.specs.Table.{get, option_or}
 use Rattle.kfs_model.specs.Sight.{is_directory, holder}
 use Rattle.kfs_model.proofs.CleanIsAllowed.{right}
 use Rattle.kfs_model.proofs.Heads.{has_parent}
 use Rattle.kfs_model.specs.Plan.{keyed_name}
-use Rattle.kfs_model_device.specs.RawImage.{RawNode, RawImage, heads_of, names_of}
-use Rattle.kfs_model_device.specs.Rules.{with_previous, number_test, rule_1, rule_4, parent_of}
-use Rattle.kfs_model_device.specs.Finding.{least_failed}
-use Rattle.kfs_model_device.proofs.RulesHold.{AllHold}
-use Rattle.kfs_model_device.proofs.SoundImage.{some_directory, each_head}
-use Rattle.kfs_image_codec.specs.declared.raw.RawNode.{RawNode as CodeRawNode}
-use Rattle.kfs_image_codec.specs.declared.raw.RawImage.{RawImage as CodeRawImage}
-use Rattle.kfs_image_codec.specs.RawImages.{raw_node_of, raw_of}
+use Rattle.kfs_model.specs.Device.RawImage.{RawNode, RawImage, heads_of, names_of}
+use Rattle.kfs_model.specs.Device.Rules.{with_previous, number_test, rule_1, rule_4, parent_of}
+use Rattle.kfs_model.specs.Device.Finding.{least_failed}
+use Rattle.kfs_model.proofs.DeviceLemmas.RulesHold.{AllHold}
+use Rattle.kfs_model.proofs.DeviceLemmas.SoundImage.{some_directory, each_head}
+use Rattle.kfs_image.specs.declared.codec.raw.RawNode.{RawNode as CodeRawNode}
+use Rattle.kfs_image.specs.declared.codec.raw.RawImage.{RawImage as CodeRawImage}
+use Rattle.kfs_image.specs.Codec.RawImages.{raw_node_of, raw_of}
 use Rattle.kfs_shape.specs.Climbs.{ancestor_at}
 use Rattle.kfs_shape.proofs.NameCounts.{all_hold, names_listed}
 

@@ -9,11 +9,11 @@ use Rattle.kfs_model.specs.Header.{Header}
 use Rattle.kfs_model.specs.Table.{Table, numbers, pairs, get}
 use Rattle.kfs_model.specs.Placement.{TierSizes, tier_size}
 use Rattle.kfs_model.proofs.CleanIsAllowed.{left, right}
-use Rattle.kfs_model_device.specs.RawImage.{ExtentRow, RawImage, heads_of}
-use Rattle.kfs_model_device.specs.Rules.{with_previous, is_above, ends_in_file, is_extent, share_place, extent_test, rule_8, tier_test, rule_9}
-use Rattle.kfs_model_device.specs.Finding.{least_failed}
-use Rattle.kfs_model_device.proofs.Among.{Among, among_all, among_right}
-use Rattle.kfs_model_device.proofs.RulesHold.{AllHold}
+use Rattle.kfs_model.specs.Device.RawImage.{ExtentRow, RawImage, heads_of}
+use Rattle.kfs_model.specs.Device.Rules.{with_previous, is_above, ends_in_file, is_extent, share_place, extent_test, rule_8, tier_test, rule_9}
+use Rattle.kfs_model.specs.Device.Finding.{least_failed}
+use Rattle.kfs_model.proofs.DeviceLemmas.Among.{Among, among_all, among_right}
+use Rattle.kfs_model.proofs.DeviceLemmas.RulesHold.{AllHold}
 use Rattle.kfs_shape.proofs.NameCounts.{all_hold}
 use Rattle.kfs_shape.specs.Counts.{count_at}
 use Rattle.kfs_shape.specs.Places.{first_position, has_position, TellsWhetherAlone}

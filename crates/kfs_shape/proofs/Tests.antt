@@ -4,8 +4,8 @@ use Rattle.std.specs.Option.{option_map}
 use Rattle.std.proofs.lemmas.Bool.{ne_eqb}
 use Rattle.std.proofs.lemmas.List.{drop_more, drop_all}
 use Rattle.std.proofs.lemmas.Option.{slice_get-get_or}
-use Rattle.kfs_model_device.specs.Rules.{Test, with_previous}
-use Rattle.kfs_model_device.specs.Finding.{least_of, least_failed}
+use Rattle.kfs_model.specs.Device.Rules.{Test, with_previous}
+use Rattle.kfs_model.specs.Device.Finding.{least_of, least_failed}
 use Rattle.kfs_shape.specs.Least.{merged, before}
 
 -- the least number so far goes on with the rest

@@ -2,8 +2,8 @@
 use Rattle.std.specs.Prelude.{◌≡◌, ℕ, ◌<◌, ◌==◌, ◌&&◌, ◌||◌, Bool, false, List, length, slice_get, Option, Some, None, if◌then◌else◌}
 use Rattle.kfs_model.specs.Table.{option_or}
 use Rattle.kfs_model.specs.Sight.{is_file}
-use Rattle.kfs_model_device.specs.RawImage.{RawNode, RawImage}
-use Rattle.kfs_model_device.specs.Rules.{Test, test, parent_of}
+use Rattle.kfs_model.specs.Device.RawImage.{RawNode, RawImage}
+use Rattle.kfs_model.specs.Device.Rules.{Test, test, parent_of}
 
 -- where the list leads from a number; nowhere for a number past its end
 abbrev pub ancestor_at : List (Option ℕ) → (number : ℕ) → Option ℕ

@@ -3,8 +3,8 @@ use Rattle.std.specs.Prelude.{◌+◌, ◌*◌, ◌==◌, ◌&&◌, ◌||◌, no
 use Rattle.kfs_model.specs.Header.{Header}
 use Rattle.kfs_model.specs.Limits.{block_size}
 use Rattle.kfs_model.specs.Table.{numbers, pairs}
-use Rattle.kfs_model_device.specs.RawImage.{ExtentRow}
-use Rattle.kfs_model_device.specs.Rules.{is_above, ends_in_file}
+use Rattle.kfs_model.specs.Device.RawImage.{ExtentRow}
+use Rattle.kfs_model.specs.Device.Rules.{is_above, ends_in_file}
 
 -- whether the extent begins where the one before ends, or later, or is of another file
 abbrev pub is_behind : Option ExtentRow → ExtentRow → Bool

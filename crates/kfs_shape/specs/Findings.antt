@@ -1,8 +1,8 @@
 -- What the check of an image answers, next to the finding of the definitions.
 use Rattle.std.specs.Prelude.{◌≡◌, ℕ, List, [], ◌∷◌, Option, Some, None, Result, Ok, Err}
-use Rattle.kfs_model_device.specs.RawImage.{RawImage}
-use Rattle.kfs_model_device.specs.Rules.{Test, rule_1, rule_2, rule_3, rule_4, rule_5, rule_6, rule_7, rule_8, rule_9, rule_10}
-use Rattle.kfs_model_device.specs.Finding.{Finding}
+use Rattle.kfs_model.specs.Device.RawImage.{RawImage}
+use Rattle.kfs_model.specs.Device.Rules.{Test, rule_1, rule_2, rule_3, rule_4, rule_5, rule_6, rule_7, rule_8, rule_9, rule_10}
+use Rattle.kfs_model.specs.Device.Finding.{Finding}
 use Rattle.kfs_shape.specs.declared.fault.Finding.{Finding as CodeFinding}
 use Rattle.kfs_shape.specs.declared.fault.ShapeFault.{ShapeFault}
 use Rattle.kfs_shape.specs.declared.fault.ShapeFault.TheVariants.{Found, OutOfMemory}

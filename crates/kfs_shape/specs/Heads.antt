@@ -1,13 +1,13 @@
 -- The code's map of the headers of node rows.
 use Rattle.std.specs.Prelude.{◌≡◌, ℕ, Option}
 use Rattle.std.specs.Option.{option_map}
-use Rattle.kfs_entry_value.specs.declared.header.Header.{Header as CodeHeader}
-use Rattle.kfs_entry_value.specs.Views.{header_of}
+use Rattle.kfs_types.specs.declared.header.Header.{Header as CodeHeader}
+use Rattle.kfs_types.specs.Views.{header_of}
 use Rattle.kfs_model.specs.Header.{Header}
 use Rattle.kfs_model.specs.Table.{Table, numbers, get}
-use Rattle.kfs_model_device.specs.RawImage.{heads_of}
-use Rattle.kfs_image_codec.specs.declared.raw.RawImage.{RawImage as CodeRawImage}
-use Rattle.kfs_image_codec.specs.RawImages.{raw_of}
+use Rattle.kfs_model.specs.Device.RawImage.{heads_of}
+use Rattle.kfs_image.specs.declared.codec.raw.RawImage.{RawImage as CodeRawImage}
+use Rattle.kfs_image.specs.Codec.RawImages.{raw_of}
 
 -- the header that the map has at a number
 abbrev pub head_at : Table numbers CodeHeader → (number : ℕ) → Option Header

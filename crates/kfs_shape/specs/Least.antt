@@ -1,6 +1,6 @@
 -- The least number at which one of several tests fails.
 use Rattle.std.specs.Prelude.{ℕ, ◌-◌, ◌==◌, if◌then◌else◌, List, Option, Some, None, slice_get}
-use Rattle.kfs_model_device.specs.Finding.{least_of}
+use Rattle.kfs_model.specs.Device.Finding.{least_of}
 
 -- the lesser of two numbers, each of which may be missing
 abbrev pub merged : Option ℕ → Option ℕ → Option ℕ

@@ -1,10 +1,10 @@
 -- How many names lead to each number, as a list by number.
 use Rattle.std.specs.Prelude.{◌≡◌, ℕ, ◌+◌, ◌<◌, ◌==◌, Bool, List, length, count_by, slice_get, Some, None, if◌then◌else◌}
 use Rattle.std.specs.List.{AllByRecursion}
-use Rattle.kfs_entry_value.specs.declared.plan.NameRow.{NameRow}
+use Rattle.kfs_types.specs.declared.plan.NameRow.{NameRow}
 use Rattle.kfs_model.specs.Tree.{name_count}
-use Rattle.kfs_model_device.specs.RawImage.{RawNode, RawImage, names_of}
-use Rattle.kfs_model_device.specs.Rules.{Test, test, names_fit}
+use Rattle.kfs_model.specs.Device.RawImage.{RawNode, RawImage, names_of}
+use Rattle.kfs_model.specs.Device.Rules.{Test, test, names_fit}
 
 abbrev pub leads_to : (number : ℕ) → NameRow → Bool
 leads_to number row = row.number == number

@@ -4,7 +4,7 @@ use Rattle.kfs_model.specs.Header.{Header}
 use Rattle.kfs_model.specs.PlanRow.{NameRow}
 use Rattle.kfs_model.specs.Sight.{is_directory}
 use Rattle.kfs_model.specs.Tree.{name_order}
-use Rattle.kfs_model_device.specs.Rules.{is_above}
+use Rattle.kfs_model.specs.Device.Rules.{is_above}
 
 -- whether the row is above the row before, and its directory, whose header is given, is one
 abbrev pub is_in_place : Option Header → Option NameRow × NameRow → Bool

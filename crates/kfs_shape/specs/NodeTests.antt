@@ -1,6 +1,6 @@
 -- The tests of single node rows.
-use Rattle.kfs_model_device.specs.RawImage.{RawNode}
-use Rattle.kfs_model_device.specs.Rules.{Test, header_test}
+use Rattle.kfs_model.specs.Device.RawImage.{RawNode}
+use Rattle.kfs_model.specs.Device.Rules.{Test, header_test}
 use Rattle.kfs_shape.specs.Climbs.{top_test}
 use Rattle.kfs_shape.specs.NameCounts.{counted_test}
 use Rattle.kfs_shape.specs.declared.node_test.NodeTest.{NodeTest}

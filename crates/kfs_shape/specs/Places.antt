@@ -1,10 +1,10 @@
 -- The places of all tiers numbered in a row, and how many extents have each.
 use Rattle.std.specs.Prelude.{◌≡◌, ℕ, ◌+◌, ◌*◌, ◌<◌, ◌≤◌, ◌&&◌, nat_le, nat_lt, Bool, true, false}
 use Rattle.std.specs.BTreeMap.{BTreeMap}
-use Rattle.kfs_model_device.specs.RawImage.{ExtentRow}
-use Rattle.kfs_image_codec.specs.declared.raw.ExtentRow.{ExtentRow as CodeExtentRow}
+use Rattle.kfs_model.specs.Device.RawImage.{ExtentRow}
+use Rattle.kfs_image.specs.declared.codec.raw.ExtentRow.{ExtentRow as CodeExtentRow}
 use Rattle.kfs_shape.specs.Counts.{count_at}
-use Rattle.kfs_image_codec.specs.RawImages.{extent_row_of}
+use Rattle.kfs_image.specs.Codec.RawImages.{extent_row_of}
 
 -- a number above the sum of any place and count of blocks
 abbrev pub tier_span : ℕ

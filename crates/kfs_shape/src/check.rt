@@ -1,10 +1,10 @@
 //! The check of an image by all ten rules, in order.
 ghost use Rattle.std.specs.Prelude.{◌≡◌, None, IfOk};
-ghost use Rattle.kfs_model_device.specs.Rules.{rule_1};
-ghost use Rattle.kfs_model_device.specs.Finding.{finding_from, finding_of, least_failed};
+ghost use Rattle.kfs_model.specs.Device.Rules.{rule_1};
+ghost use Rattle.kfs_model.specs.Device.Finding.{finding_from, finding_of, least_failed};
 ghost use Rattle.kfs_shape.specs.Findings.{found_at, node_rules, name_rules, extent_rules, FindsNoneWhere};
 ghost use Rattle.kfs_shape.specs.Heads.{ShowsHeads};
-ghost use Rattle.kfs_image_codec.specs.RawImages.{raw_of};
+ghost use Rattle.kfs_image.specs.Codec.RawImages.{raw_of};
 
 use crate::climbs::least_unrooted;
 use crate::extents::{least_misplaced, least_past_tier};
@@ -14,9 +14,9 @@ use crate::names::{least_lost_target, least_miscounted};
 use crate::node_test::{AskRows, InTurn};
 use crate::places::least_shared;
 use crate::{names, nodes};
-use kfs_entry_value::Header;
-use kfs_image_codec::RawImage;
+use kfs_image::RawImage;
 use kfs_map_pages::Pages;
+use kfs_types::Header;
 use std::alloc::Allocator;
 
 /// A finding, if there is a number at which the rule is broken.
@@ -93,7 +93,7 @@ pub fn check_asking<A: Allocator + Copy, T: AskRows>(
     check_extents(alloc, raw, &headers)
 }
 
-/// Checks whether an image is well formed. crates/kfs_model_device/specs/Rules.antt has the ten rules.
+/// Checks whether an image is well formed. crates/kfs_model/specs/Device/Rules.antt has the ten rules.
 ///
 /// Refused with `Found`, the least rule that is broken and the least number at which it is, or with
 /// `OutOfMemory` where memory is refused. The image isn't changed.

@@ -1,18 +1,18 @@
 //! Rule 7: from each directory a climb along the parents reaches the root.
 ghost use Rattle.std.specs.Prelude.{◌≡◌, ◌||◌, ◌<◌, ◌≤◌, ℕ, IfOk, None, length, map, Some, true};
 ghost use Rattle.kfs_model.specs.Sight.{is_directory, is_file};
-ghost use Rattle.kfs_model_device.specs.Rules.{rule_1, rule_4, rule_7, reaches_root};
-ghost use Rattle.kfs_model_device.specs.Finding.{least_failed};
+ghost use Rattle.kfs_model.specs.Device.Rules.{rule_1, rule_4, rule_7, reaches_root};
+ghost use Rattle.kfs_model.specs.Device.Finding.{least_failed};
 ghost use Rattle.kfs_shape.specs.Climbs.{ancestor_at, ancestor_from, is_root, top_test, LeadsFirst, ParentsOf};
 ghost use Rattle.kfs_shape.specs.Heads.{head_at, ShowsHeads};
-ghost use Rattle.kfs_image_codec.specs.RawImages.{raw_node_of, raw_of};
+ghost use Rattle.kfs_image.specs.Codec.RawImages.{raw_node_of, raw_of};
 
 use crate::counts::span;
 use crate::heads::has_directory;
 use crate::node_test::{AskRows, NodeTest};
-use kfs_entry_value::{Header, Kind, NameRow, ROOT};
-use kfs_image_codec::{RawImage, RawNode};
+use kfs_image::{RawImage, RawNode};
 use kfs_map_pages::Pages;
+use kfs_types::{Header, Kind, NameRow, ROOT};
 use std::alloc::{AllocError, Allocator};
 
 /// 2 to the power of this is more steps than any climb without a circle takes.

@@ -3,7 +3,7 @@ ghost use Rattle.std.specs.Prelude.{◌≡◌, ◌+◌, ◌≤◌, ◌<◌, ◌^
 ghost use Rattle.std.specs.Ordering.{eq_by_cmp, nat_cmp};
 ghost use Rattle.kfs_shape.specs.Counts.{count_at};
 
-use kfs_image_codec::RawNode;
+use kfs_image::RawNode;
 use std::alloc::{AllocError, Allocator};
 use std::collections::BTreeMap;
 

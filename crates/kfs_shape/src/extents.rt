@@ -2,16 +2,16 @@
 ghost use Rattle.std.specs.Prelude.{◌≡◌};
 ghost use Rattle.std.specs.Option.{option_copied, option_map};
 ghost use Rattle.kfs_model.specs.Table.{numbers, pairs};
-ghost use Rattle.kfs_model_device.specs.Rules.{is_above, ends_in_file, tier_test, rule_8, rule_9};
-ghost use Rattle.kfs_model_device.specs.Finding.{least_failed};
+ghost use Rattle.kfs_model.specs.Device.Rules.{is_above, ends_in_file, tier_test, rule_8, rule_9};
+ghost use Rattle.kfs_model.specs.Device.Finding.{least_failed};
 ghost use Rattle.kfs_shape.specs.Heads.{head_at, ShowsHeads};
 ghost use Rattle.kfs_shape.specs.Extents.{is_behind, is_full, is_in_place};
-ghost use Rattle.kfs_image_codec.specs.RawImages.{extent_row_of, raw_of};
+ghost use Rattle.kfs_image.specs.Codec.RawImages.{extent_row_of, raw_of};
 
 use crate::least::{noted, previous};
-use kfs_entry_value::{BLOCK_SIZE, Header, Kind, TierSizes};
-use kfs_image_codec::{ExtentRow, RawImage};
+use kfs_image::{ExtentRow, RawImage};
 use kfs_map_pages::Pages;
+use kfs_types::{BLOCK_SIZE, Header, Kind, TierSizes};
 use std::alloc::Allocator;
 
 /// Whether the extent's file number and block are above those of the row before.

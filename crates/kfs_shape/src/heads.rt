@@ -1,16 +1,15 @@
 //! The headers by number, and rule 2: number 1 is a directory.
 ghost use Rattle.std.specs.Prelude.{◌≡◌, IfOk, None, is_some};
 ghost use Rattle.kfs_model.specs.Sight.{is_directory};
-ghost use Rattle.kfs_model_device.specs.Rules.{rule_1, rule_2};
-ghost use Rattle.kfs_model_device.specs.Finding.{least_failed};
-ghost use Rattle.kfs_image_codec.specs.RawImages.{raw_of};
+ghost use Rattle.kfs_model.specs.Device.Rules.{rule_1, rule_2};
+ghost use Rattle.kfs_model.specs.Device.Finding.{least_failed};
+ghost use Rattle.kfs_image.specs.Codec.RawImages.{raw_of};
 ghost use Rattle.kfs_shape.specs.Heads.{head_at, ShowsHeads};
 
 use crate::least::noted;
-use kfs_entry_value::{Header, Kind, ROOT};
-use kfs_image_codec::RawImage;
-use kfs_image_raw::raw_headers;
+use kfs_image::{RawImage, raw_headers};
 use kfs_map_pages::Pages;
+use kfs_types::{Header, Kind, ROOT};
 use std::alloc::{AllocError, Allocator};
 
 /// The header of each node row, by number. Condition: the rows ascend, and their numbers are 1 to

@@ -1,7 +1,7 @@
 //! The least number at which a test of a rule fails.
 ghost use Rattle.std.specs.Prelude.{◌≡◌, ℕ, Some, Option, if◌then◌else◌};
 ghost use Rattle.std.specs.Option.{option_copied};
-ghost use Rattle.kfs_model_device.specs.Finding.{least_of};
+ghost use Rattle.kfs_model.specs.Device.Finding.{least_of};
 ghost use Rattle.kfs_shape.specs.Least.{merged, before};
 
 /// The least number at which a test failed, after one more test at `number`.

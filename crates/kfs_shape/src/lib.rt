@@ -1,7 +1,7 @@
 //! Checks the ten rules of a raw image, and tells the least that is broken. Shows the change of a
 //! landing, too.
 //!
-//! It stands on the definitions of `kfs_model_device` and on `kfs_image`; `kfs_fsck` stands on it. Begin
+//! It stands on the definitions of `kfs_model` and on `kfs_image`; `kfs_fsck` stands on it. Begin
 //! with `check_shape`.
 #![tactic(auto)]
 
@@ -21,9 +21,9 @@ mod places;
 pub use check::check_asking;
 pub use check::check_shape;
 pub use fault::{Finding, ShapeFault};
-pub use kfs_entry_value::{Header, Kind, Name, NameRow, TierSizes};
 pub use kfs_image::{
     BlockRow, BlockRun, Extent, ExtentRow, Fill, Net, Place, RawImage, RawNode, net_apply,
 };
+pub use kfs_types::{Header, Kind, Name, NameRow, TierSizes};
 #[doc(hidden)]
 pub use node_test::{AskRows, NodeTest};

@@ -2,11 +2,11 @@
 ghost use Rattle.std.specs.Prelude.{◌≡◌, ◌+◌, ◌<◌, ◌^◌, IfOk, None, length, map};
 ghost use Rattle.std.specs.Option.{option_copied, option_map};
 ghost use Rattle.kfs_model.specs.Tree.{name_order};
-ghost use Rattle.kfs_entry_value.specs.Views.{kind_of, name_row_of};
-ghost use Rattle.kfs_model_device.specs.Rules.{is_above, names_fit, rule_4, rule_5, rule_6};
-ghost use Rattle.kfs_model_device.specs.Finding.{least_failed};
+ghost use Rattle.kfs_types.specs.Views.{kind_of, name_row_of};
+ghost use Rattle.kfs_model.specs.Device.Rules.{is_above, names_fit, rule_4, rule_5, rule_6};
+ghost use Rattle.kfs_model.specs.Device.Finding.{least_failed};
 ghost use Rattle.kfs_shape.specs.Names.{is_in_place};
-ghost use Rattle.kfs_image_codec.specs.RawImages.{raw_node_of, raw_of};
+ghost use Rattle.kfs_image.specs.Codec.RawImages.{raw_node_of, raw_of};
 ghost use Rattle.kfs_shape.specs.NameCounts.{CountsLeads, CountsNames, CountsOne, count_in, counted_test};
 ghost use Rattle.kfs_shape.specs.Heads.{head_at, ShowsHeads};
 
@@ -14,9 +14,9 @@ use crate::counts::span;
 use crate::heads::{has_directory, has_node};
 use crate::least::{noted, previous};
 use crate::node_test::{AskRows, NodeTest};
-use kfs_entry_value::{Header, Kind, LINK_LIMIT, NameRow, ROOT};
-use kfs_image_codec::{RawImage, RawNode};
+use kfs_image::{RawImage, RawNode};
 use kfs_map_pages::Pages;
+use kfs_types::{Header, Kind, LINK_LIMIT, NameRow, ROOT};
 use std::alloc::{AllocError, Allocator};
 
 /// Whether the row's directory and name are above those of the row before.

@@ -1,14 +1,14 @@
 //! The tests of single node rows, and how one of them is asked of many rows.
 ghost use Rattle.std.specs.Prelude.{◌≡◌, map};
-ghost use Rattle.kfs_model_device.specs.Finding.{least_failed};
+ghost use Rattle.kfs_model.specs.Device.Finding.{least_failed};
 ghost use Rattle.kfs_shape.specs.NodeTests.{test_of};
-ghost use Rattle.kfs_image_codec.specs.RawImages.{raw_node_of};
+ghost use Rattle.kfs_image.specs.Codec.RawImages.{raw_node_of};
 
 use crate::climbs::is_below_root;
 use crate::least::noted;
 use crate::names::has_right_names;
 use crate::nodes::is_header_in_range;
-use kfs_image_codec::RawNode;
+use kfs_image::RawNode;
 
 /// A test of a node row by itself.
 #[derive(Clone, Copy)]

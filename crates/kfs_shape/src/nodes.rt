@@ -2,16 +2,14 @@
 ghost use Rattle.std.specs.Prelude.{◌≡◌};
 ghost use Rattle.std.specs.Option.{option_copied, option_map};
 ghost use Rattle.kfs_model.specs.Spelling.{greatest_mode_of};
-ghost use Rattle.kfs_model_device.specs.Rules.{number_test, header_test, rule_1, rule_3};
-ghost use Rattle.kfs_model_device.specs.Finding.{least_failed};
-ghost use Rattle.kfs_image_codec.specs.RawImages.{raw_node_of, raw_of};
+ghost use Rattle.kfs_model.specs.Device.Rules.{number_test, header_test, rule_1, rule_3};
+ghost use Rattle.kfs_model.specs.Device.Finding.{least_failed};
+ghost use Rattle.kfs_image.specs.Codec.RawImages.{raw_node_of, raw_of};
 
 use crate::least::{noted, previous};
 use crate::node_test::{AskRows, NodeTest};
-use kfs_entry_value::{
-    GREATEST_MODE, GREATEST_MODE_OF_VERSION_1, GREATEST_NUMBER, Kind, SIZE_LIMIT,
-};
-use kfs_image_codec::{RawImage, RawNode};
+use kfs_image::{RawImage, RawNode};
+use kfs_types::{GREATEST_MODE, GREATEST_MODE_OF_VERSION_1, GREATEST_NUMBER, Kind, SIZE_LIMIT};
 use std::alloc::Allocator;
 
 /// Whether the number is 1 to 65,536 and above that of the row before.

@@ -1,15 +1,15 @@
 //! Rule 10: no device block is in two extents.
 ghost use Rattle.std.specs.Prelude.{◌≡◌, ◌+◌, ◌<◌, ◌^◌, ℕ, IfOk, None, count_by, if◌then◌else◌};
-ghost use Rattle.kfs_model_device.specs.Rules.{rule_8, rule_9, rule_10};
-ghost use Rattle.kfs_model_device.specs.Finding.{least_failed};
+ghost use Rattle.kfs_model.specs.Device.Rules.{rule_8, rule_9, rule_10};
+ghost use Rattle.kfs_model.specs.Device.Finding.{least_failed};
 ghost use Rattle.kfs_shape.specs.Counts.{count_at};
 ghost use Rattle.kfs_shape.specs.Places.{first_position, has_position, lies_at, TellsWhetherAlone};
-ghost use Rattle.kfs_image_codec.specs.RawImages.{extent_row_of, raw_of};
+ghost use Rattle.kfs_image.specs.Codec.RawImages.{extent_row_of, raw_of};
 
 use crate::counts::{count_more, count_of};
 use crate::least::noted;
-use kfs_entry_value::TIER_LIMIT;
-use kfs_image_codec::{ExtentRow, RawImage};
+use kfs_image::{ExtentRow, RawImage};
+use kfs_types::TIER_LIMIT;
 use std::alloc::{AllocError, Allocator};
 use std::collections::BTreeMap;
 

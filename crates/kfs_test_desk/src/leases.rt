@@ -3,11 +3,11 @@
 
 use crate::desks::{AMPLE, client, grown};
 use kfs_desk::Desk;
-use kfs_entry_value::Nothing;
 use kfs_image_nodes::Shape;
 use kfs_lease::LeaseKind::{Read, Write};
 use kfs_lease::{LeaseFault, LeaseKind, Leases};
 use kfs_test_support::refusing::Refusing;
+use kfs_types::Nothing;
 use std::alloc::{Allocator, Global};
 use std::process::Abort;
 

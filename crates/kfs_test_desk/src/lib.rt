@@ -1,7 +1,7 @@
 //! Tests of what only calls of the desk can show: leases, the places of blocks, old views, as many
 //! nodes as there may be, and scripts of workers. What command lines can show is in the scripts of
 //! `kfs_rows`. The expected values come from docs/FORMATS.md and from the examples of
-//! `kfs_model_examples`, never from the program's own output.
+//! `kfs_model`, never from the program's own output.
 //!
 //! It stands on `kfs_workers_script`, `kfs_desk` and `kfs_test_support`. Begin with `desks.rt`, which has the
 //! calls.
@@ -16,6 +16,8 @@ mod bytes;
 mod desks;
 #[cfg(test)]
 mod leases;
+#[cfg(test)]
+mod moves;
 #[cfg(test)]
 mod pages;
 #[cfg(test)]

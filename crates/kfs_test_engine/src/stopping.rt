@@ -1,7 +1,7 @@
 //! How the engine ends: at the end of its input, or early.
 
 use crate::streams::{Narrow, Slow, Then};
-use kfs_program_engine::{EngineFault, engine};
+use kfs_program::{EngineFault, engine};
 use std::io;
 use std::io::{Read, Write};
 use std::test::Fail;

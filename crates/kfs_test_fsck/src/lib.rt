@@ -1,7 +1,7 @@
 //! Tests of the checker that lets images in, and of images made of raw ones. The expected values come
-//! from docs/FORMATS.md and from the examples of `kfs_model_device`, never from the program's own output.
+//! from docs/FORMATS.md and from the examples of `kfs_model`, never from the program's own output.
 //!
-//! It stands on `kfs_image`, `kfs_shape`, `kfs_fsck`, `kfs_test_images` and `kfs_test_support`. Begin with
+//! It stands on `kfs_image`, `kfs_shape`, `kfs_fsck`, `kfs_test_support`. Begin with
 //! `rules.rt`.
 //!
 //! A test is proved too, and would have to carry the clauses of each call that it makes. So each call

@@ -1,7 +1,7 @@
 //! Images with so many nodes that their rules are tested in several threads.
 
 use crate::rules::found_in;
-use kfs_test_images::many::{GREATEST, chain};
+use kfs_test_support::images::many::{GREATEST, chain};
 use std::alloc::Allocator;
 use std::process::Abort;
 use std::thread::Threads;

@@ -1,14 +1,14 @@
 //! Each growth of memory refused in turn: the raw image comes back as it was, and is then let in.
 ghost use Rattle.std.specs.Prelude.{IsTrue};
-ghost use Rattle.kfs_model_device.specs.Finding.{IsWellFormed};
-ghost use Rattle.kfs_image_codec.specs.RawImages.{raw_of};
+ghost use Rattle.kfs_model.specs.Device.Finding.{IsWellFormed};
+ghost use Rattle.kfs_image.specs.Codec.RawImages.{raw_of};
 
 use crate::shown::{is_same, shows_right};
 use kfs_fsck::{FsckFault, fsck};
 use kfs_image::{Image, RawImage};
 use kfs_shape::check_shape;
-use kfs_test_images::broken::RIGHT;
-use kfs_test_images::small::image;
+use kfs_test_support::images::broken::RIGHT;
+use kfs_test_support::images::small::image;
 use kfs_test_support::refusing::Refusing;
 use std::alloc::{Allocator, Global};
 use std::process::Abort;

@@ -1,8 +1,8 @@
 //! Each rule of an image broken alone, and together with each later rule; the least is found.
 
 use kfs_fsck::{FsckFault, RawImage, fsck};
-use kfs_test_images::broken::{RIGHT, RULES, broken, due};
-use kfs_test_images::small::{SmallImage, image};
+use kfs_test_support::images::broken::{RIGHT, RULES, broken, due};
+use kfs_test_support::images::small::{SmallImage, image};
 use std::alloc::Allocator;
 use std::process::Abort;
 use std::thread::Threads;

@@ -3,7 +3,7 @@
 use kfs_image::{ExtentRow, Image, RawImage, read_file};
 use std::alloc::Allocator;
 
-/// Of the image with the rows of `RIGHT` of `kfs_test_images`: the places of file 6's blocks, bytes of it
+/// Of the image with the rows of `RIGHT` of `kfs_test_support`: the places of file 6's blocks, bytes of it
 /// from one block to the next, free places of tier 2, the nodes behind the root, and the first name of
 /// directory 5 with its number.
 pub type Shown = (

@@ -3,7 +3,7 @@
 use crate::rules::found_in;
 use NodeLine::{Directory, Empty, File};
 use kfs_image::{Kind, RawImage, decode_image};
-use kfs_test_images::small::{ExtentLine, NodeLine, SmallImage, image};
+use kfs_test_support::images::small::{ExtentLine, NodeLine, SmallImage, image};
 use kfs_test_support::vectors::ROOT_IMAGE;
 use std::alloc::{AllocError, Allocator, Global};
 use std::process::Abort;

@@ -4,7 +4,7 @@ use Rattle.kfs_model.specs.Table.{numbers, get}
 use Rattle.kfs_model.specs.Tree.{Tree, NameTable, name_order, headers}
 use Rattle.kfs_model.specs.Plan.{header_now, number_now, AreDifferences}
 use Rattle.kfs_model.specs.Judgement.{State, Submission, Verdict, Yes, No}
-use Rattle.kfs_model_device.specs.ShownTree.{DeviceImage, IsLawful, shown_tree}
+use Rattle.kfs_model.specs.Device.ShownTree.{DeviceImage, IsLawful, shown_tree}
 use Rattle.kfs_image_nodes.specs.Contents.{contents_in}
 use Rattle.kfs_image_nodes.specs.Change.{after_rows}
 use Rattle.kfs_image.specs.Image.{contents_of}
@@ -12,11 +12,11 @@ use Rattle.kfs_image.specs.Net.{after_net, cut}
 use Rattle.kfs_image.proofs.KeptTrees.{image_kept, kept_is_lawful}
 use Rattle.kfs_image.proofs.NetTables.{net_makes}
 use Rattle.kfs_image_nodes.specs.declared.net.Net.{Net}
-use Rattle.kfs_judge_step.specs.Rows.{keyed_name_row, keyed_node_row}
+use Rattle.kfs_judge.specs.Step.Rows.{keyed_name_row, keyed_node_row}
 use Rattle.kfs_plan.specs.Judging.{IsVerdict, TellsVerdict}
 use Rattle.kfs_plan.specs.declared.submission.Outcome.TheVariants as outcomes
-use Rattle.kfs_entry_value.specs.declared.entry.Log.{Log as CodeLog}
-use Rattle.kfs_entry_value.specs.declared.plan.Plan.{Plan as CodePlan}
+use Rattle.kfs_types.specs.declared.entry.Log.{Log as CodeLog}
+use Rattle.kfs_types.specs.declared.plan.Plan.{Plan as CodePlan}
 
 module _ {A : Type 0} (image : DeviceImage) (lawful : IsLawful image) (s : State) (shown : s.tree ≡ shown_tree image) (submission : Submission) (log : CodeLog A) (plan : CodePlan A) (net : Net A) (told : ℕ) where
   pub net_is_lawful : IsVerdict s submission (outcomes.Yes log plan net told) → IsLawful (after_net net image)

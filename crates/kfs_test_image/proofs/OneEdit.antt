@@ -5,7 +5,7 @@ use Rattle.std.proofs.lemmas.List.Elements.{All-cons, All-nil}
 use Rattle.kfs_model.specs.Limits.{block_size}
 use Rattle.kfs_model.specs.Table.{changed}
 use Rattle.kfs_model.specs.Placement.{Place, tier_size, is_free}
-use Rattle.kfs_model_device.specs.ShownTree.{DeviceImage, IsLawful}
+use Rattle.kfs_model.specs.Device.ShownTree.{DeviceImage, IsLawful}
 use Rattle.kfs_image.specs.declared.edit.Edit.{Edit}
 use Rattle.kfs_image.specs.declared.edit.Edit.TheVariants.{Map, Bytes}
 use Rattle.kfs_image.specs.Image.{place_at}

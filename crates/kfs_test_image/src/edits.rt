@@ -6,8 +6,8 @@ ghost use Rattle.kfs_test_image.specs.Edits.{each_kind};
 
 use crate::fits::{block_count, is_place_free};
 use crate::landed::{Made, image_with};
-use kfs_entry_value::BLOCK_LEN;
 use kfs_image::{Edit, Header, Image, Name, Place, header};
+use kfs_types::BLOCK_LEN;
 use std::alloc::{AllocError, Allocator, Global};
 use std::process::Abort;
 

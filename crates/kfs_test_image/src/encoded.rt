@@ -2,8 +2,7 @@
 
 use crate::edits::{lay, write};
 use crate::landed::{Made, image_with};
-use kfs_image::{Image, Place};
-use kfs_image_encode::encode_image;
+use kfs_image::{Image, Place, encode_image};
 use kfs_test_support::vectors::ROOT_IMAGE;
 use std::alloc::{AllocError, Global};
 use std::process::Abort;

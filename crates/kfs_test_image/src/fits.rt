@@ -1,11 +1,11 @@
 //! Whether a block can be put at a place, found out as a test runs.
 ghost use Rattle.std.specs.Prelude.{◌≡◌, ◌<◌, true, option_map, IsTrue};
-ghost use Rattle.kfs_entry_value.specs.Views.{header_of};
+ghost use Rattle.kfs_types.specs.Views.{header_of};
 ghost use Rattle.kfs_model.specs.Placement.{tier_size, is_free};
 ghost use Rattle.kfs_image.specs.Net.{blocks_in};
 
-use kfs_entry_value::BLOCK_SIZE;
 use kfs_image::{Header, Image, Kind, Place};
+use kfs_types::BLOCK_SIZE;
 use std::alloc::Allocator;
 
 /// How many blocks the file has; 0 where there is no file.

@@ -1,10 +1,10 @@
 //! Images with the nodes that a log of client 7 makes.
 ghost use Rattle.std.specs.Prelude.{◌≡◌, IfSome, OnErr};
 ghost use Rattle.kfs_mode.specs.Clients.{ClientsAreDistinct};
-ghost use Rattle.kfs_model_device.specs.ShownTree.{IsLawful};
+ghost use Rattle.kfs_model.specs.Device.ShownTree.{IsLawful};
 ghost use Rattle.kfs_image.specs.Image as images;
 ghost use Rattle.kfs_image.specs.Net.{after_net};
-ghost use Rattle.kfs_judge_check.specs.View.{contents_of};
+ghost use Rattle.kfs_judge.specs.Check.View.{contents_of};
 
 use kfs_image::{Fill, Image, Net, TierSizes, net_apply};
 use kfs_judge::View;

@@ -13,11 +13,15 @@
 #[cfg(test)]
 mod edits;
 #[cfg(test)]
+mod encode;
+#[cfg(test)]
 mod encoded;
 #[cfg(test)]
 mod fits;
 #[cfg(test)]
 mod landed;
+#[cfg(test)]
+mod migrate;
 #[cfg(test)]
 mod refused;
 #[cfg(test)]

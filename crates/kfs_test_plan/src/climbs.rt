@@ -6,7 +6,7 @@ use kfs_judge::{EntryFault, Read, Reason};
 use kfs_lease::LeaseKind;
 use kfs_mode::Client;
 use kfs_plan::{Fault, Judged, Outcome, Submission, judge};
-use kfs_program_plan::make_plan;
+use kfs_plan_maker::make_plan;
 use kfs_test_support::vectors::EMPTY_PLAN;
 use std::alloc::{AllocError, Global};
 

@@ -5,7 +5,7 @@ use kfs_image::{Image, TierSizes};
 use kfs_lease::LeaseKind;
 use kfs_mode::Client;
 use kfs_plan::Submission;
-use kfs_program_plan::make_plan;
+use kfs_plan_maker::make_plan;
 use std::alloc::{AllocError, Allocator};
 
 /// Client 7, of uid and gid 1000 and the further group 50. It may give the numbers 2 to 99 to new nodes.

@@ -1,6 +1,6 @@
 //! Tests of the maker of plans: what it makes is what a desk accepts. Begin with `accepted.rt`.
 //!
-//! It stands on `kfs_program_plan` and `kfs_desk`. A test is proved, too, and carries the clauses of all calls that it makes.
+//! It stands on `kfs_plan_maker` and `kfs_desk`. A test is proved, too, and carries the clauses of all calls that it makes.
 //! So each call stands in a small function without clauses, which a test then makes.
 #![tactic(auto)]
 

@@ -1,7 +1,7 @@
 //! Images with as many nodes as there may be: directories inside each other.
 
 use kfs_shape::{ShapeFault, check_shape};
-use kfs_test_images::many::chain;
+use kfs_test_support::images::many::chain;
 use std::alloc::Allocator;
 use std::process::Abort;
 

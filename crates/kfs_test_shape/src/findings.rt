@@ -2,7 +2,9 @@
 
 use NodeLine::{Directory, Empty, File};
 use kfs_shape::Kind;
-use kfs_test_images::small::{ExtentLine, NameLine, NodeLine, SmallImage, found, found_in};
+use kfs_test_support::images::small::{
+    ExtentLine, NameLine, NodeLine, SmallImage, found, found_in,
+};
 use std::process::Abort;
 
 const A: &[u8] = b"a";

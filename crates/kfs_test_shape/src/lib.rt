@@ -1,8 +1,8 @@
 //! Tests of what is below every judgement: logs, plans and images as bytes, permission bits, and the
 //! check of raw images. The expected values come from docs/FORMATS.md and from the examples of
-//! `kfs_model_examples` and `kfs_model_device`, never from the program's own output.
+//! `kfs_model`, never from the program's own output.
 //!
-//! It stands on `kfs_entry`, `kfs_mode`, `kfs_image`, `kfs_shape`, `kfs_test_images` and `kfs_test_support`. Begin with `codec.rt`.
+//! It stands on `kfs_entry`, `kfs_mode`, `kfs_image`, `kfs_shape`, `kfs_test_support`. Begin with `codec.rt`.
 //!
 //! A test is proved too, and would have to carry the clauses of each call that it makes. So each call
 //! is in a small function without clauses, which a test then makes for each row of a table.

@@ -2,8 +2,8 @@
 //! check with one growth of memory refused.
 
 use kfs_shape::{Finding, ShapeFault, check_shape};
-use kfs_test_images::broken::{RIGHT, RULES, broken, due};
-use kfs_test_images::small::{SmallImage, found, image};
+use kfs_test_support::images::broken::{RIGHT, RULES, broken, due};
+use kfs_test_support::images::small::{SmallImage, found, image};
 use kfs_test_support::refusing::Refusing;
 use std::alloc::Allocator;
 use std::process::Abort;

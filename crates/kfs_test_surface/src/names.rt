@@ -19,9 +19,8 @@ pub mod image {
     pub use kfs_image::{
         Answer, BLOCK_SIZE, Cell, Edit, Extent, ExtentRow, GREATEST_MODE, GREATEST_NUMBER, Header,
         HeaderPage, Image, ImageFault, Kind, LINK_LIMIT, Name, Page, RawImage, RawNode, ReadFault,
-        SIZE_LIMIT, Shape, TIER_LIMIT, TierSizes, decode_image, look, read_file,
+        SIZE_LIMIT, Shape, TIER_LIMIT, TierSizes, decode_image, encode_image, look, read_file,
     };
-    pub use kfs_image_encode::encode_image;
 }
 
 /// The rules of a raw image, and the change of a landing.
@@ -89,6 +88,6 @@ pub mod report {
 
 /// The program.
 pub mod program {
+    pub use kfs_plan_maker::make_plan;
     pub use kfs_program::{EngineFault, LINE_LIMIT, engine, run_words};
-    pub use kfs_program_plan::make_plan;
 }

@@ -4,7 +4,7 @@ use crate::files::File;
 use crate::setting::submission;
 use kfs_desk::Desk;
 use kfs_plan::Submission;
-use kfs_workers_batch::{BatchBack, BatchEnd, Gate, run_batch};
+use kfs_shared::{BatchBack, BatchEnd, Gate, run_batch};
 use std::alloc::Allocator;
 use std::sync::Wait;
 use std::thread::Threads;

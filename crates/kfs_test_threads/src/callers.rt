@@ -1,11 +1,11 @@
 //! What the threads of the tests do.
-ghost use Rattle.kfs_workers_threads.specs.Passes.{IsPassOf};
+ghost use Rattle.kfs_shared.specs.Passes.{IsPassOf};
 
 use crate::calls::{act, has_node, judged, land, view};
 use crate::files::File;
 use crate::side::Caller;
 use kfs_desk::{Act, ActReply, Desk, Reply};
-use kfs_workers_threads::{Pass, Shared, SharedWant};
+use kfs_shared::{Pass, Shared, SharedWant};
 use std::alloc::Global;
 use std::sync::Wait;
 

@@ -1,13 +1,13 @@
 //! Calls of a shared desk, each in a function that says no more than whose the pass is.
 ghost use Rattle.std.specs.Prelude.{IfOk, IfSome};
-ghost use Rattle.kfs_workers_threads.specs.Passes.{IsPassOf};
+ghost use Rattle.kfs_shared.specs.Passes.{IsPassOf};
 
 use crate::setting::submission;
 use kfs_desk::{Act, ActReply, Desk, Reply};
 use kfs_image::{Answer, Cell};
 use kfs_judge::View;
 use kfs_plan::{Judged, judge};
-use kfs_workers_threads::{Pass, Shared, SharedBack, SharedWant};
+use kfs_shared::{Pass, Shared, SharedBack, SharedWant};
 use std::alloc::Allocator;
 use std::sync::Wait;
 

@@ -1,6 +1,6 @@
 //! Gates of batches.
 
-use kfs_workers_batch::Gate;
+use kfs_shared::Gate;
 use std::sync::atomic::{AtomicU64, Ordering};
 use std::thread;
 

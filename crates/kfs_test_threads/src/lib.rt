@@ -1,7 +1,7 @@
 //! Tests of a desk that threads share. They start threads, and find the same in whatever order these
 //! run.
 //!
-//! It stands on `kfs_workers_threads`, `kfs_workers_batch` and `kfs_test_support`. Begin with `rows.rt`,
+//! It stands on `kfs_shared` and `kfs_test_support`. Begin with `rows.rt`,
 //! and with `batches.rt`; `side.rt` shows how threads are started over a shared desk.
 //!
 //! A test is proved too, and would have to carry the clauses of each call that it makes. So each call is

@@ -1,14 +1,14 @@
 //! Calls of a shared desk with each growth of memory refused in turn.
-ghost use Rattle.kfs_workers_threads.specs.Passes.{IsPassOf};
+ghost use Rattle.kfs_shared.specs.Passes.{IsPassOf};
 
 use crate::calls::{Sharing, act, closed, has_node, land, shared, shared_from, view};
 use crate::setting::{opened, submission};
 use kfs_desk::{Act, ActReply, Desk, Done, Reply};
 use kfs_lease::LeaseKind;
 use kfs_plan::{Judged, Submission, judge};
+use kfs_shared::{Pass, Shared, SharedWant};
 use kfs_test_support::refusing::Refusing;
 use kfs_test_support::vectors::{CREATE_LOG, CREATE_PLAN};
-use kfs_workers_threads::{Pass, Shared, SharedWant};
 use std::alloc::{Allocator, Global};
 use std::sync::Wait;
 

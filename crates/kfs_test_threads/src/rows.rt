@@ -1,7 +1,7 @@
 //! Threads that share a desk. Positions and rows seen count the rows of the setting, too: one where
 //! client 7 was only given the root, and three where it made file 5 and was given that.
 ghost use Rattle.std.specs.Prelude.{IfSome};
-ghost use Rattle.kfs_workers_threads.specs.Passes.{IsPassOf};
+ghost use Rattle.kfs_shared.specs.Passes.{IsPassOf};
 
 use crate::callers::{Acting, Creating, CreatingOne, Resting, Viewing};
 use crate::calls::{Sharing, closed, judged, land, meet, shared, shared_from, split, view};
@@ -12,7 +12,7 @@ use kfs_desk::{Act, ActReply, Desk, Done, Reply};
 use kfs_judge::{EntryFault, Reason};
 use kfs_lease::LeaseKind;
 use kfs_plan::{Fault, Judged};
-use kfs_workers_threads::{Pass, Shared, SharedWant};
+use kfs_shared::{Pass, Shared, SharedWant};
 use std::alloc::Global;
 use std::sync::Wait;
 use std::thread::Threads;

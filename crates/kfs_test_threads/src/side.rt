@@ -3,10 +3,10 @@
 //! What starts threads is generic in what is shared: the prover finds that a pass may go to a thread
 //! and a shared object may be lent to two where it need not look into the object. That a desk may go
 //! is shown once, where `both` calls it.
-ghost use Rattle.kfs_workers_threads.specs.Passes.{IsPassOf};
+ghost use Rattle.kfs_shared.specs.Passes.{IsPassOf};
 
 use kfs_desk::Desk;
-use kfs_workers_threads::{Docketed, Pass, Shared};
+use kfs_shared::{Docketed, Pass, Shared};
 use std::alloc::{Allocator, Global};
 use std::sync::Wait;
 use std::thread::{Threads, join};

@@ -7,7 +7,7 @@ use Rattle.kfs_model.specs.Means.{DiffersInPlacement, MeansOf}
 use Rattle.kfs_model.specs.Migration.{Move}
 use Rattle.kfs_model.proofs.RowsMean.{row_means}
 use Rattle.kfs_desk.specs.Machine.{Desk}
-use Rattle.kfs_workers_verdict.specs.Verdict.{HeldVerdict, IsUpToDate}
+use Rattle.kfs_desk.specs.Verdict.Verdict.{HeldVerdict, IsUpToDate}
 use Rattle.kfs_workers_script.specs.Claims.{HaveSameVerdicts, LandsNothing}
 use Rattle.kfs_workers_script.specs.Script.{Holding, Taken, Decided, ScriptState, DoesStep, DoesLook, DoesJudge, DoesSteps}
 use Rattle.kfs_workers_script.specs.declared.script.Step.{Step}

@@ -4,9 +4,9 @@ use Rattle.std.specs.List.{slice_get}
 use Rattle.std.proofs.lemmas.Option.{slice_get_within}
 use Rattle.kfs_model.specs.Judgement.{State, Submission}
 use Rattle.kfs_model.specs.Machine.{after}
-use Rattle.kfs_desk_docket.specs.Legal.{IsLegalDocket}
-use Rattle.kfs_desk_docket.specs.declared.answers.Reply.{Reply}
-use Rattle.kfs_desk_docket.specs.declared.answers.Reply.TheVariants as answers
+use Rattle.kfs_desk.specs.History.Legal.{IsLegalDocket}
+use Rattle.kfs_desk.specs.declared.history.answers.Reply.{Reply}
+use Rattle.kfs_desk.specs.declared.history.answers.Reply.TheVariants as answers
 use Rattle.kfs_desk.specs.Docket.{position_of}
 use Rattle.kfs_desk.specs.Machine.{AreShown, Desk, AnswerMeans}
 use Rattle.kfs_workers_script.specs.Claims.{AreSettled, AtReply, EachReply, ElseChangesNothing, GoesOnFrom, HasAllowedEntries, IsSettled, ShowsItsEntries, StandsAt}

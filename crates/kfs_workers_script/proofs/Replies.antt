@@ -5,12 +5,12 @@ use Rattle.std.proofs.lemmas.List.{get_or-set_same, get_or-set_other, take-appen
 use Rattle.std.proofs.lemmas.Option.{slice_get_within}
 use Rattle.kfs_model.specs.Judgement.{State, Submission}
 use Rattle.kfs_model.specs.Machine.{Call, IsRead, Migrate, after}
-use Rattle.kfs_desk_docket.specs.Legal.{IsLegalDocket}
-use Rattle.kfs_desk_docket.proofs.Longer.{leads_on}
-use Rattle.kfs_desk_docket.specs.declared.answers.ActReply.{ActReply}
-use Rattle.kfs_desk_docket.specs.declared.answers.Done.{Done}
-use Rattle.kfs_desk_docket.specs.declared.answers.Done.TheVariants.{Moved}
-use Rattle.kfs_desk_docket.specs.declared.answers.Reply.{Reply}
+use Rattle.kfs_desk.specs.History.Legal.{IsLegalDocket}
+use Rattle.kfs_desk.proofs.HistoryLemmas.Longer.{leads_on}
+use Rattle.kfs_desk.specs.declared.history.answers.ActReply.{ActReply}
+use Rattle.kfs_desk.specs.declared.history.answers.Done.{Done}
+use Rattle.kfs_desk.specs.declared.history.answers.Done.TheVariants.{Moved}
+use Rattle.kfs_desk.specs.declared.history.answers.Reply.{Reply}
 use Rattle.kfs_desk.specs.Docket.{is_rejudged, position_of}
 use Rattle.kfs_desk.specs.Machine.{Desk, IsActed, IsAnswered, AnswerMeans, call_of, done_by}
 use Rattle.kfs_workers_script.specs.Claims.{GoesOnFrom, StandsAt}

@@ -8,16 +8,16 @@ use Rattle.std.proofs.lemmas.Option.{slice_get-get_or}
 use Rattle.kfs_model.specs.Judgement.{State}
 use Rattle.kfs_plan.specs.Judged.{Judged}
 use Rattle.kfs_plan.specs.Judging.{submission_of}
-use Rattle.kfs_desk_docket.specs.declared.answers.Reply.{Reply}
+use Rattle.kfs_desk.specs.declared.history.answers.Reply.{Reply}
 use Rattle.kfs_plan.specs.declared.submission.Submission.{Submission as CodeSubmission}
 use Rattle.kfs_desk.specs.Docket.{is_rejudged}
 use Rattle.kfs_desk.specs.Machine.{Desk, IsAnswered, IsCurrent}
 use Rattle.kfs_workers_script.specs.Holding.{held_of}
-use Rattle.kfs_workers_verdict.specs.Verdict.{IsVerdictOn, verdict_of}
+use Rattle.kfs_desk.specs.Verdict.Verdict.{IsVerdictOn, verdict_of}
 use Rattle.kfs_workers_script.specs.Script.{DoesJudge, DoesLand, DoesLook, ScriptState, Taken, Decided, begun, returned}
 use Rattle.kfs_workers_script.specs.declared.script_state.Holding.{Holding as CodeHeld}
 use Rattle.kfs_workers_script.specs.declared.script_state.Holding.TheVariants as holdings
-use Rattle.kfs_workers_verdict.proofs.Verdicts.{lands_verdict}
+use Rattle.kfs_desk.proofs.VerdictLemmas.Verdicts.{lands_verdict}
 
 -- a second store at one place is the only one
 set-twice : {X : Type 0} (xs : List X) (i : ℕ) (x y : X) → set (set xs i x) i y ≡ set xs i y

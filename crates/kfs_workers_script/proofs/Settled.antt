@@ -4,10 +4,10 @@ use Rattle.std.specs.List.{slice_get}
 use Rattle.std.proofs.lemmas.List.{get_or-set_same, get_or-set_other, length-set}
 use Rattle.std.proofs.lemmas.Option.{get_or_from_slice_get, slice_get_within}
 use Rattle.kfs_model.specs.Judgement.{Submission}
-use Rattle.kfs_desk_docket.specs.declared.answers.Reply.{Reply}
+use Rattle.kfs_desk.specs.declared.history.answers.Reply.{Reply}
 use Rattle.kfs_desk.specs.Machine.{Desk}
 use Rattle.kfs_workers_script.specs.Script.{Holding, Taken, Decided, ScriptState, DoesStep, DoesLook, DoesJudge, DoesLand, DoesSteps, all_returned, given_back, returned, taken, with_hand}
-use Rattle.kfs_workers_verdict.specs.Verdict.{HeldVerdict}
+use Rattle.kfs_desk.specs.Verdict.Verdict.{HeldVerdict}
 use Rattle.kfs_workers_script.specs.declared.script.Step.{Step}
 use Rattle.kfs_workers_script.specs.declared.script.Step.TheVariants as steps
 use Rattle.kfs_workers_script.proofs.Places.{AreInPlace, Place, Waits, With, Answered, by_equal, found_within, gone_on, is_answered, submission_in, ticket_of, waiting_at}

@@ -5,11 +5,11 @@ use Rattle.std.specs.List.{slice_get}
 use Rattle.kfs_model.specs.Judgement.{State, Submission, client_sight_of}
 use Rattle.kfs_model.specs.Machine.{AreAllowed, Gives, Row, after}
 use Rattle.kfs_model.specs.Means.{OfItsLog}
-use Rattle.kfs_desk_docket.specs.declared.answers.Reply.{Reply}
-use Rattle.kfs_desk_docket.specs.declared.answers.Reply.TheVariants as replies
+use Rattle.kfs_desk.specs.declared.history.answers.Reply.{Reply}
+use Rattle.kfs_desk.specs.declared.history.answers.Reply.TheVariants as replies
 use Rattle.kfs_desk.specs.Docket.{position_of}
 use Rattle.kfs_desk.specs.Machine.{Desk, IsShown, IsStep}
-use Rattle.kfs_workers_verdict.specs.Verdict.{HeldVerdict, IsUpToDate}
+use Rattle.kfs_desk.specs.Verdict.Verdict.{HeldVerdict, IsUpToDate}
 use Rattle.kfs_workers_script.specs.Script.{ScriptState}
 use Rattle.kfs_workers_script.specs.declared.script.Step.{Step}
 use Rattle.kfs_workers_script.specs.declared.script.Step.TheVariants as steps

@@ -1,7 +1,7 @@
 -- What the code's workers hold, in terms of the definitions.
 use Rattle.kfs_plan.specs.Judging.{submission_of}
 use Rattle.kfs_workers_script.specs.Script.{Holding, Taken, Decided}
-use Rattle.kfs_workers_verdict.specs.Verdict.{verdict_of}
+use Rattle.kfs_desk.specs.Verdict.Verdict.{verdict_of}
 use Rattle.kfs_workers_script.specs.declared.script_state.Holding.{Holding as CodeHeld}
 use Rattle.kfs_workers_script.specs.declared.script_state.Holding.TheVariants as holdings
 

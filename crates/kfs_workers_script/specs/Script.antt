@@ -3,12 +3,12 @@ use Rattle.std.specs.Prelude.{◌≡◌, ◌≢◌, ◌⊎◌, ℕ, List, [], �
 use Rattle.std.specs.List.{slice_get}
 use Rattle.kfs_model.specs.Judgement.{State, Submission}
 use Rattle.kfs_model.specs.Machine.{Call, Migrate}
-use Rattle.kfs_desk_docket.specs.declared.answers.ActReply.{ActReply}
-use Rattle.kfs_desk_docket.specs.declared.answers.Done.{Done}
-use Rattle.kfs_desk_docket.specs.declared.answers.Done.TheVariants.{Moved}
-use Rattle.kfs_desk_docket.specs.declared.answers.Reply.{Reply}
+use Rattle.kfs_desk.specs.declared.history.answers.ActReply.{ActReply}
+use Rattle.kfs_desk.specs.declared.history.answers.Done.{Done}
+use Rattle.kfs_desk.specs.declared.history.answers.Done.TheVariants.{Moved}
+use Rattle.kfs_desk.specs.declared.history.answers.Reply.{Reply}
 use Rattle.kfs_desk.specs.Machine.{Desk, IsActed, call_of, done_by}
-use Rattle.kfs_workers_verdict.specs.Verdict.{HeldVerdict, IsVerdictOn, LandsVerdict}
+use Rattle.kfs_desk.specs.Verdict.Verdict.{HeldVerdict, IsVerdictOn, LandsVerdict}
 use Rattle.kfs_workers_script.specs.declared.script.Step.{Step}
 use Rattle.kfs_workers_script.specs.declared.script.Step.TheVariants as steps
 

@@ -1,6 +1,6 @@
 //! Scripts: steps of eight workers, calls for leases, and moves of blocks, in one order.
 ghost use Rattle.std.specs.Prelude.{◌≡◌, IfErr, IfOk, map, option_map};
-ghost use Rattle.kfs_desk_docket.specs.Legal.{IsLegalDocket};
+ghost use Rattle.kfs_desk.specs.History.Legal.{IsLegalDocket};
 ghost use Rattle.kfs_plan.specs.Judging.{submission_of};
 ghost use Rattle.kfs_desk.specs.Machine.{};
 ghost use Rattle.kfs_workers_script.specs.Claims.{AreSettled, EachReply, ElseChangesNothing, GoesOnFrom, HasAllowedEntries, ShowsItsEntries};
@@ -8,10 +8,10 @@ ghost use Rattle.kfs_workers_script.specs.Script.{IsRun, DoesSteps};
 
 use crate::script_state::ScriptState;
 use kfs_desk::Desk;
-use kfs_desk_docket::answers::Reply;
+use kfs_desk::history::answers::Reply;
 use kfs_lease::Act;
-use kfs_migrate_value::Move;
 use kfs_plan::Submission;
+use kfs_types::Move;
 use std::alloc::Allocator;
 
 /// One step of a script. Workers are numbered 0 to 7. A ticket is a submission's index in the list that

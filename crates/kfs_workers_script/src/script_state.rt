@@ -3,20 +3,19 @@
 ghost use Rattle.std.specs.Prelude.{◌≡◌, ◌≤◌, ◌<◌, [], IfErr, IfOk, IsTrue, ◌↔◌, None, Some, get_or, length, map, option_map, replicate, set};
 ghost use Rattle.std.specs.List.{slice_get};
 ghost use Rattle.kfs_plan.specs.Judging.{submission_of};
-ghost use Rattle.kfs_entry_value.specs.Room.{spare_of};
+ghost use Rattle.kfs_types.specs.Room.{spare_of};
 ghost use Rattle.kfs_workers_script.specs.Holding.{held_of};
 ghost use Rattle.kfs_model.specs.Machine.{Migrate};
-ghost use Rattle.kfs_desk_docket.specs.declared.answers.Done.TheVariants.{Moved};
+ghost use Rattle.kfs_desk.specs.declared.history.answers.Done.TheVariants.{Moved};
 ghost use Rattle.kfs_desk.specs.Machine.{call_of, done_by};
 ghost use Rattle.kfs_workers_script.specs.Script.{DoesCall, DoesStep, DoesJudge, DoesLand, DoesLook, all_returned, begun, returned};
 
 use crate::script::{ScriptBack, ScriptEnd, Step};
-use kfs_desk::Desk;
-use kfs_desk_docket::answers::Reply;
+use kfs_desk::history::answers::Reply;
+use kfs_desk::{Desk, DeskView, WORKERS, none_of};
 use kfs_lease::Act;
-use kfs_migrate_value::Move;
 use kfs_plan::{Judged, Submission};
-use kfs_workers_verdict::{DeskView, WORKERS, none_of};
+use kfs_types::Move;
 use std::alloc::{AllocError, Allocator};
 use std::marker::Model;
 

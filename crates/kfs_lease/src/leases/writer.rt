@@ -1,10 +1,10 @@
 //! Leases of one client alone, made for a log.
 ghost use Rattle.std.specs.Prelude.{◌≡◌, IfOk, OnOk};
 ghost use Rattle.kfs_lease.specs.Writer.{leases_of_writer, with_write};
-ghost use Rattle.kfs_lease_rows.specs.Rows.{table_in, EndsAreExact};
+ghost use Rattle.kfs_lease.specs.Rows.Rows.{table_in, EndsAreExact};
 
 use crate::leases::Leases;
-use kfs_lease_rows::{Lease, LeaseKind, LeaseRows};
+use crate::rows::{Lease, LeaseKind, LeaseRows};
 use std::alloc::{AllocError, Allocator};
 
 impl<A: Allocator + Copy> Leases<A> {

@@ -1,17 +1,17 @@
 //! The names of refusals, with their numbers in brackets. The caller has made room for them.
 ghost use Rattle.std.specs.Prelude.{◌≡◌, ◌+◌, ◌≤◌, ◌++◌, length};
 ghost use Rattle.kfs_report.specs.Text.{fault_text, spell_text, row_text, reason_name, reason_text, act_fault_text, lease_name, lease_text, move_text, client_text, begin_text, image_fault_text};
-ghost use Rattle.kfs_entry_value.specs.Room.{Appends, spare_of};
+ghost use Rattle.kfs_types.specs.Room.{Appends, spare_of};
 
-use kfs_desk_docket::answers::{ActFault, BeginFault};
+use kfs_desk::history::answers::{ActFault, BeginFault};
 use kfs_entry::SpellFault;
-use kfs_image_codec::ImageFault;
+use kfs_image::ImageFault;
 use kfs_judge::Reason;
 use kfs_lease::LeaseFault;
-use kfs_migrate_value::MoveFault;
 use kfs_mode::ClientFault;
 use kfs_plan::{Fault, RowFault};
 use kfs_program_text::parts::{number, numbered, text};
+use kfs_types::MoveFault;
 use std::alloc::Allocator;
 
 /// Appends why a submission is refused.

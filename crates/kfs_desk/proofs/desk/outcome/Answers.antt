@@ -4,9 +4,9 @@ use Rattle.std.specs.Prelude.{IfOk}
 use Rattle.kfs_model.specs.Lease.{holds, row_of}
 use Rattle.kfs_model.specs.Sight.{client_sight}
 use Rattle.kfs_image_nodes.specs.Contents.{sight_of}
-use Rattle.kfs_model_device.specs.ShownTree.{shown_tree}
+use Rattle.kfs_model.specs.Device.ShownTree.{shown_tree}
 use Rattle.kfs_image.proofs.ShownTrees.{sight_shown}
-use Rattle.kfs_judge_check.specs.View.{client_sight_in}
+use Rattle.kfs_judge.specs.Check.View.{client_sight_in}
 use Rattle.kfs_desk.proofs.desk.outcome.Goals as goal
 
 with_known : {X E : Type 0} {P Q : X → Type 0} (result : Result X E) → IfOk result P → ((x : X) → P x → Q x) → IfOk result Q

@@ -1,6 +1,6 @@
 use Rattle.std.proofs.Common.{ℕ, ◌<◌, ◌≤◌}
 use Rattle.std.specs.Prelude.{IsTrue}
-use Rattle.kfs_image_tier.specs.Places.{is_free_in}
+use Rattle.kfs_image.specs.Tier.Places.{is_free_in}
 use Rattle.kfs_desk.proofs.first_fault.are_ungranted.Given as goal
 
 abbrev pub invariant-loop-number : goal.invariant-loop-number

@@ -11,9 +11,9 @@ use Rattle.kfs_model.specs.Access.{Client}
 use Rattle.kfs_model.specs.CleanStep.{IsClient}
 use Rattle.kfs_model.proofs.FirstAnswer.{first_is, none_more}
 use Rattle.kfs_mode.specs.Clients.{ClientsAreDistinct}
-use Rattle.kfs_desk_docket.specs.declared.answers.BeginFault.{BeginFault}
-use Rattle.kfs_desk_docket.specs.declared.answers.BeginFault.TheVariants.{ClientTwice, GrantOverlap}
-use Rattle.kfs_image_tier.specs.Places.{is_free_in}
+use Rattle.kfs_desk.specs.declared.history.answers.BeginFault.{BeginFault}
+use Rattle.kfs_desk.specs.declared.history.answers.BeginFault.TheVariants.{ClientTwice, GrantOverlap}
+use Rattle.kfs_image.specs.Tier.Places.{is_free_in}
 use Rattle.kfs_desk.specs.Grants.{AreUngranted, MarksGranted}
 use Rattle.kfs_desk.specs.Opening.{begin_fault, fault_behind}
 use Rattle.kfs_desk.proofs.ClientRows.{distinct_more, in_range_more}

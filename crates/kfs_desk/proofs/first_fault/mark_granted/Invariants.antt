@@ -1,5 +1,5 @@
 use Rattle.std.proofs.Common.{◌≡◌, ℕ, ◌&&◌, not, nat_le, nat_lt}
-use Rattle.kfs_image_tier.specs.Places.{is_free_in}
+use Rattle.kfs_image.specs.Tier.Places.{is_free_in}
 use Rattle.kfs_desk.proofs.first_fault.mark_granted.Given as goal
 
 abbrev pub invariant-loop-number : goal.invariant-loop-number

@@ -1,7 +1,7 @@
 use Rattle.std.proofs.Common.{drop}
 use Rattle.std.proofs.lemmas.Result.{err_from_is_err_and}
 use Rattle.kfs_model.specs.Spelling.{log_bytes}
-use Rattle.kfs_entry_codec.specs.Headers.{log_header_of}
+use Rattle.kfs_entry.specs.Codec.Headers.{log_header_of}
 use Rattle.kfs_entry.proofs.DecodedLog.{log_from, log_is_spelled, are_spanned, spans_are_within, no_rest, some_rest, entry_is_missing}
 use Rattle.kfs_entry.proofs.decoding.log_in.Goals as goal
 

@@ -1,8 +1,8 @@
 use Rattle.std.proofs.Common.{◌∙◌, refl, drop}
 use Rattle.std.proofs.lemmas.Result.{err_from_is_err_and}
 use Rattle.kfs_model.specs.Spelling.{name_row_bytes, IsNameRow, node_row_bytes, IsNodeRow, piece_bytes, IsPiece, plan_bytes}
-use Rattle.kfs_entry_value.specs.Views.{name_row_of, node_row_of, piece_of}
-use Rattle.kfs_entry_codec.specs.Headers.{plan_header_of}
+use Rattle.kfs_types.specs.Views.{name_row_of, node_row_of, piece_of}
+use Rattle.kfs_entry.specs.Codec.Headers.{plan_header_of}
 use Rattle.kfs_entry.proofs.DecodedLog.{no_rest, some_rest}
 use Rattle.kfs_entry.proofs.DecodedPlan.{part_stands, part_is_missing, plan_from, plan_was_read}
 use Rattle.kfs_entry.proofs.decoding.plan_in.Goals as goal

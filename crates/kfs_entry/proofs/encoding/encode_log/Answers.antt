@@ -1,7 +1,7 @@
 use Rattle.std.proofs.Common.{refl}
 use Rattle.std.proofs.lemmas.List.{length-map}
 use Rattle.kfs_model.specs.Spelling.{entry_bytes}
-use Rattle.kfs_entry_value.specs.Views.{entry_of}
+use Rattle.kfs_types.specs.Views.{entry_of}
 use Rattle.kfs_entry.proofs.RowLaws.{flat_map-map}
 use Rattle.kfs_entry.proofs.DecodedLog.{entries_can_be_written}
 use Rattle.kfs_entry.proofs.encoding.encode_log.Goals as goal

@@ -1,7 +1,7 @@
 use Rattle.std.proofs.Common.{refl}
 use Rattle.std.proofs.lemmas.List.{length-map}
 use Rattle.kfs_model.specs.Spelling.{name_row_bytes, node_row_bytes, piece_bytes}
-use Rattle.kfs_entry_value.specs.Views.{name_row_of, node_row_of, piece_of}
+use Rattle.kfs_types.specs.Views.{name_row_of, node_row_of, piece_of}
 use Rattle.kfs_entry.proofs.RowLaws.{flat_map-map}
 use Rattle.kfs_entry.proofs.encoding.encode_plan.Goals as goal
 

@@ -1,5 +1,5 @@
 use Rattle.std.proofs.Common.{option_map, ap, ◌∙◌}
-use Rattle.kfs_entry_value.specs.Views.{header_of}
+use Rattle.kfs_types.specs.Views.{header_of}
 use Rattle.kfs_image.proofs.HeadersAfter.{head_here, head_beside, head_end}
 use Rattle.kfs_image.proofs.headers.header_after.Goals as goal
 use Rattle.kfs_image.proofs.headers.header_after.Goals.{then-row-number, else-row-number}

@@ -1,5 +1,5 @@
 use Rattle.std.proofs.Common.{◌≡◌, take, option_map}
-use Rattle.kfs_entry_value.specs.Views.{header_of}
+use Rattle.kfs_types.specs.Views.{header_of}
 use Rattle.kfs_model.specs.Table.{get}
 use Rattle.kfs_image_nodes.specs.Change.{reheaded}
 use Rattle.kfs_image.proofs.headers.header_after.Given as goal

@@ -4,7 +4,7 @@ use Rattle.kfs_model.specs.Table.{changed}
 use Rattle.kfs_model.specs.Tree.{NameTable, name_order}
 use Rattle.kfs_map_chunks.specs.Edits.{rewritten}
 use Rattle.kfs_map_chunks.specs.Tables.{table}
-use Rattle.kfs_entry_value.specs.declared.plan.NameRow.{NameRow}
+use Rattle.kfs_types.specs.declared.plan.NameRow.{NameRow}
 use Rattle.kfs_image_nodes.specs.Change.{led_to, renamed}
 use Rattle.kfs_image_nodes.specs.Indexes.{AreNames, IsCounted, by_node}
 use Rattle.kfs_image_nodes.specs.NameEdits.{names_seen, counts_seen}

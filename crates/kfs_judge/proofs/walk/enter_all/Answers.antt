@@ -4,18 +4,18 @@ use Rattle.std.proofs.lemmas.List.Elements.{All-from_recursion}
 use Rattle.std.specs.Option.{option_map}
 use Rattle.kfs_model.specs.Check.{first_fault, looked, checks_of}
 use Rattle.kfs_model.specs.SeenAfter.{seen_after}
-use Rattle.kfs_entry_value.specs.Views.{entry_of, IsWithin}
-use Rattle.kfs_entry_value.specs.declared.entry.Entry.{Entry as CodeEntry}
-use Rattle.kfs_entry_value.specs.declared.entry.Span.{Span}
-use Rattle.kfs_judge_draft.specs.Overlay.{over, entry_context_of, ChangesAreAmong}
-use Rattle.kfs_judge_check.specs.Reads.{Within}
-use Rattle.kfs_judge_check.specs.Checks.{reason_of}
-use Rattle.kfs_judge_check.proofs.Entering.{RunsOn, runs_first, runs_next, runs_fails, runs_out}
-use Rattle.kfs_judge_check.proofs.Looking.{LooksOn, looks_first, looks_next, looks_fails}
-use Rattle.kfs_judge_check.proofs.Recording.{goes_nowhere, goes_then}
-use Rattle.kfs_judge_draft.proofs.Overlays.{shifts_wider}
-use Rattle.kfs_judge_check.proofs.Lists.{map-drop-cons, map-drop-past}
-use Rattle.kfs_judge_step.proofs.ReachedFiles.{ReachesOn, reaches_first, reaches_next, reaches_out}
+use Rattle.kfs_types.specs.Views.{entry_of, IsWithin}
+use Rattle.kfs_types.specs.declared.entry.Entry.{Entry as CodeEntry}
+use Rattle.kfs_types.specs.declared.entry.Span.{Span}
+use Rattle.kfs_judge.specs.Draft.Overlay.{over, entry_context_of, ChangesAreAmong}
+use Rattle.kfs_judge.specs.Check.Reads.{Within}
+use Rattle.kfs_judge.specs.Check.Checks.{reason_of}
+use Rattle.kfs_judge.proofs.CheckLemmas.Entering.{RunsOn, runs_first, runs_next, runs_fails, runs_out}
+use Rattle.kfs_judge.proofs.CheckLemmas.Looking.{LooksOn, looks_first, looks_next, looks_fails}
+use Rattle.kfs_judge.proofs.CheckLemmas.Recording.{goes_nowhere, goes_then}
+use Rattle.kfs_judge.proofs.DraftLemmas.Overlays.{shifts_wider}
+use Rattle.kfs_judge.proofs.CheckLemmas.Lists.{map-drop-cons, map-drop-past}
+use Rattle.kfs_judge.proofs.StepLemmas.ReachedFiles.{ReachesOn, reaches_first, reaches_next, reaches_out}
 use Rattle.kfs_judge.specs.EntriesEntered.{AreWithin}
 use Rattle.kfs_judge.proofs.walk.enter_all.Goals as goal
 

@@ -1,11 +1,11 @@
 -- What the entries so far have come to, in every state that agrees.
 use Rattle.std.proofs.Common.{◌≡◌, ℕ, ◌*◌, List, map, drop}
-use Rattle.kfs_entry_value.specs.Views.{entry_of}
-use Rattle.kfs_judge_draft.specs.Overlay.{ShiftsBy}
-use Rattle.kfs_judge_check.specs.Recorders.{GoesOn}
-use Rattle.kfs_judge_check.proofs.Entering.{RunsOn}
-use Rattle.kfs_judge_check.proofs.Looking.{LooksOn}
-use Rattle.kfs_judge_step.proofs.ReachedFiles.{ReachesOn}
+use Rattle.kfs_types.specs.Views.{entry_of}
+use Rattle.kfs_judge.specs.Draft.Overlay.{ShiftsBy}
+use Rattle.kfs_judge.specs.Check.Recorders.{GoesOn}
+use Rattle.kfs_judge.proofs.CheckLemmas.Entering.{RunsOn}
+use Rattle.kfs_judge.proofs.CheckLemmas.Looking.{LooksOn}
+use Rattle.kfs_judge.proofs.StepLemmas.ReachedFiles.{ReachesOn}
 use Rattle.kfs_judge.specs.EntriesEntered.{AreWithin}
 use Rattle.kfs_judge.proofs.walk.enter_all.Given as goal
 

@@ -1,7 +1,7 @@
 -- What holds over the cells holds of the trees that show them.
 use Rattle.kfs_model.specs.Sight.{client_sight}
 use Rattle.std.proofs.Common.{map}
-use Rattle.kfs_entry_value.specs.Views.{entry_of}
+use Rattle.kfs_types.specs.Views.{entry_of}
 use Rattle.kfs_judge.proofs.TreeWalks.{comes_to_tree}
 use Rattle.kfs_judge.proofs.walk.judge_entries_keeping.Goals as goal
 

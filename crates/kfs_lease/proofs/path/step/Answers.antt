@@ -1,6 +1,6 @@
 use Rattle.std.proofs.Common.{sym, ◌∙◌}
 use Rattle.kfs_image_nodes.specs.Contents.{sight_of}
-use Rattle.kfs_entry_value.specs.Views.{header_of}
+use Rattle.kfs_types.specs.Views.{header_of}
 use Rattle.kfs_lease.proofs.PathSteps.{stops_at_file, stops_unsearched, stops_unnamed, goes_on}
 use Rattle.kfs_lease.proofs.path.step.Goals as goal
 

@@ -6,8 +6,8 @@ use Rattle.std.proofs.lemmas.Result.{err_from_is_err_and}
 use Rattle.std.specs.BTreeSet.{Updates, contains}
 use Rattle.kfs_model.specs.Migration as model
 use Rattle.kfs_model.specs.Migration.{Move, fault_of_move, source}
-use Rattle.kfs_migrate_value.specs.declared.moves.MoveFault.TheVariants as faults
-use Rattle.kfs_migrate_value.specs.Faults.{Refuses}
+use Rattle.kfs_types.specs.declared.moves.moves.MoveFault.TheVariants as faults
+use Rattle.kfs_types.specs.Moves.Faults.{Refuses}
 use Rattle.kfs_migrate.specs.Faults.{IsPossible}
 use Rattle.kfs_migrate.proofs.MoveSets.{AreKeysOf, by_pair, target_key, added_if_new, key_more}
 use Rattle.kfs_migrate.proofs.MoveTests.{grown, no_fault, passes, refused_here, same_source, same_target}

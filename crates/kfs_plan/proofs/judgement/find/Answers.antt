@@ -7,13 +7,13 @@ use Rattle.kfs_model.specs.CleanStep.{IsClient}
 use Rattle.kfs_model.specs.Lease.{row_of}
 use Rattle.kfs_model.specs.Looked.{looked_cells}
 use Rattle.kfs_entry.specs.Answers.{log_of}
-use Rattle.kfs_entry_value.specs.Views.{entry_of}
+use Rattle.kfs_types.specs.Views.{entry_of}
 use Rattle.kfs_plan.specs.declared.submission.Fault.TheVariants as faults
 use Rattle.kfs_plan.specs.declared.spelling.Spelled.TheVariants as readings
 use Rattle.kfs_plan.specs.Judging.{submission_with, AreSpelled, IsEarly, IsVerdict, IsReading, RefusesByFault, StopsByFault}
-use Rattle.kfs_judge_check.specs.Reads.{Agrees, AreAmong}
-use Rattle.kfs_judge_check.specs.View.{clients_of, client_sight_in}
-use Rattle.kfs_judge_check.proofs.Lists.{row_has_number}
+use Rattle.kfs_judge.specs.Check.Reads.{Agrees, AreAmong}
+use Rattle.kfs_judge.specs.Check.View.{clients_of, client_sight_in}
+use Rattle.kfs_judge.proofs.CheckLemmas.Lists.{row_has_number}
 use Rattle.kfs_entry.proofs.Ranges.{entries_fit}
 use Rattle.kfs_plan.proofs.Verdicts.{unknown_client, walked_verdict, nothing_read, unread_looked, settled_is_fault, settled_looked}
 use Rattle.kfs_plan.proofs.judgement.find.Goals as goal

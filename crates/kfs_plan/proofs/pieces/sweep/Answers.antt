@@ -2,10 +2,10 @@
 use Rattle.std.proofs.Common.{◌≡◌, ap, arith, length, map, Result, Ok, Err, refl, subst}
 use Rattle.std.specs.Prelude.{IsOk}
 use Rattle.kfs_model.specs.Sight.{client_sight}
-use Rattle.kfs_entry_value.specs.Views.{entry_of, piece_of}
-use Rattle.kfs_plan_sweep.specs.Sizes.{AreRightFrom}
+use Rattle.kfs_types.specs.Views.{entry_of, piece_of}
+use Rattle.kfs_pieces.specs.Sizes.{AreRightFrom}
 use Rattle.kfs_judge.specs.Walks.{ComesToTree}
-use Rattle.kfs_plan_sweep.specs.RangeCounts.{grown_count}
+use Rattle.kfs_pieces.specs.RangeCounts.{grown_count}
 use Rattle.kfs_plan.proofs.PlanChecked.{pieces_at_end}
 use Rattle.kfs_plan.proofs.pieces.sweep.Goals as goal
 

@@ -2,7 +2,7 @@
 use Rattle.std.proofs.Common.{◌≡◌, map, Ok, refl, sym, subst, ap, ◌∙◌}
 use Rattle.std.specs.Result.{result_copied}
 use Rattle.kfs_model.specs.Sight.{client_sight}
-use Rattle.kfs_entry_value.specs.Views.{entry_of}
+use Rattle.kfs_types.specs.Views.{entry_of}
 use Rattle.kfs_judge.specs.Walks.{ComesToTree}
 use Rattle.kfs_plan.specs.PlanCheck.{TellsOfEachRun}
 use Rattle.kfs_plan.proofs.PlanChecked.{told_at_end}

@@ -1,12 +1,12 @@
 -- Names before nodes before pieces: the first search that finds a row tells it.
 use Rattle.std.proofs.Common.{map, Some, None, Ok, Err, sym, ap, subst, ◌∙◌}
-use Rattle.kfs_plan_sweep.specs.PiecesApart.{first_apart}
+use Rattle.kfs_pieces.specs.PiecesApart.{first_apart}
 use Rattle.kfs_model.specs.Run.{run, over_marks, marked}
 use Rattle.kfs_model.specs.Placement.{need}
 use Rattle.kfs_model.proofs.Ends.{each_end}
-use Rattle.kfs_entry_value.specs.Views.{entry_of, piece_of}
-use Rattle.kfs_plan_sweep.specs.Sizes.{AreRightFrom, AreSizes, AreSwept}
-use Rattle.kfs_plan_sweep.proofs.LogMade.{of_value}
+use Rattle.kfs_types.specs.Views.{entry_of, piece_of}
+use Rattle.kfs_pieces.specs.Sizes.{AreRightFrom, AreSizes, AreSwept}
+use Rattle.kfs_pieces.proofs.LogMade.{of_value}
 use Rattle.kfs_plan.specs.PlanCheck.{TellsRow, first_unlike}
 use Rattle.kfs_plan.specs.declared.rows.RowFault.TheVariants as faults
 use Rattle.kfs_plan.proofs.RowsCompared.{name_found, node_found, piece_found, unlike-name, unlike-node, unlike-piece}

@@ -1,6 +1,6 @@
 use Rattle.std.proofs.Common.{[], refl}
 use Rattle.std.proofs.KnownBytes.{Consumes-nil}
-use Rattle.kfs_program_images.specs.Showing.{Passes}
+use Rattle.kfs_program.specs.Images.Showing.{Passes}
 use Rattle.kfs_program.specs.declared.answer.LineWord.TheVariants.{Fsck}
 use Rattle.kfs_program.proofs.Lines.{none_taken}
 use Rattle.kfs_program.proofs.Told.{answers, said, stopped, without_memory}

@@ -1,6 +1,6 @@
 use Rattle.std.proofs.Common.{[], refl}
 use Rattle.std.proofs.KnownBytes.{Consumes-nil}
-use Rattle.kfs_program_images.specs.Showing.{Shows}
+use Rattle.kfs_program.specs.Images.Showing.{Shows}
 use Rattle.kfs_program.specs.declared.answer.LineWord.TheVariants.{Show}
 use Rattle.kfs_program.proofs.Lines.{none_taken}
 use Rattle.kfs_program.proofs.Told.{answers, said, stopped, without_memory}

@@ -1,8 +1,8 @@
 use Rattle.std.proofs.Common.{subst, sym, ap, ◌∙◌}
 use Rattle.kfs_model.specs.Table.{option_or}
-use Rattle.kfs_model_device.specs.Finding.{finding_from}
+use Rattle.kfs_model.specs.Device.Finding.{finding_from}
 use Rattle.kfs_shape.specs.Findings.{name_rules, extent_rules, FindsNoneWhere}
-use Rattle.kfs_image_codec.specs.RawImages.{raw_of}
+use Rattle.kfs_image.specs.Codec.RawImages.{raw_of}
 use Rattle.kfs_shape.proofs.OneFinding.{in_three_parts, told_before}
 use Rattle.kfs_shape.proofs.check.check_asking.Goals as goal
 

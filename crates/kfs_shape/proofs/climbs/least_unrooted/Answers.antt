@@ -1,7 +1,7 @@
 use Rattle.std.proofs.Common.{map, ap, ◌∙◌}
-use Rattle.kfs_model_device.specs.Finding.{least_failed}
+use Rattle.kfs_model.specs.Device.Finding.{least_failed}
 use Rattle.kfs_shape.specs.Climbs.{top_test}
-use Rattle.kfs_image_codec.specs.RawImages.{raw_node_of, raw_of}
+use Rattle.kfs_image.specs.Codec.RawImages.{raw_node_of, raw_of}
 use Rattle.kfs_shape.proofs.NodeRules.{top_is_rule_7}
 use Rattle.kfs_shape.proofs.climbs.least_unrooted.Goals as goal
 

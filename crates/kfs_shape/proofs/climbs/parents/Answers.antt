@@ -1,11 +1,11 @@
 use Rattle.std.proofs.Common.{◌+◌, length, map, sym, ap, ◌∙◌, ⊎_elim, arith}
 use Rattle.std.proofs.lemmas.Bool.{cases_lt}
-use Rattle.kfs_entry_value.specs.Views.{name_row_of}
+use Rattle.kfs_types.specs.Views.{name_row_of}
 use Rattle.kfs_model.specs.Sight.{is_directory}
 use Rattle.kfs_model.specs.Table.{option_or}
 use Rattle.kfs_shape.specs.Climbs.{ancestor_at}
 use Rattle.kfs_shape.specs.Heads.{head_at}
-use Rattle.kfs_image_codec.specs.RawImages.{raw_of}
+use Rattle.kfs_image.specs.Codec.RawImages.{raw_of}
 use Rattle.kfs_shape.proofs.Parents.{left_to, only_none, written, leads_nowhere, first_left, next_left, none_left, nowhere, all_below}
 use Rattle.kfs_shape.proofs.climbs.parents.Goals as goal
 

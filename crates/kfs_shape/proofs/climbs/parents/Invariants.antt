@@ -1,7 +1,7 @@
 use Rattle.std.proofs.Common.{◌≡◌, ℕ, ◌<◌, length}
 use Rattle.kfs_model.specs.Table.{option_or}
 use Rattle.kfs_shape.specs.Climbs.{ancestor_at}
-use Rattle.kfs_image_codec.specs.RawImages.{raw_of}
+use Rattle.kfs_image.specs.Codec.RawImages.{raw_of}
 use Rattle.kfs_shape.proofs.Parents.{left_to, wanted}
 use Rattle.kfs_shape.proofs.climbs.parents.Given as goal
 

@@ -2,11 +2,11 @@ use Rattle.std.proofs.Common.{◌≡◌, ◌+◌, ◌*◌, ◌^◌, ◌≤◌, a
 use Rattle.std.proofs.lemmas.Nat.{pow-add}
 use Rattle.kfs_model.specs.Table.{get}
 use Rattle.kfs_model.proofs.Heads.{root_has_none}
-use Rattle.kfs_model_device.specs.RawImage.{heads_of, names_of}
-use Rattle.kfs_model_device.specs.Rules.{parent_of, reaches_root}
-use Rattle.kfs_model_device.proofs.ClimbTest.{found_is_reach, reach_is_found}
+use Rattle.kfs_model.specs.Device.RawImage.{heads_of, names_of}
+use Rattle.kfs_model.specs.Device.Rules.{parent_of, reaches_root}
+use Rattle.kfs_model.proofs.DeviceLemmas.ClimbTest.{found_is_reach, reach_is_found}
 use Rattle.kfs_shape.specs.Climbs.{ancestor_at, ancestor_from}
-use Rattle.kfs_image_codec.specs.RawImages.{raw_of}
+use Rattle.kfs_image.specs.Codec.RawImages.{raw_of}
 use Rattle.kfs_shape.proofs.Doubling.{LeadsBy, leads_by_one, leads_by_twice, root_tells}
 use Rattle.kfs_shape.proofs.Parents.{parent_in_range}
 use Rattle.kfs_shape.proofs.climbs.tops.Goals as goal

@@ -1,9 +1,9 @@
 use Rattle.std.proofs.Common.{◌^◌}
 use Rattle.kfs_model.specs.Table.{get}
 use Rattle.kfs_model.proofs.Heads.{root_has_none}
-use Rattle.kfs_model_device.specs.RawImage.{heads_of, names_of}
-use Rattle.kfs_model_device.specs.Rules.{parent_of}
-use Rattle.kfs_image_codec.specs.RawImages.{raw_of}
+use Rattle.kfs_model.specs.Device.RawImage.{heads_of, names_of}
+use Rattle.kfs_model.specs.Device.Rules.{parent_of}
+use Rattle.kfs_image.specs.Codec.RawImages.{raw_of}
 use Rattle.kfs_shape.proofs.Doubling.{LeadsBy}
 use Rattle.kfs_shape.proofs.climbs.tops.Given as goal
 

@@ -1,12 +1,12 @@
 use Rattle.std.proofs.Common.{◌+◌, None, map, ap, ◌∙◌}
 use Rattle.std.specs.Option.{option_map}
-use Rattle.kfs_model_device.specs.RawImage.{heads_of}
-use Rattle.kfs_model_device.specs.Rules.{test, with_previous}
-use Rattle.kfs_model_device.specs.Finding.{least_failed}
+use Rattle.kfs_model.specs.Device.RawImage.{heads_of}
+use Rattle.kfs_model.specs.Device.Rules.{test, with_previous}
+use Rattle.kfs_model.specs.Device.Finding.{least_failed}
 use Rattle.kfs_shape.specs.Extents.{is_in_place}
 use Rattle.kfs_shape.specs.Heads.{head_at}
 use Rattle.kfs_shape.specs.Least.{before}
-use Rattle.kfs_image_codec.specs.RawImages.{extent_row_of, raw_of}
+use Rattle.kfs_image.specs.Codec.RawImages.{extent_row_of, raw_of}
 use Rattle.kfs_shape.proofs.Neighbours.{beside, neighbours_tell}
 use Rattle.kfs_shape.proofs.Tests.{ordered_at, taken_in, rest_ordered}
 use Rattle.kfs_shape.proofs.extents.least_misplaced.Goals as goal

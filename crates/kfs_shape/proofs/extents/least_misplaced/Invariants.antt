@@ -1,9 +1,9 @@
 use Rattle.std.proofs.Common.{◌≡◌}
-use Rattle.kfs_model_device.specs.RawImage.{heads_of}
-use Rattle.kfs_model_device.specs.Rules.{test, rule_8}
-use Rattle.kfs_model_device.specs.Finding.{least_failed}
+use Rattle.kfs_model.specs.Device.RawImage.{heads_of}
+use Rattle.kfs_model.specs.Device.Rules.{test, rule_8}
+use Rattle.kfs_model.specs.Device.Finding.{least_failed}
 use Rattle.kfs_shape.specs.Least.{merged}
-use Rattle.kfs_image_codec.specs.RawImages.{extent_row_of, raw_of}
+use Rattle.kfs_image.specs.Codec.RawImages.{extent_row_of, raw_of}
 use Rattle.kfs_shape.proofs.Tests.{rest_ordered}
 use Rattle.kfs_shape.proofs.Neighbours.{beside}
 use Rattle.kfs_shape.proofs.extents.least_misplaced.Given as goal

@@ -1,5 +1,5 @@
 use Rattle.std.proofs.Common.{sym, ap, ◌∙◌}
-use Rattle.kfs_entry_value.specs.Views.{header_of}
+use Rattle.kfs_types.specs.Views.{header_of}
 use Rattle.kfs_model.specs.Table.{get}
 use Rattle.kfs_model.proofs.TableLaws.{get-mapped}
 use Rattle.kfs_shape.proofs.heads.headers.Goals as goal

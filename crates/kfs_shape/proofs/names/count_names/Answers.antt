@@ -1,6 +1,6 @@
 use Rattle.std.proofs.Common.{map, sym, ap}
-use Rattle.kfs_entry_value.specs.Views.{name_row_of}
-use Rattle.kfs_image_codec.specs.RawImages.{raw_of}
+use Rattle.kfs_types.specs.Views.{name_row_of}
+use Rattle.kfs_image.specs.Codec.RawImages.{raw_of}
 use Rattle.kfs_shape.proofs.NameCounts.{all_counted}
 use Rattle.kfs_shape.proofs.Parents.{all_below}
 use Rattle.kfs_shape.proofs.names.count_names.Goals as goal

@@ -1,7 +1,7 @@
 use Rattle.std.proofs.Common.{map, ap, ◌∙◌}
-use Rattle.kfs_model_device.specs.Finding.{least_failed}
+use Rattle.kfs_model.specs.Device.Finding.{least_failed}
 use Rattle.kfs_shape.specs.NameCounts.{counted_test}
-use Rattle.kfs_image_codec.specs.RawImages.{raw_node_of, raw_of}
+use Rattle.kfs_image.specs.Codec.RawImages.{raw_node_of, raw_of}
 use Rattle.kfs_shape.proofs.NodeRules.{counted_is_rule_6}
 use Rattle.kfs_shape.proofs.names.least_miscounted.Goals as goal
 

@@ -1,12 +1,12 @@
 use Rattle.std.proofs.Common.{◌+◌, ap, ◌∙◌}
 use Rattle.std.specs.Option.{option_map}
-use Rattle.kfs_entry_value.specs.Views.{name_row_of}
-use Rattle.kfs_model_device.specs.RawImage.{heads_of}
-use Rattle.kfs_model_device.specs.Rules.{directory_test}
+use Rattle.kfs_types.specs.Views.{name_row_of}
+use Rattle.kfs_model.specs.Device.RawImage.{heads_of}
+use Rattle.kfs_model.specs.Device.Rules.{directory_test}
 use Rattle.kfs_shape.specs.Heads.{head_at}
 use Rattle.kfs_shape.specs.Least.{before}
 use Rattle.kfs_shape.specs.Names.{is_in_place}
-use Rattle.kfs_image_codec.specs.RawImages.{raw_of}
+use Rattle.kfs_image.specs.Codec.RawImages.{raw_of}
 use Rattle.kfs_shape.proofs.Tests.{ordered_at, taken_in, rest_ordered}
 use Rattle.kfs_shape.proofs.names.least_out_of_order.Goals as goal
 

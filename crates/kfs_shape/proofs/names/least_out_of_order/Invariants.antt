@@ -1,10 +1,10 @@
 use Rattle.std.proofs.Common.{◌≡◌}
-use Rattle.kfs_entry_value.specs.Views.{name_row_of}
-use Rattle.kfs_model_device.specs.RawImage.{heads_of}
-use Rattle.kfs_model_device.specs.Rules.{directory_test, rule_4}
-use Rattle.kfs_model_device.specs.Finding.{least_failed}
+use Rattle.kfs_types.specs.Views.{name_row_of}
+use Rattle.kfs_model.specs.Device.RawImage.{heads_of}
+use Rattle.kfs_model.specs.Device.Rules.{directory_test, rule_4}
+use Rattle.kfs_model.specs.Device.Finding.{least_failed}
 use Rattle.kfs_shape.specs.Least.{merged}
-use Rattle.kfs_image_codec.specs.RawImages.{raw_of}
+use Rattle.kfs_image.specs.Codec.RawImages.{raw_of}
 use Rattle.kfs_shape.proofs.Tests.{rest_ordered}
 use Rattle.kfs_shape.proofs.names.least_out_of_order.Given as goal
 

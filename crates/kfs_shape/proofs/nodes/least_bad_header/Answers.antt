@@ -1,7 +1,7 @@
 use Rattle.std.proofs.Common.{map, ap, ◌∙◌}
-use Rattle.kfs_model_device.specs.Rules.{header_test}
-use Rattle.kfs_model_device.specs.Finding.{least_failed}
-use Rattle.kfs_image_codec.specs.RawImages.{raw_node_of}
+use Rattle.kfs_model.specs.Device.Rules.{header_test}
+use Rattle.kfs_model.specs.Device.Finding.{least_failed}
+use Rattle.kfs_image.specs.Codec.RawImages.{raw_node_of}
 use Rattle.kfs_shape.proofs.nodes.least_bad_header.Goals as goal
 
 pub returns : goal.returns

@@ -1,9 +1,9 @@
 use Rattle.std.proofs.Common.{◌+◌, get_or, ap, ◌∙◌}
 use Rattle.std.specs.Option.{option_map}
-use Rattle.kfs_entry_value.specs.declared.header.Kind.TheVariants as kinds
-use Rattle.kfs_model_device.specs.Rules.{number_test}
-use Rattle.kfs_image_codec.specs.declared.raw.RawNode.{RawNode}
-use Rattle.kfs_image_codec.specs.RawImages.{raw_node_of}
+use Rattle.kfs_types.specs.declared.header.Kind.TheVariants as kinds
+use Rattle.kfs_model.specs.Device.Rules.{number_test}
+use Rattle.kfs_image.specs.declared.codec.raw.RawNode.{RawNode}
+use Rattle.kfs_image.specs.Codec.RawImages.{raw_node_of}
 use Rattle.kfs_shape.proofs.Tests.{ordered_step, taken_in, rest_ordered}
 use Rattle.kfs_shape.proofs.nodes.least_out_of_order.Goals as goal
 

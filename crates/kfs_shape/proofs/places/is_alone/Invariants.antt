@@ -1,7 +1,7 @@
 use Rattle.std.proofs.Common.{ℕ, ◌+◌, ◌≤◌, ◌<◌}
 use Rattle.kfs_shape.specs.Counts.{count_at}
 use Rattle.kfs_shape.specs.Places.{first_position}
-use Rattle.kfs_image_codec.specs.RawImages.{extent_row_of}
+use Rattle.kfs_image.specs.Codec.RawImages.{extent_row_of}
 use Rattle.kfs_shape.proofs.places.is_alone.Given as goal
 
 abbrev pub invariant-loop-index : goal.invariant-loop-index

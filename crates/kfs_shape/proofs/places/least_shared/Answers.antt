@@ -1,10 +1,10 @@
 use Rattle.std.proofs.Common.{◌≡◌, ℕ, ◌+◌, ◌<◌, map, sym, ap, subst, ◌∙◌, arith}
 use Rattle.kfs_model.proofs.Counts.{tally, is_tally}
-use Rattle.kfs_model_device.specs.Rules.{place_test}
-use Rattle.kfs_model_device.proofs.Among.{Among, among_all, among_map}
+use Rattle.kfs_model.specs.Device.Rules.{place_test}
+use Rattle.kfs_model.proofs.DeviceLemmas.Among.{Among, among_all, among_map}
 use Rattle.kfs_shape.specs.Counts.{count_at}
 use Rattle.kfs_shape.specs.Places.{has_position, lies_at}
-use Rattle.kfs_image_codec.specs.RawImages.{extent_row_of, raw_of}
+use Rattle.kfs_image.specs.Codec.RawImages.{extent_row_of, raw_of}
 use Rattle.kfs_shape.proofs.NameCounts.{tally_map}
 use Rattle.kfs_shape.proofs.SharedPlaces.{InSpan, all_in_span, among_rows, alone_tells}
 use Rattle.kfs_shape.proofs.Tests.{rest_at, taken_in, rest_failed}

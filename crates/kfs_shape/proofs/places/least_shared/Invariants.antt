@@ -1,8 +1,8 @@
 use Rattle.std.proofs.Common.{◌≡◌}
-use Rattle.kfs_model_device.specs.Rules.{place_test, rule_10}
-use Rattle.kfs_model_device.specs.Finding.{least_failed}
+use Rattle.kfs_model.specs.Device.Rules.{place_test, rule_10}
+use Rattle.kfs_model.specs.Device.Finding.{least_failed}
 use Rattle.kfs_shape.specs.Least.{merged}
-use Rattle.kfs_image_codec.specs.RawImages.{extent_row_of, raw_of}
+use Rattle.kfs_image.specs.Codec.RawImages.{extent_row_of, raw_of}
 use Rattle.kfs_shape.proofs.Tests.{rest_failed}
 use Rattle.kfs_shape.proofs.places.least_shared.Given as goal
 

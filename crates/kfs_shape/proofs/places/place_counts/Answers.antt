@@ -1,7 +1,7 @@
 use Rattle.std.proofs.Common.{arith}
 use Rattle.kfs_model.proofs.Counts.{is_tally}
 use Rattle.kfs_shape.specs.Places.{has_position, lies_at}
-use Rattle.kfs_image_codec.specs.RawImages.{extent_row_of}
+use Rattle.kfs_image.specs.Codec.RawImages.{extent_row_of}
 use Rattle.kfs_shape.proofs.NameCounts.{none_counted, counted_end, counted_rest, at_most}
 use Rattle.kfs_shape.proofs.places.place_counts.Goals as goal
 

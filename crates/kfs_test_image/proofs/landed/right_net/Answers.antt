@@ -4,10 +4,10 @@ use Rattle.kfs_model.specs.Lease.{holds}
 use Rattle.kfs_model.specs.Sight.{client_sight}
 use Rattle.kfs_model.specs.Judgement.{State}
 use Rattle.kfs_image_nodes.specs.Contents.{sight_of}
-use Rattle.kfs_model_device.specs.ShownTree.{shown_tree}
+use Rattle.kfs_model.specs.Device.ShownTree.{shown_tree}
 use Rattle.kfs_image.proofs.ShownTrees.{sight_shown}
-use Rattle.kfs_judge_check.specs.Reads.{Agrees}
-use Rattle.kfs_judge_check.specs.View.{client_sight_in, clients_of, leases_of}
+use Rattle.kfs_judge.specs.Check.Reads.{Agrees}
+use Rattle.kfs_judge.specs.Check.View.{client_sight_in, clients_of, leases_of}
 use Rattle.kfs_plan.specs.Judging.{IsVerdict, submission_of}
 use Rattle.kfs_test_image.proofs.LandedNets.{net_is_lawful}
 use Rattle.kfs_test_image.proofs.landed.right_net.Goals as goal

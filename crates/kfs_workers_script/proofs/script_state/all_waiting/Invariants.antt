@@ -1,7 +1,7 @@
 -- What was put down stands before what is still to come, for which there is room.
 use Rattle.std.proofs.Common.{◌≡◌, ◌≤◌, ◌++◌, length, map, Some}
 use Rattle.std.specs.Vec.Iter.{into_iter_items, into_iter_len}
-use Rattle.kfs_entry_value.specs.Room.{spare_of}
+use Rattle.kfs_types.specs.Room.{spare_of}
 use Rattle.kfs_workers_script.proofs.script_state.all_waiting.Given as goal
 
 abbrev pub invariant-loop-submission : goal.invariant-loop-submission

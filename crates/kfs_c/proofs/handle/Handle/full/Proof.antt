@@ -21,7 +21,7 @@ use Rattle.std.proofs.raw_atomic.Walks.{proved_at}
 use Rattle.std.specs.contracts.alloc.Global as heap
 use Rattle.std.proofs.alloc.Global.TheLaws.{the_row_laws}
 use Rattle.std.specs.contracts.impls.GlobalAllocator.TheImpl.{ghosts}
-use Rattle.kfs_c_loose.proofs.Values as loose
+use Rattle.kfs_c.proofs.LooseLemmas.Values as loose
 use Rattle.kfs_c.specs.Handle.{the_held}
 use Rattle.kfs_c.proofs.Values.{Boxed, word, wraps}
 use Rattle.kfs_c.specs.contracts.handle.Handle.full as f

@@ -24,7 +24,7 @@ use Rattle.std.proofs.ResultValues.{and_tt}
 use Rattle.std.specs.contracts.alloc.Global as heap
 use Rattle.std.proofs.alloc.Global.TheLaws.{the_row_laws}
 use Rattle.std.specs.contracts.impls.GlobalAllocator.TheImpl.{ghosts}
-use Rattle.kfs_c_loose.proofs.Values as loose
+use Rattle.kfs_c.proofs.LooseLemmas.Values as loose
 use Rattle.kfs_c.specs.Handle.{the_held}
 use Rattle.kfs_c.proofs.Values.{Handle, word, word_fits, pointer_fits, unwraps, by_value}
 use Rattle.kfs_c.specs.contracts.handle.Handle.take as f

@@ -9,7 +9,7 @@ use Rattle.kfs_model.proofs.OrderKept.{opens_in_order}
 use Rattle.kfs_model.specs.Header.{Header}
 use Rattle.kfs_model.specs.Placement.{IsPlacement}
 use Rattle.kfs_model.specs.Table.{Table, numbers, get}
-use Rattle.kfs_model_device.specs.ShownTree.{shown_tree}
+use Rattle.kfs_model.specs.Device.ShownTree.{shown_tree}
 use Rattle.kfs_mode.specs.Clients.{ClientsAreDistinct}
 use Rattle.kfs_desk.specs.Machine.{state_at}
 use Rattle.kfs_desk.specs.Opening.{begin_fault}

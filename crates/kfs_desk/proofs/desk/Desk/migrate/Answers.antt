@@ -3,7 +3,7 @@ use Rattle.std.proofs.Common.{◌<◌, length, refl, sym, ap, subst, ◌∙◌, 
 use Rattle.kfs_model.specs.Judgement.{State}
 use Rattle.kfs_model.specs.Machine.{Migrate, Row}
 use Rattle.kfs_model.specs.Means.{DiffersInPlacement}
-use Rattle.kfs_desk_docket.specs.declared.answers.Done.TheVariants.{Moved}
+use Rattle.kfs_desk.specs.declared.history.answers.Done.TheVariants.{Moved}
 use Rattle.kfs_desk.specs.Machine.{Desk, Parts, IsActed, IsCallStep, SeeTheSame, shown, state_at, state_of}
 use Rattle.kfs_desk.proofs.Calls.{acted_at, acted_desk, between, moves_are_step, placement_alone, seen_same, unmoved}
 use Rattle.kfs_desk.proofs.desk.Desk.migrate.Goals as goal

@@ -4,7 +4,7 @@ use Rattle.std.specs.Prelude.{IfOk, IfErr}
 use Rattle.kfs_plan.specs.Judging.{submission_of}
 use Rattle.kfs_plan.specs.declared.submission.Back.{Back}
 use Rattle.kfs_plan.specs.declared.submission.Submission.{Submission}
-use Rattle.kfs_desk_docket.specs.declared.answers.Reply.{Reply}
+use Rattle.kfs_desk.specs.declared.history.answers.Reply.{Reply}
 use Rattle.kfs_desk.specs.Machine.{Desk, IsAnswered, RunsThrough}
 use Rattle.kfs_desk.proofs.Histories.{runs_first}
 use Rattle.kfs_desk.proofs.desk.Desk.submit_all.Goals as goal

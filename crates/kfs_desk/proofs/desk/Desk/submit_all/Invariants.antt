@@ -1,11 +1,11 @@
 -- Whatever the rest comes to, the whole comes to that behind the answers so far.
 use Rattle.std.proofs.Common.{◌≡◌, ◌≤◌, ◌++◌, List, length, Result}
 use Rattle.std.specs.Vec.Iter.{into_iter_items, into_iter_len}
-use Rattle.kfs_desk_docket.specs.Legal.{IsLegalDocket}
-use Rattle.kfs_desk_docket.specs.declared.answers.Reply.{Reply}
+use Rattle.kfs_desk.specs.History.Legal.{IsLegalDocket}
+use Rattle.kfs_desk.specs.declared.history.answers.Reply.{Reply}
 use Rattle.kfs_plan.specs.declared.submission.Back.{Back}
 use Rattle.kfs_desk.specs.Machine.{Desk, RunsThrough}
-use Rattle.kfs_entry_value.specs.Room.{spare_of}
+use Rattle.kfs_types.specs.Room.{spare_of}
 use Rattle.kfs_desk.proofs.desk.Desk.submit_all.Given as goal
 
 abbrev pub invariant-loop-submission : goal.invariant-loop-submission

@@ -1,14 +1,14 @@
 use Rattle.std.proofs.Common.{sym, ap, subst, ◌∙◌}
 use Rattle.std.proofs.lemmas.List.Elements.{All-push}
 use Rattle.std.specs.Prelude.{◌≡◌, ◌<◌, vec_len}
-use Rattle.kfs_entry_value.specs.declared.plan.NameRow.{NameRow}
-use Rattle.kfs_entry_value.specs.declared.plan.NodeRow.{NodeRow}
+use Rattle.kfs_types.specs.declared.plan.NameRow.{NameRow}
+use Rattle.kfs_types.specs.declared.plan.NodeRow.{NodeRow}
 use Rattle.kfs_model.specs.Limits.{block_size}
 use Rattle.kfs_model.specs.Placement.{Place, tier_size}
 use Rattle.kfs_model.specs.Table.{changed, insert}
 use Rattle.kfs_image_nodes.specs.Change.{led_to, renamed, reheaded}
-use Rattle.kfs_image_tier.specs.declared.change.NewBlock.{NewBlock}
-use Rattle.kfs_image_tier.specs.Tiers.{with_blocks}
+use Rattle.kfs_image.specs.declared.tier.change.NewBlock.{NewBlock}
+use Rattle.kfs_image.specs.Tier.Tiers.{with_blocks}
 use Rattle.kfs_map_chunks.specs.Overlays.{overlaid}
 use Rattle.kfs_map_chunks.proofs.Overlays.{overlaid_set}
 use Rattle.kfs_image.specs.Edit.{edited, WritesWholeBlocks}

@@ -1,6 +1,6 @@
 use Rattle.std.proofs.Common.{◌≡◌, All, drop, map}
 use Rattle.kfs_model.specs.Placement.{TierSizes}
-use Rattle.kfs_model_device.specs.ShownTree.{DeviceImage}
+use Rattle.kfs_model.specs.Device.ShownTree.{DeviceImage}
 use Rattle.kfs_image.specs.Edit.{edited_all, WritesWholeBlocks}
 use Rattle.kfs_image.specs.Parts.{plain, with_parts, BlocksAreWhole}
 use Rattle.kfs_image.proofs.edit.Parts.of.Given as goal

@@ -1,5 +1,5 @@
 use Rattle.std.proofs.Common.{sym, subst}
-use Rattle.kfs_model_device.specs.ShownTree.{DeviceImage}
+use Rattle.kfs_model.specs.Device.ShownTree.{DeviceImage}
 use Rattle.kfs_image_nodes.specs.Change.{renamed, reheaded}
 use Rattle.kfs_image_nodes.specs.Rows.{FitPages}
 use Rattle.kfs_image.specs.Image.{image_with}

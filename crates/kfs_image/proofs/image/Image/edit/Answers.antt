@@ -1,6 +1,6 @@
 use Rattle.std.proofs.Common.{◌≡◌, sym, subst}
 use Rattle.std.specs.Prelude.{OnOk, OnErr}
-use Rattle.kfs_model_device.specs.ShownTree.{DeviceImage}
+use Rattle.kfs_model.specs.Device.ShownTree.{DeviceImage}
 use Rattle.kfs_image.specs.Edit.{CanEdit, edited_all}
 use Rattle.kfs_image.specs.Image.{image_with}
 use Rattle.kfs_image.proofs.ChangedImages.{changed_err, changed_lawful, changed_ok}

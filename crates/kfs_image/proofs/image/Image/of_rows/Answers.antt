@@ -1,6 +1,6 @@
 use Rattle.std.proofs.Common.{sym, subst, ◌∙◌}
-use Rattle.kfs_model_device.specs.ShownTree.{IsLawful}
-use Rattle.kfs_image_codec.specs.RawImages.{raw_of}
+use Rattle.kfs_model.specs.Device.ShownTree.{IsLawful}
+use Rattle.kfs_image.specs.Codec.RawImages.{raw_of}
 use Rattle.kfs_image.specs.Image.{image_with}
 use Rattle.kfs_image.proofs.image.Image.of_rows.Goals as goal
 

@@ -1,8 +1,8 @@
 use Rattle.std.proofs.Common.{rules, ◌≡◌, ◌+◌, false, Some, ap, ◌∙◌}
-use Rattle.kfs_entry_value.specs.Views.{header_of}
+use Rattle.kfs_types.specs.Views.{header_of}
 use Rattle.kfs_model.specs.Table.{get}
 use Rattle.kfs_model.specs.Sight.{is_directory}
-use Rattle.kfs_model_device.specs.ShownTree.{DeviceImage, file_byte}
+use Rattle.kfs_model.specs.Device.ShownTree.{DeviceImage, file_byte}
 use Rattle.kfs_image.proofs.ReadFile.{read_past, read_part}
 use Rattle.kfs_image.proofs.image.Image.read.Goals as goal
 

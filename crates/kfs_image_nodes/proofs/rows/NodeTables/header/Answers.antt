@@ -1,6 +1,6 @@
 use Rattle.std.proofs.Common.{option_map, sym, ap, ◌∙◌}
 use Rattle.kfs_model.proofs.TableLaws.{get-mapped}
-use Rattle.kfs_entry_value.specs.Views.{header_of}
+use Rattle.kfs_types.specs.Views.{header_of}
 use Rattle.kfs_image_nodes.proofs.rows.NodeTables.header.Goals as goal
 
 pub returns : goal.returns

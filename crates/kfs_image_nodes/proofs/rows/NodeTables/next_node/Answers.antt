@@ -1,6 +1,6 @@
 use Rattle.std.proofs.Common.{◌≡◌, ℕ, ◌<◌, option_map, None, sym, ap, subst, ◌∙◌}
 use Rattle.std.specs.Prelude.{IfNone}
-use Rattle.kfs_entry_value.specs.Views.{header_of}
+use Rattle.kfs_types.specs.Views.{header_of}
 use Rattle.kfs_model.specs.Table.{get}
 use Rattle.kfs_model.proofs.TableLaws.{get-mapped}
 use Rattle.kfs_image_nodes.specs.Rows.{heads_in}

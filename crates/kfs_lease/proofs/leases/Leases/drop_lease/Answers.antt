@@ -1,6 +1,6 @@
 use Rattle.std.proofs.Common.{not, Ok, Err, sym, ap, ◌∙◌}
 use Rattle.kfs_model.specs.Lease.{Leases, NoLeaseHeld, dropped}
-use Rattle.kfs_lease_rows.specs.Rows.{table_in}
+use Rattle.kfs_lease.specs.Rows.Rows.{table_in}
 use Rattle.kfs_lease.proofs.Grants.{drop_without_client, drop_without_lease, lease_dropped, none_shown, some_not_none}
 use Rattle.kfs_lease.proofs.leases.Leases.drop_lease.Goals as goal
 

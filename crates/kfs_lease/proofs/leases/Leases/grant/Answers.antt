@@ -3,7 +3,7 @@ use Rattle.std.proofs.lemmas.Result.{err_from_is_err_and}
 use Rattle.kfs_model.specs.Lease.{Leases, LeaseHeld, walked, granted}
 use Rattle.kfs_image_nodes.specs.Contents.{sight_of}
 use Rattle.kfs_lease.specs.Faults.{fault_of}
-use Rattle.kfs_lease_rows.specs.Rows.{kind_of, table_in}
+use Rattle.kfs_lease.specs.Rows.Rows.{kind_of, table_in}
 use Rattle.kfs_lease.specs.Paths.{parts_left}
 use Rattle.kfs_lease.proofs.Grants.{no_client, no_path, no_node, in_the_past, held_by_another, given, if_weaker}
 use Rattle.kfs_lease.proofs.leases.Leases.grant.Goals as goal

@@ -1,7 +1,7 @@
 use Rattle.std.proofs.Common.{◌≡◌, drop}
 use Rattle.kfs_model.specs.Table.{empty}
 use Rattle.kfs_lease.specs.Writer.{with_writes}
-use Rattle.kfs_lease_rows.specs.Rows.{table_in, EndsAreExact}
+use Rattle.kfs_lease.specs.Rows.Rows.{table_in, EndsAreExact}
 use Rattle.kfs_lease.proofs.leases.Leases.of_writer.Given as goal
 
 -- with the leases on the nodes that are left, the table is the one with those on all of them

@@ -1,7 +1,7 @@
 use Rattle.std.proofs.Common.{◌≡◌, Ok, Err, ap, ◌∙◌}
 use Rattle.std.specs.Prelude.{OnOk, OnErr}
 use Rattle.kfs_model.specs.Lease.{Leases}
-use Rattle.kfs_lease_rows.specs.Rows.{table_in, without_nodes}
+use Rattle.kfs_lease.specs.Rows.Rows.{table_in, without_nodes}
 use Rattle.kfs_lease.specs.Removed.{without_nodes_in}
 use Rattle.kfs_lease.proofs.leases.Leases.remove_nodes.Goals as goal
 

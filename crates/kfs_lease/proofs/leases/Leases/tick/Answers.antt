@@ -2,7 +2,7 @@ use Rattle.std.proofs.Common.{◌≡◌, Bool, false, Ok, sym, ap, ◌∙◌, ar
 use Rattle.std.specs.Prelude.{nat_lt, if◌then◌else◌}
 use Rattle.std.proofs.lemmas.Bool.Decides.{nat_tests}
 use Rattle.kfs_model.specs.Lease.{Leases, LeaseOutcome, Backwards, live_at, refused, ticked}
-use Rattle.kfs_lease_rows.specs.Rows.{table_in}
+use Rattle.kfs_lease.specs.Rows.Rows.{table_in}
 use Rattle.kfs_lease.proofs.leases.Leases.tick.Goals as goal
 
 pub returns-clause-ok : goal.returns-clause-ok

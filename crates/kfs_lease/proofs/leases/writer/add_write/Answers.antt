@@ -1,8 +1,8 @@
 use Rattle.std.proofs.Common.{◌≡◌, Option, Some, None, false, sym, ◌∙◌}
 use Rattle.std.specs.Prelude.{option_map, is_some}
-use Rattle.kfs_lease_rows.specs.declared.rows.Lease.{Lease}
-use Rattle.kfs_lease_rows.specs.Rows.{lease_of, row_table}
-use Rattle.kfs_lease_rows.proofs.RowTables.{get-shown}
+use Rattle.kfs_lease.specs.declared.rows.rows.Lease.{Lease}
+use Rattle.kfs_lease.specs.Rows.Rows.{lease_of, row_table}
+use Rattle.kfs_lease.proofs.RowsLemmas.RowTables.{get-shown}
 use Rattle.kfs_lease.proofs.leases.writer.add_write.Goals as goal
 
 none_behind : (o told : Option Lease) → is_some told ≡ false → option_map lease_of told ≡ option_map lease_of o → None ≡ o

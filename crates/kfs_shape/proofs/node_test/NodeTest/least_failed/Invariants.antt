@@ -1,8 +1,8 @@
 use Rattle.std.proofs.Common.{◌≡◌, map}
-use Rattle.kfs_model_device.specs.Finding.{least_failed}
+use Rattle.kfs_model.specs.Device.Finding.{least_failed}
 use Rattle.kfs_shape.specs.Least.{merged}
 use Rattle.kfs_shape.specs.NodeTests.{test_of}
-use Rattle.kfs_image_codec.specs.RawImages.{raw_node_of}
+use Rattle.kfs_image.specs.Codec.RawImages.{raw_node_of}
 use Rattle.kfs_shape.proofs.Tests.{rest_failed}
 use Rattle.kfs_shape.proofs.node_test.NodeTest.least_failed.Given as goal
 

@@ -1,0 +1,130 @@
+-- The bytes of a block: as a read of the file leaves them, and all of them as one list.
+use Rattle.std.proofs.Common.{◌≡◌, ℕ, zero, suc, ◌+◌, ◌-◌, ◌*◌, ◌<◌, ◌≤◌, ◌++◌, ◌↔◌, min, true, List, [], ◌∷◌, length, replicate, take, drop, map, Option, Some, None, Result, Ok, Err, option_map, refl, sym, ap, ◌∙◌, ⊎_elim, arith}
+use Rattle.std.specs.Prelude.{IsTrue, IfOk, OnErr}
+use Rattle.std.proofs.Math.ListN.{get_or, get_or-append}
+use Rattle.std.proofs.lemmas.Bool.{cases_lt}
+use Rattle.std.proofs.lemmas.List.{get_or-take, get_or-drop, get_or_past, take_at, get_or-append_right, length-take, length-drop}
+use Rattle.std.proofs.lemmas.Option.{unwrap_or-slice_get}
+use Rattle.kfs_model.specs.Header.{Kind, File, Directory, Header}
+use Rattle.kfs_model.specs.Entry.{Entry}
+use Rattle.kfs_model.specs.PlanRow.{Piece}
+use Rattle.kfs_model.specs.Placement.{numbers_from, below}
+use Rattle.kfs_model.specs.Run.{byte_at}
+use Rattle.kfs_model.specs.Sight.{is_directory}
+use Rattle.kfs_model.specs.Table.{get}
+use Rattle.kfs_model.specs.Tree.{Tree, content_of, node_over}
+use Rattle.kfs_model.proofs.TableLaws.{get-mapped}
+use Rattle.kfs_model.specs.Device.ShownTree.{DeviceImage, file_bytes, shown_tree}
+use Rattle.kfs_desk.specs.Fill.Bytes.{byte_over, ArePut, ArePutOnAny}
+use Rattle.kfs_desk.specs.Fill.Fill.{byte_after}
+use Rattle.kfs_image.specs.Read.{FileIsRead}
+use Rattle.kfs_image.specs.declared.read.ReadFault.{ReadFault}
+use Rattle.kfs_image.specs.declared.read.ReadFault.TheVariants as faults
+
+-- ---- a list by a function of its places
+
+pub listed_from : (f : ℕ → ℕ) (first : ℕ) (bytes : List ℕ) (count : ℕ) → length bytes ≡ count → ((k : ℕ) → k < count → get_or bytes k 0 ≡ f (first + k)) → bytes ≡ map f (numbers_from first count)
+listed_from f first [] zero long each = refl
+listed_from f first [] (suc count) long each = absurd (omega (arith, long))
+listed_from f first (b ∷ bs) zero long each = absurd (omega (arith, long))
+listed_from f first (b ∷ bs) (suc count) long each =
+    let here : b ≡ f first = each 0 (omega arith) ∙ ap f (omega arith) in
+    let later : bs ≡ map f (numbers_from (first + 1) count) = listed_from f (first + 1) bs count (omega (arith, long)) (λ k below. each (suc k) (omega (arith, below)) ∙ ap f (omega arith)) in
+    λ i. here i ∷ later i
+
+-- the bytes of a block are those that stood there, with the pieces put over them
+pub block_is : (before : Tree ℕ) (entries : List Entry) (pieces : List Piece) (number block size start len : ℕ) (old new behind : List ℕ)
+    → start ≡ block * size → length old ≡ size → length new ≡ size → len ≡ size
+    → ((k : ℕ) → k < size → get_or old k 0 ≡ byte_at (content_of (get before.nodes number)) (start + k)) → ArePut entries pieces number start old new
+    → take len (new ++ behind) ≡ map (λ k. byte_after before entries pieces number (block * size + k)) (below size)
+block_is before entries pieces number block size start len old new behind begins old_long new_long whole stood put =
+    take_at new behind len (new_long ∙ sym whole) ∙ listed_from (λ k. byte_after before entries pieces number (block * size + k)) 0 new size new_long each
+  where
+    each : (k : ℕ) → k < size → get_or new k 0 ≡ byte_after before entries pieces number (block * size + (0 + k))
+    each k below =
+        put before k (omega (arith, below, old_long))
+        ∙ ap (byte_over before entries pieces number (start + k)) (stood k below)
+        ∙ ap (byte_after before entries pieces number) (let same : start + k ≡ block * size + (0 + k) = omega (arith, begins) in same)
+
+-- the bytes of a block that pieces cover are those of the pieces
+pub covered_is : (before : Tree ℕ) (entries : List Entry) (pieces : List Piece) (number block size start : ℕ) (bytes : List ℕ)
+    → start ≡ block * size → length bytes ≡ size → ArePutOnAny entries pieces number start bytes
+    → bytes ≡ map (λ k. byte_after before entries pieces number (block * size + k)) (below size)
+covered_is before entries pieces number block size start bytes begins long put = listed_from (λ k. byte_after before entries pieces number (block * size + k)) 0 bytes size long each
+  where
+    each : (k : ℕ) → k < size → get_or bytes k 0 ≡ byte_after before entries pieces number (block * size + (0 + k))
+    each k below =
+        put before k (byte_at (content_of (get before.nodes number)) (start + k)) (omega (arith, below, long))
+        ∙ ap (byte_after before entries pieces number) (let same : start + k ≡ block * size + (0 + k) = omega (arith, begins) in same)
+
+-- ---- what a read leaves in bytes that were zero
+
+pub in_front : (len k byte : ℕ) (front rest : List ℕ) → k < len → k < length front → get_or front k 0 ≡ byte → get_or (take len (front ++ rest)) k 0 ≡ byte
+in_front len k byte front rest taken inside is = get_or-take len (front ++ rest) k 0 taken ∙ get_or-append front rest 0 k inside ∙ is
+
+zero_at : (n k : ℕ) → ◌≡◌ {A = ℕ} (get_or (replicate n 0) k 0) 0
+zero_at zero k = refl
+zero_at (suc n) zero = refl
+zero_at (suc n) (suc k) = zero_at n k
+
+take_none : (n : ℕ) → ◌≡◌ {A = List ℕ} (take n []) []
+take_none zero = refl
+take_none (suc n) = refl
+
+pub all_zero : (n m : ℕ) (none items bytes : List ℕ) → none ≡ [] → bytes ≡ items → items ≡ take n none ++ replicate m 0 → (k : ℕ) → get_or bytes k 0 ≡ 0
+all_zero n m none items bytes empty same is k = ap (λ b. get_or b k 0) (same ∙ is ∙ ap (λ b. take n b ++ replicate m 0) empty ∙ ap (λ b. b ++ replicate m 0) (take_none n)) ∙ zero_at m k
+
+module _ (image : DeviceImage) (number start : ℕ) where
+  abbrev content : List ℕ
+  content = content_of (get (shown_tree image).nodes number)
+
+  node_is : get (shown_tree image).nodes number ≡ option_map (node_over (file_bytes image.placement image.devices) number) (get image.heads number)
+  node_is = get-mapped (node_over (file_bytes image.placement image.devices)) image.heads number
+
+  none_there : get image.heads number ≡ None → content ≡ []
+  none_there none = ap content_of (node_is ∙ ap (option_map (node_over (file_bytes image.placement image.devices) number)) none)
+
+  none_in_directory : IsTrue (is_directory (get image.heads number)) → content ≡ []
+  none_in_directory is = ap content_of node_is ∙ at (get image.heads number) is
+    where
+      kinds : (h : Header) (kind : Kind) → is_directory (Some (record h { kind = kind })) ≡ true → content_of (Some (node_over (file_bytes image.placement image.devices) number (record h { kind = kind }))) ≡ []
+      kinds h File is = cc
+      kinds h Directory is = refl
+
+      at : (o : Option Header) → is_directory o ≡ true → content_of (option_map (node_over (file_bytes image.placement image.devices) number) o) ≡ []
+      at None is = refl
+      at (Some h) is = kinds h h.kind is
+
+  byte_is : (k : ℕ) → byte_at content (start + k) ≡ get_or content (start + k) 0
+  byte_is k = unwrap_or-slice_get content (start + k) 0
+
+  zero_past : (k : ℕ) → content ≡ [] → 0 ≡ byte_at content (start + k)
+  zero_past k empty = sym (ap (λ bytes. byte_at bytes (start + k)) empty)
+
+  module _ (old new : List ℕ) (zeros : (k : ℕ) → k < length old → get_or old k 0 ≡ 0) where
+    abbrev part : List ℕ
+    part = take (length old) (drop start content)
+
+    part_long : length part ≡ min (length old) (length content - start)
+    part_long = length-take (length old) (drop start content) ∙ ap (min (length old)) (length-drop start content)
+
+    read_there : (count : ℕ) → FileIsRead image number start old new count → (k : ℕ) → k < length old → get_or new k 0 ≡ byte_at content (start + k)
+    read_there count is k below = ap (λ bytes. get_or bytes k 0) is.bytes ∙ ⊎_elim
+        (λ (less : k < length part).
+        get_or-append part (drop count old) 0 k less ∙ get_or-take (length old) (drop start content) k 0 below ∙ get_or-drop start content k 0 ∙ sym (byte_is k))
+        (λ (past : length part ≤ k).
+        get_or-append_right part (drop count old) (length part) k 0 refl past
+        ∙ get_or-drop count old (k - length part) 0
+        ∙ ap (λ n. get_or old n 0) (let same : count + (k - length part) ≡ k = omega (arith, past, is.count_is) in same)
+        ∙ zeros k below
+        ∙ sym (byte_is k ∙ get_or_past content (start + k) 0 (omega (arith, past, below, part_long))))
+        (cases_lt k (length part))
+
+    pub read_or_zero : (r : Result ℕ ReadFault) → IfOk r (FileIsRead image number start old new)
+        → ((r ≡ Err faults.NoSuchNode) ↔ (get image.heads number ≡ None))
+        → ((r ≡ Err faults.IsDirectory) ↔ IsTrue (is_directory (get image.heads number)))
+        → OnErr r (new ≡ old)
+        → (k : ℕ) → k < length old → get_or new k 0 ≡ byte_at content (start + k)
+    read_or_zero (Ok count) read no_node directory kept k below = read_there count read k below
+    read_or_zero (Err faults.NoSuchNode) read no_node directory kept k below = ap (λ bytes. get_or bytes k 0) kept ∙ zeros k below ∙ zero_past k (none_there (no_node.0 refl))
+    read_or_zero (Err faults.IsDirectory) read no_node directory kept k below = ap (λ bytes. get_or bytes k 0) kept ∙ zeros k below ∙ zero_past k (none_in_directory (directory.0 refl))

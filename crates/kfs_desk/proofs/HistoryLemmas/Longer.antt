@@ -1,0 +1,34 @@
+-- A docket with a row more is legal where the row fits.
+use Rattle.std.proofs.Common.{◌≡◌, List, [], ◌∷◌, ◌++◌, Option, None, Some, refl, sym, subst}
+use Rattle.std.specs.List.{AllByRecursion}
+use Rattle.kfs_model.specs.Judgement.{State}
+use Rattle.kfs_model.specs.Machine.{IsRead, Row, after, next}
+use Rattle.kfs_desk.specs.History.Legal.{IsLegalDocket}
+
+-- The empty docket leads nowhere else.
+pub leads_nowhere : (opening : State) → IsLegalDocket opening [] opening
+unfolding after
+leads_nowhere opening = record { read = tt; fit = refl }
+
+module _ (row : Row) where
+  read_with : (rows : List Row) → AllByRecursion IsRead rows → IsRead row → AllByRecursion IsRead (rows ++ row ∷ [])
+  read_with [] read last = (last, tt)
+  read_with (first ∷ rows) read last = (read.0, read_with rows read.1 last)
+
+  after_with : (opening s t : State) (rows : List Row) → after opening rows ≡ Some s → next s row ≡ Some t → after opening (rows ++ row ∷ []) ≡ Some t
+  unfolding after
+  after_with opening s t [] fit last = let same : opening ≡ s = cc in subst (λ o. after o (row ∷ []) ≡ Some t) (sym same) (by (next s row) last)
+    where
+      by : (found : Option State) → found ≡ Some t → elim found [ None ↦ None | Some t ↦ Some t ] ≡ Some t
+      by None none = cc
+      by (Some u) is = is
+  after_with opening s t (first ∷ rows) fit last = by (next opening first) (λ u is. after_with u s t rows is last) fit
+    where
+      by : (found : Option State) → ((u : State) → after u rows ≡ Some s → after u (rows ++ row ∷ []) ≡ Some t)
+          → ◌≡◌ {A = Option State} (elim found [ None ↦ None | Some u ↦ after u rows ]) (Some s) → ◌≡◌ {A = Option State} (elim found [ None ↦ None | Some u ↦ after u (rows ++ row ∷ []) ]) (Some t)
+      by None later none = cc
+      by (Some u) later is = later u is
+
+  -- With the row it leads to the state after the row.
+  pub leads_on : (opening s t : State) (docket : List Row) → IsLegalDocket opening docket s → IsRead row → next s row ≡ Some t → IsLegalDocket opening (docket ++ row ∷ []) t
+  leads_on opening s t docket leads read fits = record { read = read_with docket leads.read read; fit = after_with opening s t docket leads.fit fits }

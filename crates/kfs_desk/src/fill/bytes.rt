@@ -1,0 +1,150 @@
+//! A log's pieces, laid over the bytes of a file.
+ghost use Rattle.std.specs.Prelude.{◌≡◌, ◌+◌, ◌≤◌, ◌∷◌, [], drop, length, slice_get, slice_index, EachIndex, IfSome, IsTrue};
+ghost use Rattle.kfs_types.specs.Views.{piece_of, source_of};
+ghost use Rattle.kfs_model.specs.Limits.{block_size};
+ghost use Rattle.kfs_model.specs.Run.{byte_at, payload_of};
+ghost use Rattle.kfs_desk.specs.Fill.Bytes.{entries_of, pieces_of, HasPayloads, ArePut, ArePutOnAny, AreGivenBy};
+
+use kfs_types::{BLOCK_LEN, BLOCK_SIZE, Entry, Piece, Source, Span};
+
+/// A log, and the pieces that say which bytes it changes.
+#[derive(Clone, Copy)]
+pub struct LogBytes<'a> {
+    /// The bytes that the log was read from.
+    pub source: &'a [u8],
+    /// The log's entries.
+    pub entries: &'a [Entry<Span>],
+    /// Its pieces, ascending by file number and position.
+    pub pieces: &'a [Piece],
+}
+
+/// The payload of the entry with this index; empty where the entry isn't a Write, or there is none.
+fn payload<'a>(log: &LogBytes<'a>, entry: u16) -> &'a [u8]
+    requires { HasPayloads log.now }
+    ensures { result.now ≡ payload_of (slice_get (entries_of log.now) entry) }
+{
+    match log.entries.get(usize::from(entry)) {
+        Some(
+            Entry::Write {
+                number: _,
+                offset: _,
+                payload,
+            },
+        ) => &log.source[payload.start..payload.end],
+        _ => &[],
+    }
+}
+
+/// The bytes without the first `count`.
+fn behind(bytes: &[u8], count: usize) -> &[u8]
+    ensures { result.now ≡ drop count bytes.now }
+{
+    &bytes[count.min(bytes.len())..]
+}
+
+/// Copies the payload to the front of the bytes, and fills the rest with zero.
+fn put_bytes(bytes: &mut [u8], payload: &[u8])
+    ensures { EachIndex bytes.new (λ k. slice_index bytes.new k ≡ byte_at payload.now k) }
+{
+    let count = payload.len().min(bytes.len());
+    bytes[..count].copy_from_slice(&payload[..count]);
+    bytes[count..].fill(0);
+}
+
+/// Fills the bytes from a piece's source, from `distance` bytes behind the piece's start on.
+fn put_source(bytes: &mut [u8], log: &LogBytes<'_>, source: Source, distance: usize)
+    requires { HasPayloads log.now }
+    ensures { AreGivenBy (entries_of log.now) (source_of source) distance bytes.new }
+{
+    match source {
+        Source::Zero => bytes.fill(0),
+        Source::Payload { entry, place } => {
+            let from_place = behind(payload(log, entry), place as usize);
+            put_bytes(bytes, behind(from_place, distance));
+        }
+    }
+}
+
+/// Lays a piece over the bytes, which are the file's from position `start` on.
+fn put_piece(bytes: &mut [u8], log: &LogBytes<'_>, piece: &Piece, number: u32, start: u64)
+    requires { HasPayloads log.now }
+    ensures { ArePut (entries_of log.now) (piece_of piece.now ∷ []) number start bytes.old bytes.new }
+{
+    let first = piece.start.saturating_sub(start) as usize;
+    if piece.number != number || first >= bytes.len() {
+        return;
+    }
+    let distance = start.saturating_sub(piece.start);
+    let left = piece.len.saturating_sub(distance) as usize;
+    let count = left.min(bytes.len() - first);
+    put_source(
+        &mut bytes[first..first + count],
+        log,
+        piece.source,
+        distance as usize,
+    );
+}
+
+/// Lays the pieces over the bytes, which are the file's from position `start` on. A byte in several
+/// pieces is that of the first one.
+pub(crate) fn put_pieces(bytes: &mut [u8], log: &LogBytes<'_>, number: u32, start: u64)
+    requires { HasPayloads log.now }
+    ensures { ArePut (entries_of log.now) (pieces_of log.now) number start bytes.old bytes.new }
+{
+    for piece in log.pieces.iter().rev() {
+        put_piece(bytes, log, piece, number, start);
+    }
+}
+
+/// The bytes of the block that begins at position `start` of the file, where one piece of a payload
+/// covers it. What stood there doesn't matter then.
+pub(crate) fn covering_bytes<'a>(log: &LogBytes<'a>, number: u32, start: u64) -> Option<&'a [u8]>
+    requires { HasPayloads log.now }
+    ensures whole { IfSome result (λ bytes. length bytes.now ≡ block_size) }
+    ensures put { IfSome result (λ bytes. ArePutOnAny (entries_of log.now) (pieces_of log.now) number start bytes.now) }
+{
+    let piece = log.pieces.first()?;
+    if !covers_block(piece, number, start) {
+        return None;
+    }
+    let distance = start - piece.start;
+    block_of(log, piece.source, distance as usize)
+}
+
+/// Whether the piece covers the whole block that begins at this byte of the file.
+fn covers_block(piece: &Piece, number: u32, start: u64) -> bool
+    ensures number { IsTrue result → piece.now.number ≡ number }
+    ensures begins { IsTrue result → piece.now.start ≤ start }
+    ensures ends { IsTrue result → start + block_size ≤ piece.now.start + piece.now.len }
+{
+    piece.number == number
+        && piece.start <= start
+        && piece.len >= BLOCK_SIZE
+        && start - piece.start <= piece.len - BLOCK_SIZE
+}
+
+/// A block's bytes of a source, from `distance` bytes behind its piece's start on, if they are all of
+/// one payload.
+fn block_of<'a>(log: &LogBytes<'a>, source: Source, distance: usize) -> Option<&'a [u8]>
+    requires { HasPayloads log.now }
+    ensures whole { IfSome result (λ bytes. length bytes.now ≡ block_size) }
+    ensures given { IfSome result (λ bytes. AreGivenBy (entries_of log.now) (source_of source) distance bytes.now) }
+{
+    match source {
+        Source::Zero => None,
+        Source::Payload { entry, place } => {
+            let from_place = behind(payload(log, entry), place as usize);
+            front_block(behind(from_place, distance))
+        }
+    }
+}
+
+/// The first 4,096 bytes, if there are so many.
+fn front_block(bytes: &[u8]) -> Option<&[u8]>
+    ensures { IfSome result (λ front. (length front.now ≡ block_size) × EachIndex front.now (λ k. slice_index front.now k ≡ byte_at bytes.now k)) }
+{
+    if bytes.len() < BLOCK_LEN {
+        return None;
+    }
+    Some(&bytes[..BLOCK_LEN])
+}

@@ -1,0 +1,53 @@
+//! The docket: rows that contracts see, and their number.
+ghost use Rattle.std.specs.Prelude.{◌≡◌, ◌+◌, ◌<◌, ◌^◌, [], ◌∷◌, ◌++◌, length};
+
+use crate::history::row::OneRow;
+use kfs_model::GhostList;
+use std::marker::Model;
+
+/// A desk's docket. It has one row for each call that was answered, in order. Only the number of rows
+/// is kept; the rows take no memory and are visible to contracts alone.
+#[derive(Drop)]
+pub struct Docket {
+    rows: GhostList<OneRow>,
+    len: u32,
+}
+
+impl Model for Docket {
+    ghost use Rattle.std.specs.Prelude.{◌≡◌, List, length, map};
+    ghost use Rattle.kfs_model.specs.Machine.{Row};
+
+    ghost Value = { List Row };
+
+    ghost view = { λ d. map (λ r. r.row) d.rows.items };
+
+    ghost invariant = { λ d. d.len ≡ length d.rows.items };
+}
+
+impl Docket {
+    /// A docket without rows. Takes no memory.
+    pub fn new() -> Docket
+        ensures { result ≡ [] }
+    {
+        Docket {
+            rows: GhostList::none(),
+            len: 0,
+        }
+    }
+
+    /// How many rows it has, at most 2^32 - 1. A row's position counts from 0. Takes no memory.
+    pub fn len(&self) -> u32
+        ensures { result ≡ length self.now }
+    {
+        self.len
+    }
+
+    /// Adds a row at the end. Condition: the docket has fewer than 2^32 - 1 rows. Takes no memory.
+    pub fn push(&mut self, row: OneRow)
+        requires { length self.old + 1 < 2 ^ 32 }
+        ensures { self.new ≡ self.old ++ row.row ∷ [] }
+    {
+        self.rows = self.rows.and(&row);
+        self.len += 1;
+    }
+}

@@ -1,4 +1,0 @@
-pub mod Nested
-pub mod Padded
-pub mod Room
-pub mod Views

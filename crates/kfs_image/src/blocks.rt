@@ -1,0 +1,12 @@
+//! Where the blocks of files lie, and the three tiers, changed together. Begin with `blocks.rt`.
+mod blocks;
+mod fill;
+mod moves;
+mod nested;
+mod read;
+mod staged;
+
+pub use self::blocks::FileBlocks;
+pub use self::fill::{BlockRow, BlockRun};
+pub use self::nested::{ChangeBlocks, FillBlocks, MoveBlocks};
+pub use crate::tier::{NewBlock, Place};

@@ -1,0 +1,158 @@
+//! The three tiers of an image.
+ghost use Rattle.std.specs.Prelude.{◌≡◌, ◌+◌, ◌≤◌, All, length, vec_len, slice_index, IfSome, IfNone, IfOk, OnOk, OnErr, EachIndex};
+ghost use Rattle.kfs_model.specs.Limits.{block_size};
+ghost use Rattle.kfs_model.specs.Placement.{tier_size};
+ghost use Rattle.kfs_model.specs.Device.Device.{byte_on};
+ghost use Rattle.kfs_image.specs.Tier.Places.{free_count, IsNextFree, AreUsedFrom};
+ghost use Rattle.kfs_image.specs.Tier.Tiers.{new_tiers, places_in, is_free_at, TiersAreSized, IsInTier, CanMove, changed};
+
+use crate::tier::change::{NewBlock, change_all};
+use crate::tier::place::Place;
+use crate::tier::tier::Tier;
+use kfs_types::TierSizes;
+use std::alloc::{AllocError, Allocator};
+use std::marker::Model;
+use std::mem;
+
+/// Three tiers: which of their places are free, and the bytes of their blocks. A block that was never
+/// written takes no memory.
+pub struct Tiers<A: Allocator> {
+    sizes: TierSizes,
+    // Three of them. A vector, since with an array each caller would have to show that the whole fits
+    // in memory.
+    tiers: Vec<Tier<A>, A>,
+    // The memory of blocks that were written over, for blocks to come. Contracts don't see it.
+    spares: Vec<Vec<u8, A>, A>,
+}
+
+impl<A: Allocator> Model for Tiers<A> {
+    ghost use Rattle.kfs_image.specs.Tier.Tiers.{TiersShown, TiersAreSized};
+    ghost use Rattle.kfs_image.specs.Tier.TierViews.{free_of, devices_of};
+
+    ghost Value = { TiersShown };
+
+    ghost view = { λ t. record { sizes = t.sizes; free = free_of t.tiers.items; devices = devices_of t.tiers.items } };
+
+    ghost invariant = { λ t. TiersAreSized t.sizes (free_of t.tiers.items) };
+}
+
+// Written out, so that the drop of all is proved here once and not again in each crate that drops
+// them.
+impl<A: Allocator> Drop for Tiers<A> {
+    fn drop(self) {
+        let Tiers {
+            sizes: _sizes,
+            tiers,
+            spares,
+        } = self;
+        drop(tiers);
+        drop(spares);
+    }
+}
+
+impl<A: Allocator> Tiers<A> {
+    /// Tiers of these sizes, all places free, no block written. Takes one bit of memory for each place;
+    /// `Err` where memory is refused.
+    pub fn new(alloc: A, sizes: TierSizes) -> Result<Tiers<A>, AllocError>
+    where
+        A: Clone,
+        ensures { IfOk result (λ tiers. tiers ≡ new_tiers sizes) }
+    {
+        let first = Tier::new(alloc.clone()?, sizes.size(0))?;
+        let second = Tier::new(alloc.clone()?, sizes.size(1))?;
+        let third = Tier::new(alloc.clone()?, sizes.size(2))?;
+        let spares = Vec::new(alloc.clone()?);
+        let mut tiers = Vec::new(alloc);
+        tiers.push(first)?;
+        tiers.push(second)?;
+        tiers.push(third)?;
+        Ok(Tiers {
+            sizes,
+            tiers,
+            spares,
+        })
+    }
+
+    /// How many places the tier has, 0 for a tier over 2. Takes no memory.
+    pub fn size(&self, tier: u8) -> u32
+        ensures size { result ≡ tier_size self.now.sizes tier }
+        ensures sized { TiersAreSized self.now.sizes self.now.free }
+    {
+        self.sizes.size(tier)
+    }
+
+    /// How many places of the tier are free, 0 for a tier over 2. Takes no memory.
+    pub fn free(&self, tier: u8) -> u32
+        ensures { result ≡ free_count (places_in self.now.free tier) }
+    {
+        match self.tiers.get(tier as usize) {
+            Some(tier) => tier.places().free(),
+            None => 0,
+        }
+    }
+
+    /// The tier's least free place from `from` on, or none. Takes no memory.
+    pub fn next_free(&self, tier: u8, from: u32) -> Option<u32>
+        ensures found { IfSome result (λ place. IsNextFree (places_in self.now.free tier) from place) }
+        ensures none { IfNone result (AreUsedFrom (places_in self.now.free tier) from) }
+    {
+        self.tiers.get(tier as usize)?.places().next_free(from)
+    }
+
+    /// Whether the place exists and is free. Takes no memory.
+    pub fn is_free(&self, place: Place) -> bool
+        ensures { result ≡ is_free_at self.now.free place }
+    {
+        match self.tiers.get(place.tier as usize) {
+            Some(tier) => tier.places().is_free(place.place),
+            None => false,
+        }
+    }
+
+    /// Fills the buffer with the block's bytes from `offset` on; they are zero where the block was
+    /// never written. Condition: the buffer doesn't go past the block. Takes no memory.
+    pub fn read(&self, place: Place, offset: usize, buffer: &mut [u8])
+        requires { offset + length buffer.old ≤ block_size }
+        ensures { EachIndex buffer.new (λ k. slice_index buffer.new k ≡ byte_on self.now.devices place (offset + k)) }
+    {
+        match self.tiers.get(place.tier as usize) {
+            Some(tier) => tier.blocks().read(place.place, offset, buffer),
+            None => buffer.fill(0),
+        }
+    }
+
+    /// Exchanges the memory that is kept of blocks that were written over for what the list has. No
+    /// contract sees it, and what it holds doesn't matter. Takes no memory.
+    pub fn swap_spares(&mut self, spares: &mut Vec<Vec<u8, A>, A>)
+        ensures { self.new ≡ self.old }
+    {
+        mem::swap(&mut self.spares, spares);
+    }
+
+    /// Makes the places in `given` free and those in `taken` used, and writes blocks, at any places of
+    /// the tiers. A block keeps its bytes when its place is marked. `Err` where memory is refused; all
+    /// is as before then.
+    pub fn change(
+        &mut self,
+        given: &[Place],
+        taken: &[Place],
+        written: Vec<NewBlock<A>, A>,
+    ) -> Result<(), AllocError>
+    where
+        A: Clone,
+        requires places { CanMove self.old.free given.now taken.now }
+        requires in_tier { All (λ b. IsInTier self.old.free b.place) written.items }
+        requires whole { All (λ b. vec_len b.bytes ≡ block_size) written.items }
+        ensures ok { OnOk result (self.new ≡ changed given.now taken.now written.items self.old) }
+        ensures err { OnErr result (self.new ≡ self.old) }
+        ensures sized { TiersAreSized self.new.sizes self.new.free }
+    {
+        change_all(
+            self.tiers.as_mut_slice(),
+            given,
+            taken,
+            written,
+            &mut self.spares,
+        )
+    }
+}

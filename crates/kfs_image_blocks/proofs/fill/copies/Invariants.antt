@@ -1,6 +1,0 @@
-use Rattle.std.proofs.Common.{◌≡◌, ◌++◌, map, drop}
-use Rattle.kfs_image_blocks.specs.Fill.{new_part, row_part}
-use Rattle.kfs_image_blocks.proofs.fill.copies.Given as goal
-
-abbrev pub invariant-loop-row : goal.invariant-loop-row
-invariant-loop-row g l = map new_part l.written.items ++ map row_part (drop l.row-index l.rows) ≡ map row_part l.rows

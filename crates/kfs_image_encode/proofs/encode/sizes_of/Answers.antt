@@ -1,5 +1,0 @@
-use Rattle.std.proofs.Common.{rules}
-use Rattle.kfs_image_encode.proofs.encode.sizes_of.Goals as goal
-
-pub unwrap-requires : goal.unwrap-requires
-unwrap-requires g c = search rules

@@ -1,6 +1,0 @@
-use Rattle.kfs_image_fill.specs.Bytes.{entries_of}
-use Rattle.kfs_image_fill.proofs.PutPieces.{ArePutBehind}
-use Rattle.kfs_image_fill.proofs.bytes.put_pieces.Given as goal
-
-abbrev pub invariant-loop-piece : goal.invariant-loop-piece
-invariant-loop-piece l = ArePutBehind (entries_of l.log) l.log.pieces.now l.piece-iterator.iter.rest.now l.number l.start l.initial.bytes l.bytes

@@ -1,6 +1,0 @@
-use Rattle.std.proofs.Common.{◌≡◌, ◌++◌, map, drop}
-use Rattle.kfs_image_fill.specs.FillOf.{run_of}
-use Rattle.kfs_image_fill.proofs.fill.add_cleared.Given as goal
-
-abbrev pub invariant-loop-range : goal.invariant-loop-range
-invariant-loop-range g l = l.out.items ++ map (run_of l.number) (drop l.range-index l.range-items) ≡ l.fn.out.items ++ map (run_of l.number) l.range-items

@@ -1,5 +1,0 @@
-use Rattle.kfs_image_tier.proofs.MarkedBits.{is_marked-clear}
-use Rattle.kfs_image_tier.proofs.bits.clear.Goals as goal
-
-pub returns : goal.returns
-returns c = is_marked-clear c.args.words.now c.args.place c.requires

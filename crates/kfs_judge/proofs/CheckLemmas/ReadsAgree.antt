@@ -1,0 +1,110 @@
+-- Recorded reads: equal keys are equal cells, and what a later record agrees with.
+use Rattle.std.specs.Prelude.{◌≡◌, ◌&&◌, ◌≢◌, ℕ, Bool, true, false, nat_eq, ◌==◌, cond, ◌++◌, unwrap_or, List, [], ◌∷◌, Some, None, refl}
+use Rattle.std.proofs.Common.{ap, sym, subst, ◌∙◌}
+use mathlib.Core.Bool.{true≢false}
+use Rattle.std.specs.Cmp.{first_so, second_so}
+use Rattle.std.specs.Cmp.Lexicographic.{same_text, pointwise, bytes_decides}
+use Rattle.std.specs.Map.{lookup}
+use Rattle.kfs_judge.specs.declared.check.reads.ReadAnswer.{ReadAnswer}
+use Rattle.kfs_judge.specs.Check.Reads.{cell_of, answer_of, Agrees, AgreesAlong, Always, AreOnce, Grows}
+use Rattle.kfs_model.specs.Sight.{ClientSight, answer}
+use Rattle.std.proofs.lemmas.Bool.{eqb-true, eq-eqb}
+use Rattle.std.proofs.lemmas.List.Elements.{All-from_recursion}
+use Rattle.std.proofs.lemmas.List.Quantifiers.{all_pairs_push}
+use Rattle.std.specs.List.{AllByRecursion}
+use Rattle.kfs_image_nodes.specs.declared.cell.Cell.{Cell as CodeCell}
+use Rattle.kfs_image_nodes.specs.declared.cell.Cell.TheVariants as cells
+use Rattle.kfs_judge.specs.declared.check.reads.Read.{Read}
+use Rattle.kfs_judge.specs.declared.check.reads.Read.TheVariants as reads
+use Rattle.kfs_judge.specs.Check.SameReads.{same_read}
+
+same_read_exact : (x y : Read) → same_read x y ≡ true → x ≡ y
+same_read_exact (reads.Lease n) (reads.Lease k) e = ap reads.Lease (eqb-true n k e)
+same_read_exact (reads.Lease n) (reads.Look k) e = cc
+same_read_exact (reads.Look k) (reads.Lease n) e = cc
+same_read_exact (reads.Look k) (reads.Look l) e = ap reads.Look (same_look k l e)
+  where
+    same_name : (d d' : ℕ) (m m' : List ℕ) → same_read (reads.Look (cells.Name d m)) (reads.Look (cells.Name d' m')) ≡ true → cells.Name d m ≡ cells.Name d' m'
+    same_name d d' m m' e' =
+        let directory = eqb-true d d' (first_so (d == d') (pointwise nat_eq m m') e') in
+        let name = same_text m m' (sym (second_so (d == d') (pointwise nat_eq m m') e')) in
+        λ i. cells.Name (directory i) (name i)
+
+    same_look : (k l : CodeCell) → same_read (reads.Look k) (reads.Look l) ≡ true → k ≡ l
+    same_look (cells.Header n) (cells.Header n') e' = ap cells.Header (eqb-true n n' e')
+    same_look (cells.Count n) (cells.Count n') e' = ap cells.Count (eqb-true n n' e')
+    same_look (cells.Parent n) (cells.Parent n') e' = ap cells.Parent (eqb-true n n' e')
+    same_look (cells.Name d m) (cells.Name d' m') e' = same_name d d' m m' e'
+    same_look (cells.Header n) (cells.Name d m) e' = absurd (true≢false (sym e'))
+    same_look (cells.Header n) (cells.Count d) e' = absurd (true≢false (sym e'))
+    same_look (cells.Header n) (cells.Parent d) e' = absurd (true≢false (sym e'))
+    same_look (cells.Name d m) (cells.Header n) e' = absurd (true≢false (sym e'))
+    same_look (cells.Name d m) (cells.Count n) e' = absurd (true≢false (sym e'))
+    same_look (cells.Name d m) (cells.Parent n) e' = absurd (true≢false (sym e'))
+    same_look (cells.Count n) (cells.Header d) e' = absurd (true≢false (sym e'))
+    same_look (cells.Count n) (cells.Name d m) e' = absurd (true≢false (sym e'))
+    same_look (cells.Count n) (cells.Parent d) e' = absurd (true≢false (sym e'))
+    same_look (cells.Parent n) (cells.Header d) e' = absurd (true≢false (sym e'))
+    same_look (cells.Parent n) (cells.Name d m) e' = absurd (true≢false (sym e'))
+    same_look (cells.Parent n) (cells.Count d) e' = absurd (true≢false (sym e'))
+
+-- ---- agreement
+
+-- what is found by a key was recorded at its cell
+found_along : (entries : List (Read × ReadAnswer)) (read : Read) (seen : ReadAnswer) → lookup (same_read read) entries ≡ Some seen → (state : ClientSight) → AgreesAlong entries state → answer state (cell_of read) ≡ answer_of seen
+found_along [] read seen found state agrees = cc
+found_along (e ∷ es) read seen found state agrees = by_test (found_along es read seen) (same_read read e.0) refl found
+  where
+    by_test : (lookup (same_read read) es ≡ Some seen → (state' : ClientSight) → AgreesAlong es state' → answer state' (cell_of read) ≡ answer_of seen) → (same : Bool) → same_read read e.0 ≡ same → cond same (Some e.1) (lookup (same_read read) es) ≡ Some seen → answer state (cell_of read) ≡ answer_of seen
+    by_test rest true same found' = ap (λ r. answer state (cell_of r)) (same_read_exact read e.0 same) ∙ agrees.0 ∙ ap answer_of (some_exact found')
+      where
+        some_exact : {s t : ReadAnswer} → Some s ≡ Some t → s ≡ t
+        some_exact {s} {t} is = ap (λ o. unwrap_or o s) is
+    by_test rest false same found' = rest found' state agrees.1
+
+AgreesAlong-append : (entries : List (Read × ReadAnswer)) (read : Read) (seen : ReadAnswer) (state : ClientSight) → AgreesAlong (entries ++ (read, seen) ∷ []) state → AgreesAlong entries state × (answer state (cell_of read) ≡ answer_of seen)
+AgreesAlong-append [] read seen state agrees = (tt, agrees.0)
+AgreesAlong-append (e ∷ es) read seen state agrees =
+    let rest = AgreesAlong-append es read seen state agrees.1 in
+    ((agrees.0, rest.0), rest.1)
+
+pub known_by_key : (entries : List (Read × ReadAnswer)) (read : Read) (seen : ReadAnswer) → Some seen ≡ lookup (same_read read) entries → Always entries (λ state. answer state (cell_of read) ≡ answer_of seen)
+known_by_key entries read seen found state agrees = found_along entries read seen (sym found) state agrees.each
+
+pub grows_by_one : (old new : List (Read × ReadAnswer)) (read : Read) (seen : ReadAnswer) → new ≡ old ++ (read, seen) ∷ [] → Grows old new
+grows_by_one old new read seen is state agrees = record { each = (AgreesAlong-append old read seen state (subst (λ es. AgreesAlong es state) is agrees.each)).0 }
+
+pub known_at_end : (old new : List (Read × ReadAnswer)) (read : Read) (seen : ReadAnswer) → new ≡ old ++ (read, seen) ∷ [] → Always new (λ state. answer state (cell_of read) ≡ answer_of seen)
+known_at_end old new read seen is state agrees = (AgreesAlong-append old read seen state (subst (λ es. AgreesAlong es state) is agrees.each)).1
+
+AgreesAlong-push : (entries : List (Read × ReadAnswer)) (read : Read) (seen : ReadAnswer) (state : ClientSight) → AgreesAlong entries state → answer state (cell_of read) ≡ answer_of seen → AgreesAlong (entries ++ (read, seen) ∷ []) state
+AgreesAlong-push [] read seen state agrees is = (is, tt)
+AgreesAlong-push (e ∷ es) read seen state agrees is = (agrees.0, AgreesAlong-push es read seen state agrees.1 is)
+
+-- what agrees with the earlier reads and with one more
+pub agrees_by_one : (old new : List (Read × ReadAnswer)) (read : Read) (seen : ReadAnswer) (state : ClientSight) → new ≡ old ++ (read, seen) ∷ [] → answer state (cell_of read) ≡ answer_of seen → Agrees old state → Agrees new state
+agrees_by_one old new read seen state is shows agrees = record { each = subst (λ es. AgreesAlong es state) (sym is) (AgreesAlong-push old read seen state agrees.each shows) }
+
+-- ---- each read once
+
+same_read_itself : (read : Read) → same_read read read ≡ true
+same_read_itself (reads.Lease n) = eq-eqb n n refl
+same_read_itself (reads.Look cell) = same_look_itself cell
+  where
+    same_look_itself : (cell : CodeCell) → same_read (reads.Look cell) (reads.Look cell) ≡ true
+    same_look_itself (cells.Header n) = eq-eqb n n refl
+    same_look_itself (cells.Count n) = eq-eqb n n refl
+    same_look_itself (cells.Parent n) = eq-eqb n n refl
+    same_look_itself (cells.Name d m) = λ i. eq-eqb d d refl i && (bytes_decides m m).1 refl i
+
+unread : (entries : List (Read × ReadAnswer)) (read : Read) → lookup (same_read read) entries ≡ None → AllByRecursion (λ e. e.0 ≢ read) entries
+unread [] read none = tt
+unread (e ∷ es) read none = by_test (unread es read) (same_read read e.0) refl none
+  where
+    by_test : (lookup (same_read read) es ≡ None → AllByRecursion (λ e'. e'.0 ≢ read) es) → (same : Bool) → same_read read e.0 ≡ same → cond same (Some e.1) (lookup (same_read read) es) ≡ None → AllByRecursion (λ e'. e'.0 ≢ read) (e ∷ es)
+    by_test rest true same none' = cc
+    by_test rest false other none' = ((λ is. absurd (true≢false (sym (same_read_itself read) ∙ ap (same_read read) (sym is) ∙ other))), rest none')
+
+-- a read that wasn't there goes last
+pub once_by_one : (old new : List (Read × ReadAnswer)) (read : Read) (seen : ReadAnswer) → new ≡ old ++ (read, seen) ∷ [] → lookup (same_read read) old ≡ None → AreOnce old → AreOnce new
+once_by_one old new read seen is none once = subst AreOnce (sym is) (all_pairs_push (λ e f. e.0 ≢ f.0) old (read, seen) once (All-from_recursion (λ e. e.0 ≢ read) old (unread old read none)))

@@ -1,0 +1,67 @@
+//! Making a view, and looking things up in it.
+ghost use Rattle.std.specs.Prelude.{◌≡◌};
+ghost use Rattle.std.specs.Option.{option_map};
+ghost use Rattle.kfs_image_nodes.specs.Look.{IsAnswer};
+ghost use Rattle.kfs_model.specs.Lease.{holds, row_of};
+ghost use Rattle.kfs_model.specs.Tree.{target};
+ghost use Rattle.kfs_mode.specs.Clients.{ClientsAreDistinct};
+ghost use Rattle.kfs_judge.specs.Check.View.{contents_of, leases_of, clients_of};
+
+use crate::check::view::View;
+use kfs_image_nodes::{Answer, Cell, Name, Near, Shape, look};
+use kfs_lease::Leases;
+use kfs_mode::{Client, find_client};
+use std::alloc::Allocator;
+use std::sync::Arc;
+
+impl<A: Allocator + Copy> View<A> {
+    /// The view of these. Condition: no two clients have the same number; where their numbers ascend, a
+    /// client is found faster. Takes no memory.
+    pub fn of(
+        shape: Arc<Shape<A>, A>,
+        leases: Arc<Leases<A>, A>,
+        clients: Arc<Vec<Client, A>, A>,
+    ) -> View<A>
+        requires distinct { ClientsAreDistinct clients.value.items }
+        ensures contents { contents_of result ≡ shape.value }
+        ensures leases { leases_of result ≡ leases.value }
+        ensures clients { clients_of result ≡ clients.value.items }
+    {
+        View {
+            shape,
+            leases,
+            clients,
+        }
+    }
+
+    /// The client with this number, or none. Takes no memory.
+    pub fn client(&self, number: u32) -> Option<&Client>
+        ensures { option_map (λ row. row.now) result ≡ row_of (clients_of self.now) number }
+    {
+        find_client(self.clients.as_slice(), number)
+    }
+
+    /// The answer at a cell. Takes no memory.
+    pub fn look(&self, cell: &Cell) -> Answer
+        ensures { IsAnswer (contents_of self.now) cell.now result }
+    {
+        look(&self.shape, cell)
+    }
+
+    /// The number that a name of a directory leads to, or none, for names that are looked up one after
+    /// another. It is found faster where the last name was near. `near` becomes the place of this one.
+    /// Takes no memory.
+    pub fn target_near(&self, near: &mut Near, key: &(u32, Name)) -> Option<u32>
+        ensures { result ≡ target (contents_of self.now).names key.now.0 key.now.1 }
+    {
+        self.shape.target_near(near, key)
+    }
+
+    /// Whether the client holds a live write lease on the node; false where there is no such client or
+    /// node. Takes no memory.
+    pub fn holds(&self, client: u32, number: u32) -> bool
+        ensures { result ≡ holds (leases_of self.now) client number }
+    {
+        self.leases.holds(client, number)
+    }
+}

@@ -1,0 +1,78 @@
+//! The entry Create.
+ghost use Rattle.std.specs.Prelude.{◌≡◌, ℕ, ◌+◌, ◌==◌, ◌||◌, None, Ok, IfOk, OnOk, ◌++◌};
+ghost use Rattle.std.specs.Option.{option_map};
+ghost use Rattle.kfs_types.specs.Views.{kind_of};
+ghost use Rattle.kfs_model.specs.Check.{checks_of};
+ghost use Rattle.kfs_model.specs.Header.{Kind as KindShown};
+ghost use Rattle.kfs_model.specs.Entry as entry;
+ghost use Rattle.kfs_model.specs.SeenAfter.{seen_after};
+ghost use Rattle.kfs_model.specs.Sight.{Sight};
+ghost use Rattle.kfs_judge.specs.Step.Entered.{IsEntered};
+ghost use Rattle.kfs_judge.specs.Draft.Overlay.{has_created, over, ShiftsBy, HasRoom};
+ghost use Rattle.kfs_judge.specs.Check.Checks.{AnswersEntry};
+
+use crate::check::{EntryJudge, Reason, Recorder};
+use crate::step::check::check;
+use crate::step::log_judge::LogJudge;
+use kfs_image_nodes::{Header, Kind, Name};
+use std::alloc::{AllocError, Allocator};
+
+/// Why node `number` can't be made with the name `key`; none if it can.
+#[tactic(auto, unfolding(kfs_model::specs::Check::checks_of))]
+fn create_fault<A: Allocator + Copy>(
+    judge: &EntryJudge<'_, A>,
+    recorder: &mut Recorder<'_, A>,
+    key: &(u32, Name),
+    number: u32,
+) -> Result<Option<Reason>, AllocError>
+    ensures { (kind : KindShown) (mode : ℕ) → AnswersEntry judge.now recorder.old recorder.new result (entry.Create key.now.0 key.now.1 number kind mode) }
+{
+    let dir = key.0;
+    check!(judge, recorder;
+        Exists(dir),
+        IsADirectory(dir),
+        MaySearch(dir),
+        MayWrite(dir),
+        IsLeased(dir),
+        NameIsFree(key),
+        NumberIsGranted(number),
+        NumberIsFree(number),
+    );
+    Ok(None)
+}
+
+impl<'a, A: Allocator + Copy> LogJudge<'a, A> {
+    /// Makes the empty node `number` with the name `name` in `dir` and the client's uid and gid, or
+    /// answers the reason why not.
+    pub fn create(
+        &mut self,
+        dir: u32,
+        name: Name,
+        number: u32,
+        kind: Kind,
+        mode: u16,
+    ) -> Result<Option<Reason>, AllocError>
+        requires { HasRoom 3 self.old.draft }
+        ensures { IsEntered self.old self.new (entry.Create dir name number (kind_of kind) mode) result }
+    {
+        let key = (dir, name);
+        let judge = EntryJudge {
+            client: self.client,
+            draft: &self.draft,
+        };
+        let fault = create_fault(&judge, &mut self.recorder, &key, number)?;
+        if let Some(reason) = fault {
+            return Ok(Some(reason));
+        }
+        let header = Header {
+            kind,
+            mode,
+            uid: self.client.uid(),
+            gid: self.client.gid(),
+            links: 1,
+            size: 0,
+        };
+        self.draft.add_node(key, number, header)?;
+        Ok(None)
+    }
+}

@@ -1,0 +1,93 @@
+//! The net change of a log.
+ghost use Rattle.std.specs.Prelude.{◌≡◌, [], IfOk};
+ghost use Rattle.std.specs.Option.{option_map};
+ghost use Rattle.kfs_types.specs.Views.{header_of};
+ghost use Rattle.kfs_judge.specs.Check.Recorders.{LooksAtHeader, LooksAtName};
+ghost use Rattle.kfs_judge.specs.Draft.Overlay.{over};
+ghost use Rattle.kfs_judge.specs.Step.Rows.{IsRowOfName, IsRowOfNode};
+ghost use Rattle.kfs_judge.specs.Step.Nets.{AreNamesOf, AreNodesOf, LooksOver};
+
+use crate::check::Recorder;
+use crate::draft::Draft;
+use kfs_entry::{NameRow, NodeRow};
+use kfs_image_nodes::{Header, Name};
+use std::alloc::{AllocError, Allocator};
+
+/// A row for each name that leads elsewhere than before, ascending.
+pub fn name_rows<A: Allocator + Copy>(
+    alloc: A,
+    draft: &Draft<A>,
+    recorder: &mut Recorder<'_, A>,
+) -> Result<Vec<NameRow, A>, AllocError>
+    ensures { LooksOver draft.now recorder.old recorder.new result (λ rows before. AreNamesOf before.sight (over draft.now before.sight) rows.items) }
+{
+    let mut rows = room_for_names(alloc, draft)?;
+    for (key, now) in draft.targets().iter() {
+        if let Some(row) = name_row(recorder, key, *now)? {
+            rows.push(row)?;
+        }
+    }
+    Ok(rows)
+}
+
+/// No row, with room for one of each name that was written.
+fn room_for_names<A: Allocator + Copy>(
+    alloc: A,
+    draft: &Draft<A>,
+) -> Result<Vec<NameRow, A>, AllocError>
+    ensures { IfOk result (λ rows. rows.items ≡ []) }
+{
+    Vec::with_capacity(alloc, draft.targets().len())
+}
+
+/// The row of a name that leads to `now`, if it led elsewhere before.
+fn name_row<A: Allocator + Copy>(
+    recorder: &mut Recorder<'_, A>,
+    key: &(u32, Name),
+    now: Option<u32>,
+) -> Result<Option<NameRow>, AllocError>
+    ensures { LooksAtName recorder.old recorder.new result key.now (λ row before. IsRowOfName before.sight key.now now row) }
+{
+    let before = recorder.target(key)?;
+    if before == now {
+        return Ok(None);
+    }
+    let row = NameRow {
+        dir: key.0,
+        name: key.1,
+        number: now.unwrap_or(0),
+    };
+    Ok(Some(row))
+}
+
+/// A row for each node with another header than before, ascending.
+pub fn node_rows<A: Allocator + Copy>(
+    alloc: A,
+    draft: &Draft<A>,
+    recorder: &mut Recorder<'_, A>,
+) -> Result<Vec<NodeRow, A>, AllocError>
+    ensures { LooksOver draft.now recorder.old recorder.new result (λ rows before. AreNodesOf before.sight (over draft.now before.sight) rows.items) }
+{
+    let mut rows = Vec::new(alloc);
+    for (number, now) in draft.headers().iter() {
+        if let Some(row) = node_row(recorder, *number, *now)? {
+            rows.push(row)?;
+        }
+    }
+    Ok(rows)
+}
+
+/// The row of a node whose header is `now`, if it was another before.
+fn node_row<A: Allocator + Copy>(
+    recorder: &mut Recorder<'_, A>,
+    number: u32,
+    now: Option<Header>,
+) -> Result<Option<NodeRow>, AllocError>
+    ensures { LooksAtHeader recorder.old recorder.new result number (λ row before. IsRowOfNode before.sight number (option_map header_of now) row) }
+{
+    let before = recorder.header(number)?;
+    if before == now {
+        return Ok(None);
+    }
+    Ok(Some(NodeRow { number, now }))
+}

@@ -1,0 +1,62 @@
+-- Rows that are to go with their ends, and what is left without them.
+use Rattle.std.specs.Prelude.{◌≡◌, ℕ, ◌<◌, true, List, Option, Some, None, IsSome}
+use Rattle.std.specs.Borrow.{MutBor}
+use Rattle.std.specs.FinMap.Entries.{find}
+use Rattle.std.specs.declared.ops.Bound.{Bound}
+use Rattle.std.specs.declared.ops.Bound.TheVariants.{Included, Excluded}
+use Rattle.kfs_model.specs.Table.{Order, Table, get, changed}
+use Rattle.kfs_map_chunks.specs.Overlays.{overlaid}
+use Rattle.kfs_map_chunks.specs.Starts.{is_from}
+use Rattle.kfs_lease.specs.declared.rows.ending.Ending.{Ending}
+use Rattle.kfs_lease.specs.declared.rows.row_end.RowEnd.{RowEnd}
+use Rattle.kfs_lease.specs.declared.rows.rows.Lease.{Lease}
+use Rattle.kfs_lease.specs.declared.rows.rows.LeaseRows.{LeaseRows}
+use Rattle.kfs_lease.specs.Rows.Rows.{by_node, by_end, row_end, RowTable, EndTable, AreEndsOf, row_table, end_table}
+
+module _ {K X : Type 0} {R : Order K} where
+  -- what the second table has at a key, the first one has there, too
+  abbrev pub HasPart : (table part : Table R X) → Type 0
+  HasPart table part = (key : K) (value : X) → get part key ≡ Some value → get table key ≡ Some value
+
+-- rows and ends that are left: the ends are those of the rows, and all of them were there before
+pub record AreLeft (rows : RowTable) (ends : EndTable) (rows_left : RowTable) (ends_left : EndTable) : Type 0 where
+  pub exact : AreEndsOf rows_left ends_left
+  pub rows_part : HasPart rows rows_left
+  pub ends_part : HasPart ends ends_left
+
+module _ {A : Type 0} where
+  -- the rows without those that are to go
+  abbrev pub rows_left : LeaseRows A → Ending A → RowTable
+  rows_left rows ending = overlaid (row_table rows) ending.rows.latest.entries
+
+  -- their ends
+  abbrev pub ends_left : LeaseRows A → Ending A → EndTable
+  ends_left rows ending = overlaid (end_table rows) ending.ends.latest.entries
+
+  -- each row that is to go has its end listed, and nothing else is
+  abbrev pub AreListed : LeaseRows A → Ending A → Type 0
+  AreListed rows ending = AreLeft (row_table rows) (end_table rows) (rows_left rows ending) (ends_left rows ending)
+
+  -- an ending with one more: whatever the rows were, they are left without this one, and the ends without its end
+  abbrev pub AddsRow : (key : ℕ × ℕ) → (before after : Ending A) → Type 0
+  AddsRow key before after = (t : RowTable) → overlaid t after.rows.latest.entries ≡ changed (overlaid t before.rows.latest.entries) key None
+
+  abbrev pub AddsEnd : RowEnd → (before after : Ending A) → Type 0
+  AddsEnd end before after = (t : EndTable) → overlaid t after.ends.latest.entries ≡ changed (overlaid t before.ends.latest.entries) end None
+
+-- where the rows of a node begin that come behind a client, or all of its rows
+abbrev pub start_on : (node : ℕ) → (after : Option ℕ) → Bound (ℕ × ℕ)
+start_on node None = Included (node, 0)
+start_on node (Some client) = Excluded (node, client)
+
+-- no row of the node comes from there on
+abbrev pub NoneOn : List ((ℕ × ℕ) × Lease) → (node : ℕ) → (after : Option ℕ) → Type 0
+NoneOn leases node after = (client : ℕ) → is_from by_node.compare (start_on node after) (node, client) ≡ true → find by_node.compare (node, client) leases ≡ None
+
+-- each end from the start on is above the moment
+abbrev pub AreLater : List (RowEnd × Unit {0}) → Bound RowEnd → (moment : ℕ) → Type 0
+AreLater ends start moment = (end : ℕ) (key : ℕ × ℕ) → is_from by_end.compare start (row_end end key) ≡ true → IsSome (find by_end.compare (row_end end key) ends) → moment < end
+
+-- this holds of a value that is lent, before and after, and the reference stays the same
+abbrev pub HoldsOfLent : {X : Type 0} → (X → X → Type 0) → (before after : MutBor X) → Type 0
+HoldsOfLent P before after = P before.now after.now × (after.ghost_name ≡ before.ghost_name)

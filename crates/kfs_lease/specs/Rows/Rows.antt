@@ -1,0 +1,94 @@
+-- The table of leases that the code's rows show, and how the ends belong to them.
+use Rattle.std.specs.Prelude.{◌≡◌, ℕ, Bool, ◌==◌, ◌&&◌, ◌||◌, not, List, [], ◌∷◌, Option, option_map, is_some}
+use Rattle.std.specs.Ordering.{on, then_cmp}
+use Rattle.std.specs.Cmp.{on_total, then_total}
+use Rattle.std.specs.FinMap.{IsAntisymmetric}
+use Rattle.kfs_model.specs.Table.{Order, Table, numbers, pairs, pairs_exact, get, insert, empty}
+use Rattle.kfs_model.specs.Check.{is_some_and}
+use Rattle.kfs_model.specs.Lease as model
+use Rattle.kfs_map_chunks.specs.Tables.{table}
+use Rattle.kfs_lease.specs.declared.rows.row_end.RowEnd.{RowEnd}
+use Rattle.kfs_lease.specs.declared.rows.rows.LeaseKind.{LeaseKind}
+use Rattle.kfs_lease.specs.declared.rows.rows.LeaseKind.TheVariants.{Read, Write}
+use Rattle.kfs_lease.specs.declared.rows.rows.Lease.{Lease}
+use Rattle.kfs_lease.specs.declared.rows.rows.LeaseRows.{LeaseRows}
+
+abbrev pub kind_of : LeaseKind → model.LeaseKind
+kind_of Read = model.ReadLease
+kind_of Write = model.WriteLease
+
+abbrev pub lease_of : Lease → model.Lease
+lease_of lease = record { kind = kind_of lease.kind; end = lease.end }
+
+-- whether a lease that another one holds keeps the client from a lease of this kind
+abbrev pub bars : (client moment : ℕ) → model.LeaseKind → (holder : ℕ) → model.Lease → Bool
+bars client moment kind holder lease = not (holder == client) && (model.is_live moment lease && (model.is_write kind || model.is_write lease.kind))
+
+-- the least other client that has such a lease on the node
+abbrev pub conflicting : model.LeaseTable → (moment client number : ℕ) → model.LeaseKind → Option ℕ
+conflicting rows moment client number kind = option_map (λ row. row.0.0) (model.in_conflict (record { rows = rows; moment = moment }) client number kind)
+
+-- the order of rows: by node number, then by client
+abbrev pub by_node : Order (ℕ × ℕ)
+by_node = pairs numbers numbers
+
+pub exact_ends : IsAntisymmetric (then_cmp (on (λ (e : RowEnd). e.end) numbers.compare) (on (λ (e : RowEnd). e.key) by_node.compare))
+exact_ends x y same = let parts = pairs_exact numbers by_node (x.end, x.key) (y.end, y.key) same in λ i. record { end = (parts i).0; key = (parts i).1 }
+
+-- the order of ends: by moment, then by the row's key
+abbrev pub by_end : Order RowEnd
+by_end = record {
+  compare = then_cmp (on (λ (e : RowEnd). e.end) numbers.compare) (on (λ (e : RowEnd). e.key) by_node.compare);
+  total = then_total (on_total (λ (e : RowEnd). e.end) numbers.total) (on_total (λ (e : RowEnd). e.key) by_node.total);
+  exact = exact_ends;
+}
+
+abbrev pub row_end : (end : ℕ) → (key : ℕ × ℕ) → RowEnd
+row_end end key = record { end = end; key = key }
+
+-- rows by their keys
+abbrev pub RowTable : Type 0
+RowTable = Table by_node Lease
+
+-- ends, each with its row's key
+abbrev pub EndTable : Type 0
+EndTable = Table by_end (Unit {0})
+
+unfoldable pub table_of : List ((ℕ × ℕ) × Lease) → model.LeaseTable
+table_of [] = empty
+table_of (row ∷ rows) = insert (table_of rows) (row.0.1, row.0.0) (lease_of row.1)
+
+-- the table of leases that the rows show
+abbrev pub shown : RowTable → model.LeaseTable
+shown rows = table_of rows.entries
+
+-- the leases on other nodes than this one
+abbrev pub without_node : model.LeaseTable → (node : ℕ) → model.LeaseTable
+without_node leases node = model.on_those (λ other. not (other == node)) leases
+
+-- the leases on other nodes than these
+abbrev pub without_nodes : model.LeaseTable → (nodes : List ℕ) → model.LeaseTable
+without_nodes leases [] = leases
+without_nodes leases (node ∷ nodes) = without_nodes (without_node leases node) nodes
+
+-- whether the row has this end
+abbrev pub ends_at : Option Lease → (end : ℕ) → Bool
+ends_at row end = is_some_and row (λ (lease : Lease). lease.end == end)
+
+-- the ends are exactly those of the rows
+abbrev pub AreEndsOf : RowTable → EndTable → Type 0
+AreEndsOf rows ends = (end : ℕ) (key : ℕ × ℕ) → is_some (get ends (row_end end key)) ≡ ends_at (get rows key) end
+
+module _ {A : Type 0} where
+  abbrev pub row_table : LeaseRows A → RowTable
+  row_table rows = table by_node rows.leases
+
+  abbrev pub end_table : LeaseRows A → EndTable
+  end_table rows = table by_end rows.ends
+
+  abbrev pub table_in : LeaseRows A → model.LeaseTable
+  table_in rows = shown (row_table rows)
+
+  -- the ends listed are exactly those of the rows
+  pub record EndsAreExact (rows : LeaseRows A) : Type 0 where
+    pub ends : AreEndsOf (row_table rows) (end_table rows)

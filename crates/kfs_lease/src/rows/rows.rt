@@ -1,0 +1,262 @@
+//! The rows of leases, kept by node and client, and their ends, kept in order.
+ghost use Rattle.std.specs.Prelude.{◌≡◌, ◌==◌, ◌&&◌, ◌||◌, IfOk, IfErr, OnOk, OnErr, Some, None, option_map, is_some, false, cond};
+ghost use Rattle.kfs_model.specs.Table.{empty, get, insert, remove};
+ghost use Rattle.kfs_model.specs.Lease as model;
+ghost use Rattle.kfs_lease.specs.Rows.Rows.{kind_of, lease_of, bars, conflicting, row_end, row_table, table_in, without_nodes, EndsAreExact};
+
+use crate::rows::change::EndEdit;
+use crate::rows::ending::Ending;
+use crate::rows::row_end::RowEnd;
+use crate::rows::walk::next_on;
+use kfs_map_chunks::{Chunks, KeyEdit};
+use kfs_types::{Change, Nothing};
+use std::alloc::{AllocError, Allocator};
+
+/// What a lease allows its client ("Strata", SOSP 2017: read leases are shared, write leases are
+/// exclusive).
+#[derive(Clone, Copy, Debug, PartialEq, Eq)]
+pub enum LeaseKind {
+    /// Other clients may hold read leases on the node, and no write lease.
+    Read,
+    /// No other client may hold a lease on the node.
+    Write,
+}
+
+/// A lease of one client on one node.
+#[derive(Clone, Copy, Debug, PartialEq, Eq)]
+pub struct Lease {
+    /// For reading or for writing.
+    pub kind: LeaseKind,
+    /// The lease is live while the moment is below this one. Moments are numbers that the caller
+    /// counts.
+    pub end: u64,
+}
+
+impl LeaseKind {
+    fn is_write(self) -> bool
+        ensures { result ≡ model.is_write (kind_of self) }
+    {
+        match self {
+            LeaseKind::Read => false,
+            LeaseKind::Write => true,
+        }
+    }
+}
+
+impl Lease {
+    /// Whether the lease is live and conflicts with another client's lease of this kind.
+    fn excludes(&self, kind: LeaseKind, moment: u64) -> bool
+        ensures { result ≡ model.is_live moment (lease_of self.now) && (model.is_write (kind_of kind) || model.is_write (kind_of self.now.kind)) }
+    {
+        moment < self.end && (kind.is_write() || self.kind.is_write())
+    }
+
+    /// Whether the lease, which `holder` has, keeps the client from one of this kind.
+    fn bars(&self, holder: u32, client: u32, kind: LeaseKind, moment: u64) -> bool
+        ensures { result ≡ bars client moment (kind_of kind) holder (lease_of self.now) }
+    {
+        holder != client && self.excludes(kind, moment)
+    }
+}
+
+/// The rows of a table: each client has at most one lease on a node. Copies share chunks of rows and of
+/// ends.
+pub struct LeaseRows<A: Allocator> {
+    /// By the node's number, and then the client's.
+    pub leases: Chunks<(u32, u32), Lease, A>,
+    /// The end of each row, with the row's key.
+    pub ends: Chunks<RowEnd, (), A>,
+}
+
+// Written out, so that the drop of both maps is proved here once and not again in each crate that drops
+// leases.
+impl<A: Allocator> Drop for LeaseRows<A> {
+    fn drop(self) {
+        let LeaseRows { leases, ends } = self;
+        drop(leases);
+        drop(ends);
+    }
+}
+
+impl<A: Allocator + Copy> Clone for LeaseRows<A> {
+    ghost is_clone = { λ rows copy. copy ≡ rows };
+
+    fn clone(&self) -> Result<LeaseRows<A>, AllocError> {
+        Ok(LeaseRows {
+            leases: self.leases.clone()?,
+            ends: self.ends.clone()?,
+        })
+    }
+}
+
+impl<A: Allocator + Copy> LeaseRows<A> {
+    /// No rows. Takes no memory.
+    pub fn empty(alloc: A) -> LeaseRows<A>
+        ensures table { table_in result ≡ empty }
+        ensures indexed { EndsAreExact result }
+    {
+        LeaseRows {
+            leases: Chunks::new(alloc),
+            ends: Chunks::new(alloc),
+        }
+    }
+
+    /// The client's lease on the node, or none.
+    pub fn lease(&self, client: u32, number: u32) -> Option<Lease>
+        ensures { option_map lease_of result ≡ get (table_in self.now) (client, number) }
+    {
+        self.leases.get(&(number, client)).copied()
+    }
+
+    /// What there is on the node to a lease of this kind for the client. As an error, the least other
+    /// client whose live lease conflicts with it; else the client's own lease, or none.
+    pub fn contest(
+        &self,
+        client: u32,
+        number: u32,
+        kind: LeaseKind,
+        moment: u64,
+    ) -> Result<Option<Lease>, u32>
+        ensures held { IfErr result (λ other. Some other ≡ conflicting (table_in self.now) moment client number (kind_of kind)) }
+        ensures free { OnOk result (None ≡ conflicting (table_in self.now) moment client number (kind_of kind)) }
+        ensures own { IfOk result (λ own. own ≡ get (row_table self.now) (number, client)) }
+    {
+        let mut own = None;
+        let mut after = None;
+        while let Some((other, lease)) = next_on(&self.leases, number, after) {
+            if lease.bars(other, client, kind, moment) {
+                return Err(other);
+            }
+            own = own_among(own, client, other, lease);
+            after = Some(other);
+        }
+        Ok(own)
+    }
+
+    /// Sets the client's lease on the node, in place of the old one, if there is one. `Err` where memory
+    /// is refused; the rows are as before then.
+    pub fn put(
+        &mut self,
+        client: u32,
+        number: u32,
+        old: Option<Lease>,
+        lease: Lease,
+    ) -> Result<(), AllocError>
+        requires indexed { EndsAreExact self.old }
+        requires old { old ≡ get (row_table self.old) (number, client) }
+        ensures indexed { EndsAreExact self.new }
+        ensures table { OnOk result (table_in self.new ≡ insert (table_in self.old) (client, number) (lease_of lease)) }
+        ensures err { OnErr result (self.new ≡ self.old) }
+    {
+        let key = (number, client);
+        match old {
+            Some(old) => self.replace(key, old, lease),
+            None => self.change_row(key, Some(lease), &[listed(lease.end, key)]),
+        }
+    }
+
+    /// Sets the row of a key in place of the one that is there.
+    fn replace(&mut self, key: (u32, u32), old: Lease, new: Lease) -> Result<(), AllocError>
+        requires indexed { EndsAreExact self.old }
+        requires there { get (row_table self.old) key ≡ Some old }
+        ensures indexed { EndsAreExact self.new }
+        ensures table { OnOk result (table_in self.new ≡ insert (table_in self.old) (key.1, key.0) (lease_of new)) }
+        ensures err { OnErr result (self.new ≡ self.old) }
+    {
+        if old.end < new.end {
+            return self.change_row(
+                key,
+                Some(new),
+                &[unlisted(old.end, key), listed(new.end, key)],
+            );
+        }
+        if new.end < old.end {
+            return self.change_row(
+                key,
+                Some(new),
+                &[listed(new.end, key), unlisted(old.end, key)],
+            );
+        }
+        self.change_row(key, Some(new), &[])
+    }
+
+    /// Removes the client's lease on the node. Answers whether there was one. `Err` where memory is
+    /// refused; the rows are as before then.
+    pub fn take(&mut self, client: u32, number: u32) -> Result<bool, AllocError>
+        requires { EndsAreExact self.old }
+        ensures indexed { EndsAreExact self.new }
+        ensures found { IfOk result (λ found. found ≡ is_some (get (table_in self.old) (client, number))) }
+        ensures table { OnOk result (table_in self.new ≡ remove (table_in self.old) (client, number)) }
+        ensures kept { IfOk result (λ found. found ≡ false → self.new ≡ self.old) }
+        ensures err { OnErr result (self.new ≡ self.old) }
+    {
+        let key = (number, client);
+        let Some(lease) = self.leases.get(&key).copied() else {
+            return Ok(false);
+        };
+        self.change_row(key, None, &[unlisted(lease.end, key)])?;
+        Ok(true)
+    }
+
+    /// Removes the leases whose end isn't above the moment. `Err` where memory is refused; the rows are
+    /// as before then.
+    pub fn end_until(&mut self, moment: u64) -> Result<(), AllocError>
+        requires { EndsAreExact self.old }
+        ensures indexed { EndsAreExact self.new }
+        ensures table { OnOk result (table_in self.new ≡ model.live_at moment (table_in self.old)) }
+        ensures err { OnErr result (self.new ≡ self.old) }
+    {
+        let mut ending = Ending::none(*self.leases.allocator());
+        self.list_ended(&mut ending, moment)?;
+        self.end_all(&ending, &mut Nothing)
+    }
+
+    /// Removes the leases on the nodes, together with another change. All memory is taken before the
+    /// first change; `Err` where it is refused, and neither change is made then.
+    pub fn remove_nodes<T: Change>(
+        &mut self,
+        numbers: &[u32],
+        then: &mut T,
+    ) -> Result<(), AllocError>
+        requires indexed { EndsAreExact self.old }
+        requires then { T.can_make then.old }
+        ensures indexed { EndsAreExact self.new }
+        ensures table { OnOk result (table_in self.new ≡ without_nodes (table_in self.old) numbers.now) }
+        ensures err { OnErr result (self.new ≡ self.old) }
+        ensures made { OnOk result (T.made then.old then.new) }
+        ensures kept { OnErr result (T.kept then.old then.new) }
+    {
+        let mut ending = Ending::none(*self.leases.allocator());
+        for number in numbers {
+            self.list_on(&mut ending, *number)?;
+        }
+        self.end_all(&ending, then)
+    }
+}
+
+/// The client's own lease, where `own` was found before, and the next one is another client's or its own.
+fn own_among(own: Option<Lease>, client: u32, other: u32, lease: Lease) -> Option<Lease>
+    ensures { result ≡ cond (other == client) (Some lease) own }
+{
+    if other == client { Some(lease) } else { own }
+}
+
+/// The edit that lists an end.
+fn listed(end: u64, key: (u32, u32)) -> EndEdit
+    ensures { result ≡ record { key = row_end end key; value = Some tt } }
+{
+    KeyEdit {
+        key: RowEnd { end, key },
+        value: Some(()),
+    }
+}
+
+/// The edit that takes an end out.
+fn unlisted(end: u64, key: (u32, u32)) -> EndEdit
+    ensures { result ≡ record { key = row_end end key; value = None } }
+{
+    KeyEdit {
+        key: RowEnd { end, key },
+        value: None,
+    }
+}

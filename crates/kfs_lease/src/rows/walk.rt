@@ -1,0 +1,90 @@
+//! Walks over rows and ends, one after another in their order.
+ghost use Rattle.std.specs.Prelude.{◌≡◌, ◌≤◌, IfSome, IfNone, OnOk};
+ghost use Rattle.kfs_model.specs.Lease.{live_at};
+ghost use Rattle.kfs_map_chunks.specs.Starts.{IsNextEntry};
+ghost use Rattle.kfs_lease.specs.Rows.Ending.{rows_left, start_on, AreLater, AreListed, NoneOn};
+ghost use Rattle.kfs_lease.specs.Rows.Rows.{by_node, by_end, shown, without_node, EndsAreExact};
+
+use crate::rows::ending::Ending;
+use crate::rows::row_end::RowEnd;
+use crate::rows::rows::{Lease, LeaseRows};
+use kfs_map_chunks::Chunks;
+use std::alloc::{AllocError, Allocator};
+use std::ops::Bound;
+
+/// Where the rows of the node begin that come behind a client, or all of its rows.
+fn start_on(number: u32, after: Option<u32>) -> Bound<(u32, u32)>
+    ensures { result ≡ start_on number after }
+{
+    match after {
+        Some(client) => Bound::Excluded((number, client)),
+        None => Bound::Included((number, 0)),
+    }
+}
+
+/// The node's first client behind `after`, or of all its clients, and the client's lease; none where
+/// there is no such client.
+pub(crate) fn next_on<A: Allocator>(
+    leases: &Chunks<(u32, u32), Lease, A>,
+    number: u32,
+    after: Option<u32>,
+) -> Option<(u32, Lease)>
+    ensures next { IfSome result (λ row. IsNextEntry by_node.compare (start_on number after) leases.now (number, row.0) row.1) }
+    ensures none { IfNone result (NoneOn leases.now number after) }
+{
+    let start = start_on(number, after);
+    let (key, lease) = leases.next(start.as_ref())?;
+    if key.0 == number {
+        Some((key.1, *lease))
+    } else {
+        None
+    }
+}
+
+/// The first end from the start on, if it isn't above the moment.
+fn next_ended<A: Allocator>(
+    ends: &Chunks<RowEnd, (), A>,
+    start: &Bound<RowEnd>,
+    moment: u64,
+) -> Option<RowEnd>
+    ensures next { IfSome result (λ end. IsNextEntry by_end.compare start.now ends.now end tt) }
+    ensures ended { IfSome result (λ end. end.end ≤ moment) }
+    ensures none { IfNone result (AreLater ends.now start.now moment) }
+{
+    let (end, _) = ends.next(start.as_ref())?;
+    if end.end <= moment { Some(*end) } else { None }
+}
+
+impl<A: Allocator + Copy> LeaseRows<A> {
+    /// Adds the node's rows to those that are to go.
+    pub(crate) fn list_on(&self, ending: &mut Ending<A>, number: u32) -> Result<(), AllocError>
+        requires { AreListed self.now ending.old }
+        ensures listed { OnOk result (AreListed self.now ending.new) }
+        ensures left { OnOk result (shown (rows_left self.now ending.new) ≡ without_node (shown (rows_left self.now ending.old)) number) }
+    {
+        let mut after = None;
+        while let Some((client, lease)) = next_on(&self.leases, number, after) {
+            ending.add(RowEnd {
+                end: lease.end,
+                key: (number, client),
+            })?;
+            after = Some(client);
+        }
+        Ok(())
+    }
+
+    /// Adds the rows whose ends aren't above the moment to those that are to go.
+    pub(crate) fn list_ended(&self, ending: &mut Ending<A>, moment: u64) -> Result<(), AllocError>
+        requires indexed { EndsAreExact self.now }
+        requires listed { AreListed self.now ending.old }
+        ensures listed { OnOk result (AreListed self.now ending.new) }
+        ensures left { OnOk result (shown (rows_left self.now ending.new) ≡ live_at moment (shown (rows_left self.now ending.old))) }
+    {
+        let mut start = Bound::Unbounded;
+        while let Some(end) = next_ended(&self.ends, &start, moment) {
+            ending.add(end)?;
+            start = Bound::Excluded(end);
+        }
+        Ok(())
+    }
+}

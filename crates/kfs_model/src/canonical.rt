@@ -1,0 +1,2 @@
+//! Laws of the one encoding of an image's state. No code here runs. Begin with `laws.rt`.
+pub mod laws;

@@ -1,6 +1,0 @@
-use Rattle.std.proofs.Common.{refl}
-use Rattle.kfs_model_canonical.proofs.FittingRows.{fitting_rows}
-use Rattle.kfs_model_canonical.proofs.laws.spelling_is_read.Goals as goal
-
-pub returns : goal.returns
-returns c = λ image lawful. (fitting_rows image lawful, refl)

@@ -1,5 +1,0 @@
-use Rattle.kfs_model_device.proofs.LaidOut.{laid_out}
-use Rattle.kfs_model_device.proofs.laws.extents_lie_as_they_say.Goals as goal
-
-pub returns : goal.returns
-returns c = laid_out

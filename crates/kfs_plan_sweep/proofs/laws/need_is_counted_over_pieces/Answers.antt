@@ -1,5 +1,0 @@
-use Rattle.kfs_plan_sweep.proofs.NeedCounted.{need_is_counted}
-use Rattle.kfs_plan_sweep.proofs.laws.need_is_counted_over_pieces.Goals as goal
-
-pub returns : goal.returns
-returns c = need_is_counted

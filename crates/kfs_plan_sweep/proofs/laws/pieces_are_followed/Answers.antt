@@ -1,5 +1,0 @@
-use Rattle.kfs_plan_sweep.proofs.PiecesApart.{first_wrong_is_apart}
-use Rattle.kfs_plan_sweep.proofs.laws.pieces_are_followed.Goals as goal
-
-pub returns : goal.returns
-returns c = first_wrong_is_apart

@@ -1,7 +1,0 @@
-use Rattle.std.proofs.Common.{◌≡◌, ◌++◌, take}
-use Rattle.std.specs.List.{flat_map}
-use Rattle.kfs_program_images.specs.Showing.{name_row_line}
-use Rattle.kfs_program_images.proofs.showing.push_names.Given as goal
-
-abbrev pub invariant-loop-row : goal.invariant-loop-row
-invariant-loop-row g l = l.out.items ≡ l.fn.out.items ++ flat_map name_row_line (take l.row-index l.rows)

@@ -1,7 +1,0 @@
-use Rattle.std.proofs.Common.{◌≡◌, ◌++◌, take}
-use Rattle.std.specs.List.{flat_map}
-use Rattle.kfs_program_images.specs.Showing.{node_row_line}
-use Rattle.kfs_program_images.proofs.showing.push_nodes.Given as goal
-
-abbrev pub invariant-loop-row : goal.invariant-loop-row
-invariant-loop-row g l = l.out.items ≡ l.fn.out.items ++ flat_map node_row_line (take l.row-index l.rows)

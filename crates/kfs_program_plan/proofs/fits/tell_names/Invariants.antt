@@ -1,7 +1,0 @@
-use Rattle.std.proofs.Common.{All, take}
-use Rattle.kfs_model.specs.Spelling.{IsNameRow}
-use Rattle.kfs_entry_value.specs.Views.{name_row_of}
-use Rattle.kfs_program_plan.proofs.fits.tell_names.Given as goal
-
-abbrev pub invariant-loop-row : goal.invariant-loop-row
-invariant-loop-row l = All (λ row. IsNameRow (name_row_of row)) (take l.row-index l.rows)

@@ -1,0 +1,4 @@
+pub mod Landed
+pub mod TurnsLemmas
+pub mod CrewLemmas
+pub mod BatchLemmas

@@ -1,0 +1,6 @@
+pub mod Calls
+pub mod Passes
+pub mod Sharing
+pub mod Turns
+pub mod Crew
+pub mod Batch

@@ -1,0 +1,165 @@
+//! Which submissions a worker answers together, and how: it judges them against one view, and lands
+//! their verdicts in one turn.
+ghost use Rattle.std.specs.Prelude.{◌≡◌, ◌≢◌, List, IfSome, IfErr, drop};
+ghost use Rattle.kfs_model.specs.Machine.{Row};
+ghost use Rattle.kfs_desk.specs.Beginning.{beginning_of};
+ghost use Rattle.kfs_shared.specs.Turns.Lists.{StartsWith};
+ghost use Rattle.kfs_shared.specs.Passes.{IsPassOf, IsTurnOf, started, seen, own, seen_by};
+ghost use Rattle.kfs_shared.specs.Crew.Tasks.{IsDoneIn, all_of};
+ghost use Rattle.kfs_shared.specs.Batch.Jobs.{FromOn, HasWorkedIn, IsJobJudged, IsJobLanded, positions_of};
+
+use crate::batch::job::{Gate, Hand, Job};
+use crate::crew::Task;
+use crate::{Pass, Shared, SharedWant, Turn};
+use kfs_desk::Desk;
+use kfs_judge::View;
+use std::alloc::Allocator;
+use std::sync::Wait;
+
+/// The most submissions that are answered together.
+const MOST_TOGETHER: usize = 16;
+
+/// The most bytes of the logs and plans that are answered together.
+const MOST_BYTES: usize = 65_536;
+
+/// The client of a submission that waits.
+fn client_of<A: Allocator, G>(job: &Job<'_, A, G>) -> Option<u32> {
+    match &job.hand {
+        Hand::Waiting(submission) => Some(submission.client),
+        Hand::Taken | Hand::Judged(_) | Hand::Replied(_) | Hand::Back(_) => None,
+    }
+}
+
+/// The bytes of the log and the plan of a submission that waits.
+fn bytes_of<A: Allocator, G>(job: &Job<'_, A, G>) -> usize {
+    match &job.hand {
+        Hand::Waiting(submission) => submission.log.len().saturating_add(submission.plan.len()),
+        Hand::Taken | Hand::Judged(_) | Hand::Replied(_) | Hand::Back(_) => 0,
+    }
+}
+
+/// Whether logs and plans are short.
+fn are_short<A: Allocator, G>(jobs: &[Job<'_, A, G>]) -> bool {
+    let mut bytes: usize = 0;
+    for job in jobs {
+        bytes = bytes.saturating_add(bytes_of(job));
+    }
+    bytes <= MOST_BYTES
+}
+
+/// Whether one of them is this client's.
+fn has_client<A: Allocator, G>(jobs: &[Job<'_, A, G>], client: Option<u32>) -> bool {
+    for job in jobs {
+        if client_of(job) == client {
+            return true;
+        }
+    }
+    false
+}
+
+/// Whether no two are of one client. A client's logs build on each other, so the second would be judged
+/// twice.
+fn are_of_clients<A: Allocator, G>(jobs: &[Job<'_, A, G>]) -> bool {
+    match jobs.split_first() {
+        Some((job, later)) => !has_client(later, client_of(job)) && are_of_clients(later),
+        None => true,
+    }
+}
+
+/// Judges the submissions from this number on, in their order.
+fn judge_from<A: Allocator + Copy, G: Gate>(
+    view: &Result<View<A>, SharedWant>,
+    jobs: &mut [Job<'_, A, G>],
+    from: usize,
+)
+    requires { IfErr view.now (λ why. why ≢ SharedWant.DocketFull) }
+    ensures { FromOn (λ v w. IsJobJudged v.number v.hand w.number w.hand) from jobs.old jobs.new }
+{
+    if from >= jobs.len() {
+        return;
+    }
+    jobs[from].judge(view);
+    judge_from(view, jobs, from + 1);
+}
+
+/// Lands the verdicts on the submissions from this number on, in their order. Where no turn could be had,
+/// the submissions come back.
+fn land_from<A: Allocator + Copy, G: Gate>(
+    shared: &Shared<Desk<A>, A>,
+    turn: Option<Turn<Desk<A>>>,
+    jobs: &mut [Job<'_, A, G>],
+    from: usize,
+) -> Option<Turn<Desk<A>>>
+    requires { IfSome turn (IsTurnOf shared.now) }
+    ensures turn { IfSome result (IsTurnOf shared.now) }
+    ensures worked { HasWorkedIn turn (all_of (λ job. positions_of job.hand) (drop from jobs.new)) result }
+    ensures landed { (s : List Row) → FromOn (IsDoneIn (λ docket v w. IsJobLanded (started beginning_of shared.now) docket v.number v.hand w.number w.hand) (seen_by result s)) from jobs.old jobs.new }
+{
+    if from >= jobs.len() {
+        return turn;
+    }
+    let turn = jobs[from].land(shared, turn);
+    land_from(shared, turn, jobs, from + 1)
+}
+
+/// The view that was kept, or else a new one.
+fn view_of<A: Allocator + Copy, R: Wait>(
+    rt: &R,
+    shared: &Shared<Desk<A>, A>,
+    pass: &mut Pass<Desk<A>>,
+    kept: Option<View<A>>,
+) -> Result<View<A>, SharedWant>
+    requires { IsPassOf shared.now pass.old }
+    ensures pass { IsPassOf shared.now pass.new }
+    ensures begins { StartsWith (seen pass.new) (seen pass.old) }
+    ensures own { own pass.new ≡ own pass.old }
+    ensures not_full { IfErr result (λ why. why ≢ SharedWant.DocketFull) }
+{
+    match kept {
+        Some(view) => Ok(view),
+        None => shared.view(rt, pass),
+    }
+}
+
+impl<'g, A: Allocator + Copy, G: Gate> Task<Desk<A>, A> for Job<'g, A, G> {
+    ghost use Rattle.kfs_shared.specs.Batch.Jobs.{IsJobDone, positions_of};
+
+    ghost positions = { λ job. positions_of job.hand };
+
+    ghost done = { λ beginning docket before after. IsJobDone beginning docket before.number before.hand after.number after.hand };
+
+    /// The view that was taken in the last turn.
+    type Kept = Option<View<A>>;
+
+    fn nothing() -> Option<View<A>> {
+        None
+    }
+
+    fn let_go(_kept: Option<View<A>>) {}
+
+    fn go_together(tasks: &[Job<'g, A, G>]) -> bool {
+        tasks.len() <= MOST_TOGETHER && are_short(tasks) && are_of_clients(tasks)
+    }
+
+    fn work<R: Wait>(
+        rt: &R,
+        shared: &Shared<Desk<A>, A>,
+        pass: &mut Pass<Desk<A>>,
+        kept: Option<View<A>>,
+        tasks: &mut [Job<'g, A, G>],
+    ) -> Option<View<A>> {
+        let view = view_of(rt, shared, pass, kept);
+        judge_from(&view, tasks, 0);
+        // A view that is dropped shares nothing with the desk, which then copies less.
+        drop(view);
+        let turn = shared.begin_turn(rt, pass);
+        match land_from(shared, turn, tasks, 0) {
+            Some(turn) => {
+                let next = turn.view().ok();
+                shared.end_turn(pass, turn);
+                next
+            }
+            None => None,
+        }
+    }
+}

@@ -1,0 +1,32 @@
+//! A desk that threads share: each holds a pass, and their calls take turns with the desk. And batches:
+//! submissions that up to eight workers judge and land, each in a thread of its own.
+//!
+//! A call draws a ticket and waits until that is served. Then it takes the desk out of the table, makes
+//! one call of the desk, puts it back, and passes the turn on. Views are judged with no turn held.
+//!
+//! It stands on `kfs_desk`; `kfs_workers` shows it. Begin with `Shared::land` in `land.rt`, then
+//! `seats.rt`, which has the steps of a turn. `turns` has the rule that each step keeps, `crew` the
+//! workers, and `batch` the batches.
+#![tactic(auto)]
+
+mod act;
+mod batch;
+mod crew;
+mod desk;
+mod docketed;
+mod land;
+mod pass;
+mod plays;
+mod rule;
+mod seats;
+mod shared;
+mod turn;
+mod turns;
+mod view;
+mod want;
+
+pub use batch::{BatchBack, BatchEnd, Gate, Left, MOST_WORKERS, run_batch};
+pub use desk::{Begun, DocketRow};
+pub use docketed::Docketed;
+pub use pass::{Pass, Shared, Turn};
+pub use want::{SharedBack, SharedWant, Unreturned};

@@ -1,0 +1,5 @@
+pub mod Nested
+pub mod Padded
+pub mod Room
+pub mod Views
+pub mod Moves

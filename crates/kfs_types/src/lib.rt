@@ -1,0 +1,29 @@
+//! The values that several layers name: names, headers, entries, plan rows, moves of blocks, limits and
+//! tier sizes.
+//!
+//! It stands on the definitions of `kfs_model`. Nearly all other crates use its types. Begin with
+//! `entry.rt` (logs) and `plan.rt` (plans).
+#![tactic(auto)]
+
+mod change;
+mod entry;
+mod header;
+mod limits;
+mod moves;
+mod name;
+mod plan;
+mod rows;
+mod sizes;
+
+pub use change::{Change, Nothing};
+pub use entry::{Entry, Log, Span};
+pub use header::{Header, Kind};
+pub use limits::{
+    BLOCK_LEN, BLOCK_SIZE, CLIMB_LIMIT, ENTRY_LIMIT, GREATEST_MODE, GREATEST_MODE_OF_VERSION_1,
+    GREATEST_NUMBER, LATEST_VERSION, LINK_LIMIT, PAYLOAD_LIMIT, ROOT, SIZE_LIMIT, TIER_LIMIT,
+};
+pub use moves::{Move, MoveFault};
+pub use name::Name;
+pub use plan::{NameRow, NodeRow, Piece, Plan, Source};
+pub use rows::RowList;
+pub use sizes::TierSizes;

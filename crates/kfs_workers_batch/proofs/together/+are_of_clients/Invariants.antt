@@ -1,5 +1,0 @@
-use Rattle.std.proofs.Common.{length}
-use Rattle.kfs_workers_batch.proofs.together.+are_of_clients.Given as goal
-
-abbrev pub decreases-are_of_clients : goal.decreases-are_of_clients
-decreases-are_of_clients g l = length l.jobs.now

@@ -1,5 +1,0 @@
-use Rattle.std.proofs.Common.{◌-◌, length}
-use Rattle.kfs_workers_batch.proofs.together.+judge_from.Given as goal
-
-abbrev pub decreases-judge_from : goal.decreases-judge_from
-decreases-judge_from g l = length l.jobs.now - l.from

@@ -1,8 +1,0 @@
-use Rattle.std.proofs.Common.{◌≡◌, ◌≤◌, [], map, replicate, All, vec_capacity}
-use Rattle.kfs_workers_crew.proofs.crew.empty_shares.Given as goal
-
-abbrev pub invariant-loop : goal.invariant-loop
-invariant-loop g l = record {
-  empty : map (λ share. share.items) l.shares.items ≡ replicate l.counter [];
-  room : All (λ share. l.room ≤ vec_capacity share) l.shares.items;
-}

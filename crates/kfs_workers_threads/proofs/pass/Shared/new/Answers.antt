@@ -1,6 +1,0 @@
-use Rattle.std.proofs.Common.{rules}
-use Rattle.kfs_turns.proofs.Steps.{opens_at}
-use Rattle.kfs_workers_threads.proofs.pass.Shared.new.Goals as goal
-
-pub new-requires : goal.new-requires
-new-requires g c = opens_at _ _ _ _ _ c.args.object _ c.args.first _ (search rules) (search rules) (search rules) (search rules) (search rules) (search rules)

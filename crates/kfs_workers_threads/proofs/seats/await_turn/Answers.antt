@@ -1,6 +1,0 @@
-use Rattle.std.proofs.Common.{rules}
-use Rattle.kfs_turns.proofs.Steps.{watches}
-use Rattle.kfs_workers_threads.proofs.seats.await_turn.Goals as goal
-
-pub load-turn-requires : goal.load-turn-requires
-load-turn-requires g c = (search rules, search rules, watches _ _ _ _ _ _ _ _ c.args.ticket (search rules))

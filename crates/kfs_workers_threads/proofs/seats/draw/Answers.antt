@@ -1,6 +1,0 @@
-use Rattle.std.proofs.Common.{rules}
-use Rattle.kfs_turns.proofs.Steps.{draws}
-use Rattle.kfs_workers_threads.proofs.seats.draw.Goals as goal
-
-pub compare_exchange-found-requires : goal.compare_exchange-found-requires
-compare_exchange-found-requires g c = (search rules, search rules, draws _ _ _ _ _ _ _ _ _ (search rules) (search rules))

@@ -1,6 +1,0 @@
-use Rattle.std.proofs.Common.{rules}
-use Rattle.kfs_turns.proofs.Steps.{passes}
-use Rattle.kfs_workers_threads.proofs.seats.give_back.Goals as goal
-
-pub fetch_add-requires : goal.fetch_add-requires
-fetch_add-requires g c = (search rules, search rules, passes _ _ _ _ _ _ _ _ c.args.object (search rules) (search rules) (search rules) (search rules) (search rules))

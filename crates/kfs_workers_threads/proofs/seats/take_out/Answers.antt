@@ -1,9 +1,0 @@
-use Rattle.std.proofs.Common.{rules, Some}
-use Rattle.kfs_turns.proofs.Steps.{counts, alone}
-use Rattle.kfs_workers_threads.proofs.seats.take_out.Goals as goal
-
-pub exchange-requires : goal.exchange-requires
-exchange-requires g c = let out = c.requires.out in (search rules, (Some out.0, alone _ _ out.1))
-
-pub load-requires : goal.load-requires
-load-requires g c = (search rules, search rules, counts _ _ _ _ _ _ _ _ (search rules))

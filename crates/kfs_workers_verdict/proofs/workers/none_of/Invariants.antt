@@ -1,6 +1,0 @@
--- As many times none as were counted.
-use Rattle.std.proofs.Common.{◌≡◌, None, replicate}
-use Rattle.kfs_workers_verdict.proofs.workers.none_of.Given as goal
-
-abbrev pub invariant-loop : goal.invariant-loop
-invariant-loop g l = l.list.items ≡ replicate l.counter None
