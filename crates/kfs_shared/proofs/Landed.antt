@@ -7,18 +7,14 @@ use Rattle.kfs_model.specs.Machine.{Row}
 use Rattle.kfs_desk.specs.History.Legal.{IsLegalDocket}
 use Rattle.kfs_judge.specs.declared.check.view.View.{View}
 use Rattle.kfs_desk.specs.Beginning.{Beginning, IsDocketFrom, beginning_of}
-use Rattle.kfs_desk.specs.Docket.{position_of}
 use Rattle.kfs_desk.specs.Machine.{Desk, IsViewOf}
-use Rattle.kfs_plan.specs.Judged.{Judged}
-use Rattle.kfs_desk.specs.declared.history.answers.Reply.{Reply}
 use Rattle.kfs_shared.specs.Turns.Stages.{having_added, ticket}
 use Rattle.kfs_shared.specs.declared.turns.known.Known.{Known}
 use Rattle.kfs_shared.specs.declared.turns.known.Stage.TheVariants.{Served}
 use Rattle.kfs_shared.specs.Turns.Lists.{StartsWith}
 use Rattle.kfs_shared.proofs.TurnsLemmas.Lists.{starts_same, starts_trans}
 use Rattle.kfs_shared.proofs.TurnsLemmas.Steps.{one_said}
-use Rattle.kfs_shared.specs.Calls.{HasAdded, IsLanding, IsUnanswered, IsViewAfter}
-use Rattle.kfs_shared.specs.declared.want.SharedBack.{SharedBack}
+use Rattle.kfs_shared.specs.Calls.{HasAdded, IsUnanswered, IsViewAfter}
 use Rattle.kfs_shared.specs.declared.want.SharedWant.{SharedWant}
 use Rattle.kfs_shared.specs.declared.want.SharedWant.TheVariants.{OutOfMemory, DocketFull, TurnsSpent}
 
@@ -59,11 +55,6 @@ is_view_after {A} beginning known view desk seen seen_then is of begins led whol
       begins = subst (λ rows. StartsWith rows seen) (sym sees) begins;
     }
 
-pub view_in_turn : {A E : Type 0} (desk : Desk) (seen : List Row) (r : Result (View A) E) → desk.docket ≡ seen → IsLegalDocket desk.opening desk.docket desk.state → IsDocketFrom (beginning_of desk) desk.docket
-    → IfOk r (λ view. IsViewOf view desk.state) → IfOk r (λ view. IsViewAfter (beginning_of desk) view seen seen)
-view_in_turn desk seen (Ok view) whole led docket shows = is_view_after (beginning_of desk) (Some (beginning_of desk)) view desk seen seen refl refl (starts_same desk.docket seen whole) led docket shows (sym whole)
-view_in_turn desk seen (Err e) whole led docket shows = shows
-
 -- ---- a turn with one row more
 
 pub added_served : {D O W : Type 0} (v w : Known D O W) (rows : List W) (d e : D) → w ≡ having_added v rows d → e ≡ d → w.stage ≡ Served (ticket w.stage) e true
@@ -73,6 +64,10 @@ added_served {D} {O} {W} v w rows d e is same =
 
 pub still_begun : (known : Option Beginning) (old new : Desk) → known ≡ Some (beginning_of old) → new.opening ≡ old.opening → new.limit ≡ old.limit → known ≡ Some (beginning_of new)
 still_begun known old new is opening limit = is ∙ (λ i. Some record { opening = sym opening i; limit = sym limit i })
+
+-- the desk that is out is full
+pub full_in_turn : (beginning : Beginning) (known : Option Beginning) (desk : Desk) (seen : List Row) → known ≡ Some beginning → known ≡ Some (beginning_of desk) → desk.docket ≡ seen → length desk.docket ≡ desk.limit → length seen ≡ beginning.limit
+full_in_turn beginning known desk seen is of whole full = ap length (sym whole) ∙ (full ∙ ap (λ (b : Beginning). b.limit) (one_said (beginning_of desk) beginning (sym of ∙ is)))
 
 -- ---- a call within a turn, said of the pass before the turn
 
@@ -93,19 +88,42 @@ added_from beginning s0 s1 s2 o0 o1 o2 position P begins own is =
       owns = is.owns ∙ ap (λ (z : List ℕ). z ++ position ∷ []) own;
     }
 
+pub unanswered_begins : (beginning : Beginning) (why : SharedWant) (s0 s1 : List Row) (ended : Bool) → IsUnanswered beginning why s0 s1 ended → StartsWith s1 s0
+unanswered_begins beginning OutOfMemory s0 s1 ended is = is
+unanswered_begins beginning DocketFull s0 s1 ended is = is.0
+unanswered_begins beginning TurnsSpent s0 s1 ended is = starts_same s1 s0 is.1
+
+-- within a turn no call lacks a ticket
+pub unanswered_whatever : (beginning : Beginning) (why : SharedWant) (s0 s1 : List Row) (ended : Bool) → IsUnanswered beginning why s0 s1 false → IsUnanswered beginning why s0 s1 ended
+unanswered_whatever beginning OutOfMemory s0 s1 ended is = is
+unanswered_whatever beginning DocketFull s0 s1 ended is = is
+unanswered_whatever beginning TurnsSpent s0 s1 ended is = absurd (both_ways false refl is.0)
+
 unanswered_from : (beginning : Beginning) (why : SharedWant) (s0 s1 s2 : List Row) (ended : Bool) → StartsWith s1 s0 → IsUnanswered beginning why s1 s2 false → IsUnanswered beginning why s0 s2 ended
 unanswered_from beginning OutOfMemory s0 s1 s2 ended begins is = starts_trans s2 s1 s0 is begins
 unanswered_from beginning DocketFull s0 s1 s2 ended begins is = (starts_trans s2 s1 s0 is.0 begins, is.1)
 unanswered_from beginning TurnsSpent s0 s1 s2 ended begins is = absurd (both_ways false refl is.0)
 
-pub landed_ok : {A : Type 0} (beginning : Beginning) (s0 s1 s2 s3 : List Row) (o0 o1 o2 o3 : List ℕ) (judged : Judged A) (r : Result Reply (SharedBack A)) → StartsWith s1 s0 → o1 ≡ o0 → s3 ≡ s2 → o3 ≡ o2
-    → IfOk r (λ reply. HasAdded beginning s1 o1 (position_of reply) (IsLanding judged reply) s2 o2) → IfOk r (λ reply. HasAdded beginning s0 o0 (position_of reply) (IsLanding judged reply) s3 o3)
-landed_ok {A} beginning s0 s1 s2 s3 o0 o1 o2 o3 judged (Ok reply) begins own sees owns is =
-    let P : State → Row → State → Type 0 = IsLanding judged reply in
-    subst (λ rows. HasAdded beginning s0 o0 (position_of reply) P rows o3) (sym sees) (subst (HasAdded beginning s0 o0 (position_of reply) P s2) (sym owns) (added_from beginning s0 s1 s2 o0 o1 o2 (position_of reply) P begins own is))
-landed_ok beginning s0 s1 s2 s3 o0 o1 o2 o3 judged (Err back) begins own sees owns is = is
+pub answered_ok : {T E : Type 0} (beginning : Beginning) (s0 s1 s2 s3 : List Row) (o0 o1 o2 o3 : List ℕ) (at : T → ℕ) (P : T → State → Row → State → Type 0) (r : Result T E) → StartsWith s1 s0 → o1 ≡ o0 → s3 ≡ s2 → o3 ≡ o2
+    → IfOk r (λ t. HasAdded beginning s1 o1 (at t) (P t) s2 o2) → IfOk r (λ t. HasAdded beginning s0 o0 (at t) (P t) s3 o3)
+answered_ok beginning s0 s1 s2 s3 o0 o1 o2 o3 at P (Ok t) begins own sees owns is =
+    subst (λ rows. HasAdded beginning s0 o0 (at t) (P t) rows o3) (sym sees) (subst (HasAdded beginning s0 o0 (at t) (P t) s2) (sym owns) (added_from beginning s0 s1 s2 o0 o1 o2 (at t) (P t) begins own is))
+answered_ok beginning s0 s1 s2 s3 o0 o1 o2 o3 at P (Err e) begins own sees owns is = is
 
-pub landed_err : {A : Type 0} (beginning : Beginning) (s0 s1 s2 s3 : List Row) (ended : Bool) (r : Result Reply (SharedBack A)) → StartsWith s1 s0 → s3 ≡ s2
-    → IfErr r (λ back. IsUnanswered beginning back.why s1 s2 false) → IfErr r (λ back. IsUnanswered beginning back.why s0 s3 ended)
-landed_err beginning s0 s1 s2 s3 ended (Ok reply) begins sees is = is
-landed_err beginning s0 s1 s2 s3 ended (Err back) begins sees is = subst (λ rows. IsUnanswered beginning back.why s0 rows ended) (sym sees) (unanswered_from beginning back.why s0 s1 s2 ended begins is)
+pub answered_err : {T E : Type 0} (beginning : Beginning) (s0 s1 s2 s3 : List Row) (ended : Bool) (why : E → SharedWant) (r : Result T E) → StartsWith s1 s0 → s3 ≡ s2
+    → IfErr r (λ e. IsUnanswered beginning (why e) s1 s2 false) → IfErr r (λ e. IsUnanswered beginning (why e) s0 s3 ended)
+answered_err beginning s0 s1 s2 s3 ended why (Ok t) begins sees is = is
+answered_err beginning s0 s1 s2 s3 ended why (Err e) begins sees is = subst (λ rows. IsUnanswered beginning (why e) s0 rows ended) (sym sees) (unanswered_from beginning (why e) s0 s1 s2 ended begins is)
+
+-- ---- a view within a turn, said of the pass before the turn and after it
+
+viewed_from : {A : Type 0} (beginning : Beginning) (view : View A) (s0 s1 s2 : List Row) → StartsWith s1 s0 → IsViewAfter beginning view s1 s2 → IsViewAfter beginning view s0 s2
+viewed_from beginning view s0 s1 s2 begins is = record { state = is.state; leads = is.leads; docket = is.docket; shows = is.shows; begins = starts_trans s2 s1 s0 is.begins begins }
+
+pub viewed_ok : {A E : Type 0} (beginning : Beginning) (s0 s1 s2 s3 : List Row) (r : Result (View A) E) → StartsWith s1 s0 → StartsWith s2 s1 → s3 ≡ s2 → IfOk r (λ view. IsViewAfter beginning view s2 s2) → IfOk r (λ view. IsViewAfter beginning view s0 s3)
+viewed_ok beginning s0 s1 s2 s3 (Ok view) begins more sees is = subst (IsViewAfter beginning view s0) (sym sees) (viewed_from beginning view s0 s2 s2 (starts_trans s2 s1 s0 more begins) is)
+viewed_ok beginning s0 s1 s2 s3 (Err e) begins more sees is = is
+
+pub viewed_err : {A : Type 0} (beginning : Beginning) (s0 s1 s2 : List Row) (ended : Bool) (r : Result (View A) SharedWant) → StartsWith s1 s0 → s2 ≡ s1 → IfErr r (λ why. why ≡ OutOfMemory) → IfErr r (λ why. IsUnanswered beginning why s0 s2 ended)
+viewed_err beginning s0 s1 s2 ended (Ok view) begins sees is = is
+viewed_err beginning s0 s1 s2 ended (Err why) begins sees is = subst (λ w. IsUnanswered beginning w s0 s2 ended) (sym is) (subst (λ rows. StartsWith rows s0) (sym sees) begins)

@@ -1,3 +1,4 @@
+pub mod InTurn
 pub mod Landed
 pub mod TurnsLemmas
 pub mod CrewLemmas

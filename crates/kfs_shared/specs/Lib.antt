@@ -1,4 +1,5 @@
 pub mod Calls
+pub mod Landings
 pub mod Passes
 pub mod Sharing
 pub mod Turns

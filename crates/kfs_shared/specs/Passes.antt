@@ -1,5 +1,5 @@
 -- What clauses say of a shared object and its passes.
-use Rattle.std.specs.Prelude.{◌≡◌, ℕ, Bool, List, Option, Some, None}
+use Rattle.std.specs.Prelude.{◌≡◌, ℕ, Bool, List, Some}
 use Rattle.kfs_shared.specs.Turns.Turns.{HasEnded, IsUnreturned}
 use Rattle.kfs_shared.specs.declared.docketed.Docketed.{Ghosts}
 use Rattle.kfs_shared.specs.declared.pass.Pass.{Pass}
@@ -48,12 +48,3 @@ module _ {D O W : Type 0} {G : Ghosts D O W} where
   -- it is a turn at this shared object
   abbrev pub IsTurnOf : {A : Type 0} → Shared D A O W → Turn D O W G → Type 0
   IsTurnOf {A} shared turn = (turn.seat.table_id ≡ shared.table.shared.table_id) × (turn.seat.me.0.opening ≡ Some (started G.opening shared))
-
-  -- of a pass whose turn was begun if there was a ticket left: the rows that it has seen, and the positions of its own
-  abbrev pub seen_by : Option (Turn D O W G) → (seen : List W) → List W
-  seen_by (Some turn) seen = seen_in turn
-  seen_by None seen = seen
-
-  abbrev pub own_by : Option (Turn D O W G) → (own : List ℕ) → List ℕ
-  own_by (Some turn) own = own_in turn
-  own_by None own = own

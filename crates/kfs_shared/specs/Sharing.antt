@@ -26,6 +26,11 @@ module _ {A : Type 0} {G : Ghosts Desk Beginning Row} where
   abbrev pub AddsNone : Shared Desk A Beginning Row → (before after : Pass Desk Beginning Row G) → SharedWant → Type 0
   AddsNone shared before after why = IsUnanswered (started beginning_of shared) why (seen before) (seen after) (ended after)
 
+  -- for this reason there is no view after the landings of a turn: all rows that had been seen are seen then, and where no ticket is
+  -- left, the pass has found so, and has seen what it had seen
+  abbrev pub ShowsNone : Shared Desk A Beginning Row → (before after : Pass Desk Beginning Row G) → SharedWant → Type 0
+  ShowsNone shared before after why = IsUnanswered (started beginning_of shared) why (seen before) (seen after) (ended after)
+
   -- ---- the same of a call within a turn
 
   abbrev pub AddsRowIn : Shared Desk A Beginning Row → (before after : Turn Desk Beginning Row G) → (position : ℕ) → (P : State → Row → State → Type 0) → Type 0

@@ -1,11 +1,12 @@
 //! A call for the leases of a shared desk.
 ghost use Rattle.std.specs.Prelude.{◌≡◌, IfOk, IfErr, OnErr};
 ghost use Rattle.kfs_shared.specs.Calls.{IsActing};
-ghost use Rattle.kfs_shared.specs.Passes.{IsPassOf, own};
-ghost use Rattle.kfs_shared.specs.Sharing.{AddsNone, AddsRow};
+ghost use Rattle.kfs_shared.specs.Passes.{IsPassOf, IsTurnOf, own, own_in};
+ghost use Rattle.kfs_shared.specs.Sharing.{AddsNone, AddsNoneIn, AddsRow, AddsRowIn};
 
-use crate::pass::{Pass, Shared};
-use crate::seats::{enter, give_back, give_back_with_row};
+use crate::docketed::Docketed;
+use crate::pass::{Pass, Shared, Turn};
+use crate::seats::add_last;
 use crate::want::SharedWant;
 use kfs_desk::{ActReply, Desk, Unanswered};
 use kfs_lease::Act;
@@ -33,21 +34,47 @@ impl<A: Allocator + Copy> Shared<Desk<A>, A> {
         ensures err { IfErr result (λ why. AddsNone self.now pass.old pass.new why) }
         ensures own { OnErr result (own pass.new ≡ own pass.old) }
     {
-        let table = &self.table.shared;
-        let Some(mut desk) = enter(rt, table, &mut pass.seat) else {
+        let Some(turn) = self.begin_turn(rt, pass) else {
             return Err(SharedWant::TurnsSpent);
         };
+        let (turn, answer) = turn.act(self, act);
+        self.end_turn(pass, turn);
+        answer
+    }
+}
+
+impl<A: Allocator + Copy> Turn<Desk<A>> {
+    /// Makes a call for leases, as `Desk::act` does. The answer is a row of the docket, the turn's own.
+    /// Condition: the turn is one of this desk.
+    pub fn act(
+        self,
+        shared: &Shared<Desk<A>, A>,
+        act: Act<'_>,
+    ) -> (Turn<Desk<A>>, Result<ActReply, SharedWant>)
+        requires { IsTurnOf shared.now self }
+        ensures turn { IsTurnOf shared.now result.0 }
+        ensures ok { IfOk result.1 (λ reply. AddsRowIn shared.now self result.0 reply.position (IsActing act.entry reply)) }
+
+        // Without an answer the turn has the rows that it had.
+        ensures err { IfErr result.1 (λ why. AddsNoneIn shared.now self result.0 why) }
+        ensures own { OnErr result.1 (own_in result.0 ≡ own_in self) }
+    {
+        let Turn { seat, object } = self;
+        let mut seat = seat;
+        let mut desk = object;
+        // Tells the prover that the docket is legal and leads to the state.
+        let _rows = desk.row_count();
         match desk.act(act) {
             Ok(reply) => {
-                pass.rows = give_back_with_row(table, &mut pass.seat, desk);
-                Ok(reply)
+                let object = add_last(&shared.table.shared, &mut seat, desk);
+                (Turn { seat, object }, Ok(reply))
             }
             Err(why) => {
-                pass.rows = give_back(table, &mut pass.seat, desk);
-                Err(match why {
+                let why = match why {
                     Unanswered::OutOfMemory => SharedWant::OutOfMemory,
                     Unanswered::DocketFull => SharedWant::DocketFull,
-                })
+                };
+                (Turn { seat, object: desk }, Err(why))
             }
         }
     }

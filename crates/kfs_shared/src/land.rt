@@ -2,13 +2,15 @@
 ghost use Rattle.std.specs.Prelude.{◌≡◌, IfOk, IfErr, OnErr};
 ghost use Rattle.kfs_desk.specs.Docket.{position_of};
 ghost use Rattle.kfs_shared.specs.Calls.{IsLanding};
-ghost use Rattle.kfs_shared.specs.Passes.{IsPassOf, own};
-ghost use Rattle.kfs_shared.specs.Sharing.{AddsNone, AddsRow};
+ghost use Rattle.kfs_shared.specs.Passes.{IsPassOf, IsTurnOf, own, own_in};
+ghost use Rattle.kfs_shared.specs.Sharing.{AddsNone, AddsNoneIn, AddsRow, AddsRowIn};
 
-use crate::pass::{Pass, Shared};
+use crate::docketed::Docketed;
+use crate::pass::{Pass, Shared, Turn};
+use crate::seats::add_last;
 use crate::want::{SharedBack, SharedWant};
 use kfs_desk::{Desk, Reply};
-use kfs_plan::Judged;
+use kfs_plan::{Back, Judged, Why};
 use std::alloc::Allocator;
 use std::sync::Wait;
 
@@ -34,12 +36,59 @@ impl<A: Allocator + Copy> Shared<Desk<A>, A> {
         ensures own { OnErr result (own pass.new ≡ own pass.old) }
     {
         let Some(turn) = self.begin_turn(rt, pass) else {
-            let (submission, _outcome) = judged.into_parts();
-            let why = SharedWant::TurnsSpent;
-            return Err(SharedBack { submission, why });
+            return Err(unlanded(judged));
         };
         let (turn, answer) = turn.land(self, judged);
         self.end_turn(pass, turn);
         answer
+    }
+}
+
+/// What comes back of a verdict for which there is no ticket left.
+pub fn unlanded<A: Allocator>(judged: Judged<A>) -> SharedBack<A>
+    ensures submission { result.submission ≡ judged.submission }
+    ensures why { result.why ≡ SharedWant.TurnsSpent }
+{
+    let (submission, _outcome) = judged.into_parts();
+    let why = SharedWant::TurnsSpent;
+    SharedBack { submission, why }
+}
+
+impl<A: Allocator + Copy> Turn<Desk<A>> {
+    /// Lands a verdict, as `Desk::land` does. The answer is a row of the docket, the turn's own. Without
+    /// one the submission comes back. Condition: the turn is one of this desk.
+    pub fn land(
+        self,
+        shared: &Shared<Desk<A>, A>,
+        judged: Judged<A>,
+    ) -> (Turn<Desk<A>>, Result<Reply, SharedBack<A>>)
+        requires { IsTurnOf shared.now self }
+        ensures turn { IsTurnOf shared.now result.0 }
+        ensures ok { IfOk result.1 (λ reply. AddsRowIn shared.now self result.0 (position_of reply) (IsLanding judged reply)) }
+
+        // A refusal hands the submission back, and the turn has the rows that it had.
+        ensures back { IfErr result.1 (λ back. back.submission ≡ judged.submission) }
+        ensures err { IfErr result.1 (λ back. AddsNoneIn shared.now self result.0 back.why) }
+        ensures own { OnErr result.1 (own_in result.0 ≡ own_in self) }
+    {
+        let Turn { seat, object } = self;
+        let mut seat = seat;
+        let mut desk = object;
+        // Tells the prover that the docket is legal and leads to the state.
+        let _rows = desk.row_count();
+        match desk.land(judged) {
+            Ok(reply) => {
+                let object = add_last(&shared.table.shared, &mut seat, desk);
+                (Turn { seat, object }, Ok(reply))
+            }
+            Err(Back { submission, why }) => {
+                let why = match why {
+                    Why::OutOfMemory => SharedWant::OutOfMemory,
+                    Why::DocketFull => SharedWant::DocketFull,
+                };
+                let back = SharedBack { submission, why };
+                (Turn { seat, object: desk }, Err(back))
+            }
+        }
     }
 }

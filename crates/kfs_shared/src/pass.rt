@@ -28,9 +28,8 @@ pub struct Pass<D: Docketed> {
     ghost counted: { length seat.me.0.seen ≡ rows },
 }
 
-/// The turn of a pass. The object is out of the table, and all other passes wait until it is put back
-/// (`Shared::end_turn`). A turn that is dropped is never passed on.
-#[derive(Drop)]
+/// The turn of a pass. The object is out of the table, and all other passes wait until it is put back.
+/// So a turn isn't `Drop`: whoever has one must hand it on, and `Shared::end_turn` takes it at last.
 pub struct Turn<D: Docketed> {
     pub(crate) seat: PassSeat<D>,
     pub(crate) object: D,

@@ -12,8 +12,8 @@ use crate::rule::{PassSeat, TurnTable};
 use crate::turns::{LENGTH, NEXT, TURN};
 use std::sync::Wait;
 
-/// Takes a ticket; none where there is none left. The first try is at ticket 0, each other one at the
-/// ticket that the last one found.
+/// Takes a ticket; none where there is none left. The first try is at the ticket that the word has now,
+/// each other one at the ticket that the last one found.
 fn draw<D: Docketed, R: Wait>(rt: &R, table: &TurnTable<D>, seat: &mut PassSeat<D>) -> Option<u64>
     requires table { SeatFits table.now.table_id seat.old.table_id }
     requires idle { (seat.old.me.0.stage ≡ Idle) × (seat.old.me.1 ≡ []) }
@@ -21,7 +21,7 @@ fn draw<D: Docketed, R: Wait>(rt: &R, table: &TurnTable<D>, seat: &mut PassSeat<
     ensures some { IfSome result (λ t. seat.new.me ≡ (at_stage seat.old.me.0 (Waiting t), [])) }
     ensures none { IfNone result (seat.new.me ≡ (at_end seat.old.me.0, [])) }
 {
-    let mut ticket = 0;
+    let mut ticket = table.peek(NEXT).min(u64::MAX - 1);
     for _ in rt.forever() {
         let found = table.compare_exchange::<Draw>(seat, NEXT, ticket, ticket + 1);
         if found == ticket {
@@ -99,8 +99,7 @@ fn take<D: Docketed, R: Wait>(
 /// The first half of a call: takes a ticket, waits until it is served, and takes the object out. None
 /// where there is no ticket left; nothing has changed then.
 ///
-/// Give the object back in every case (`give_back`, `give_back_with_row`), so return nothing early in
-/// between.
+/// Give the object back in every case (`give_back`), so return nothing early in between.
 pub fn enter<D: Docketed, R: Wait>(
     rt: &R,
     table: &TurnTable<D>,
@@ -138,8 +137,8 @@ fn add<D: Docketed>(table: &TurnTable<D>, seat: &mut PassSeat<D>, object: D, cou
     full.unwrap()
 }
 
-/// The second half of a call that added no row: puts the object back as it was, passes the turn on, and
-/// wakes those who wait. Answers how many rows there are.
+/// The second half of a call: puts the object back, passes the turn on, and wakes those who wait, where
+/// somebody may. Answers how many rows there are.
 pub fn give_back<D: Docketed>(table: &TurnTable<D>, seat: &mut PassSeat<D>, object: D) -> u64
     requires table { SeatFits table.now.table_id seat.old.table_id }
     requires turn { HasCounted seat.old.me.0.stage }
@@ -154,8 +153,13 @@ pub fn give_back<D: Docketed>(table: &TurnTable<D>, seat: &mut PassSeat<D>, obje
         None => {}
         Some(_) => unreachable!(),
     }
-    table.fetch_add::<PassOn>(seat, TURN, 1);
-    table.wake_all(TURN);
+    let turn = table.fetch_add::<PassOn>(seat, TURN, 1);
+    // All steps on the words stand in one order. Where the next ticket is the new turn, each earlier one
+    // has been served, and nobody sleeps. Who draws the next ticket reads the turn after the step above,
+    // and finds it to be its own. Who draws one after that is woken by a call before it.
+    if table.peek(NEXT) != turn.wrapping_add(1) {
+        table.wake_all(TURN);
+    }
     u64::from(rows)
 }
 
@@ -172,24 +176,4 @@ pub fn add_last<D: Docketed>(table: &TurnTable<D>, seat: &mut PassSeat<D>, objec
 {
     let rows = u64::from(object.row_count());
     add(table, seat, object, rows - 1)
-}
-
-/// The second half of a call that added a row, which is the pass's own then.
-pub fn give_back_with_row<D: Docketed>(
-    table: &TurnTable<D>,
-    seat: &mut PassSeat<D>,
-    object: D,
-) -> u64
-    requires table { SeatFits table.now.table_id seat.old.table_id }
-    requires turn { HasCounted seat.old.me.0.stage }
-    requires out { seat.old.me.1 ≡ (0, None) ∷ [] }
-    requires row { (row : _) × (D.rows object ≡ seat.old.me.0.seen ++ row ∷ []) }
-    requires opened { seat.old.me.0.opening ≡ Some (D.opening object) }
-    ensures same { (seat.new.table_id ≡ seat.old.table_id) × (seat.new.id ≡ seat.old.id) }
-    ensures idle { seat.new.me ≡ (at_stage (having_added seat.old.me.0 (D.rows object) object) Idle, []) }
-    ensures count { result ≡ length (D.rows object) }
-    ensures legal { D.legal (D.opening object) (D.rows object) }
-{
-    let object = add_last(table, seat, object);
-    give_back(table, seat, object)
 }

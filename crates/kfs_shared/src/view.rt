@@ -1,10 +1,12 @@
 //! A view of a shared desk.
 ghost use Rattle.std.specs.Prelude.{◌≡◌, ◌≢◌, IfOk, IfErr};
-ghost use Rattle.kfs_shared.specs.Passes.{IsPassOf, own};
+ghost use Rattle.kfs_desk.specs.Beginning.{beginning_of};
+ghost use Rattle.kfs_shared.specs.Calls.{IsViewAfter};
+ghost use Rattle.kfs_shared.specs.Passes.{IsPassOf, IsTurnOf, started, own, seen_in};
 ghost use Rattle.kfs_shared.specs.Sharing.{AddsNone, ShowsSeen};
 
-use crate::pass::{Pass, Shared};
-use crate::seats::{enter, give_back};
+use crate::docketed::Docketed;
+use crate::pass::{Pass, Shared, Turn};
 use crate::want::SharedWant;
 use kfs_desk::Desk;
 use kfs_judge::View;
@@ -27,13 +29,25 @@ impl<A: Allocator + Copy> Shared<Desk<A>, A> {
         ensures not_full { IfErr result (λ why. why ≢ SharedWant.DocketFull) }
         ensures own { own pass.new ≡ own pass.old }
     {
-        let table = &self.table.shared;
-        let Some(desk) = enter(rt, table, &mut pass.seat) else {
+        let Some(turn) = self.begin_turn(rt, pass) else {
             return Err(SharedWant::TurnsSpent);
         };
-        let view = desk.view();
-        pass.rows = give_back(table, &mut pass.seat, desk);
-        match view {
+        let view = turn.view(self);
+        self.end_turn(pass, turn);
+        view
+    }
+}
+
+impl<A: Allocator + Copy> Turn<Desk<A>> {
+    /// A view of the desk's state. Refused with `OutOfMemory`. Condition: the turn is one of this desk.
+    pub fn view(&self, shared: &Shared<Desk<A>, A>) -> Result<View<A>, SharedWant>
+        requires { IsTurnOf shared.now self.now }
+        ensures ok { IfOk result (λ view. IsViewAfter (started beginning_of shared.now) view (seen_in self.now) (seen_in self.now)) }
+        ensures err { IfErr result (λ why. why ≡ SharedWant.OutOfMemory) }
+    {
+        // Tells the prover that the docket is legal and leads to the state.
+        let _rows = self.object.row_count();
+        match self.object.view() {
             Ok(view) => Ok(view),
             Err(_) => Err(SharedWant::OutOfMemory),
         }

@@ -27,8 +27,8 @@ pub struct SharedBack<A: Allocator> {
     pub why: SharedWant,
 }
 
-/// Some ticket was drawn and its turn not passed on, so the shared object doesn't come back. No call
-/// that returned leaves it so.
+/// Some ticket was drawn and its turn not passed on, so the shared object doesn't come back. Each call
+/// that returns has passed its turn on; no clause says so.
 #[derive(Clone, Copy, Debug, PartialEq, Eq, Error)]
 #[error("Unreturned")]
 pub struct Unreturned;

@@ -76,6 +76,10 @@ pub const FILES_Q: [File; 4] = [
 /// Client 7 writes "x" to file 5, at its first byte.
 pub const WRITE_LOG: &[u8] = b"KLOG\x01\0\0\0\x07\0\x01\x02\0\0\0\x05\0\0\0\0\0\0\0\0\0\0\0\x01x";
 
+/// The same by client 8.
+pub const WRITE_LOG_OF_8: &[u8] =
+    b"KLOG\x01\0\0\0\x08\0\x01\x02\0\0\0\x05\0\0\0\0\0\0\0\0\0\0\0\x01x";
+
 /// The header of 5, and one piece.
 pub const WRITE_PLAN: &[u8] =
     b"KPLN\x01\0\0\0\x01\0\0\0\x01\0\0\0\x05\x01\x01\xa4\0\0\x03\xe8\0\0\x03\xe8\0\

@@ -11,6 +11,34 @@ impl Gate for Open {
     fn before(&self, _number: u32) {}
 }
 
+/// A gate that notes for which submissions it is called.
+#[derive(Drop)]
+pub struct Noting {
+    /// One digit for each call, the number and 1.
+    calls: AtomicU64,
+}
+
+impl Noting {
+    pub fn new() -> Noting {
+        Noting {
+            calls: AtomicU64::new(0),
+        }
+    }
+
+    /// Whether it was called for 0, then for 1, and never again.
+    pub fn has_noted_both(&self) -> bool {
+        self.calls.load(Ordering::SeqCst) == 12
+    }
+}
+
+impl Gate for Noting {
+    fn before(&self, number: u32) {
+        let calls = self.calls.load(Ordering::SeqCst);
+        let noted = calls.wrapping_mul(10).wrapping_add(u64::from(number) + 1);
+        self.calls.store(noted, Ordering::SeqCst);
+    }
+}
+
 /// How often a worker looks for the other one.
 const MOST_TURNS: u32 = 100_000_000;
 

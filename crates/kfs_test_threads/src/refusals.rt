@@ -23,7 +23,10 @@ const MANY: u64 = 200;
 enum Call {
     View,
     Land,
-    Act,
+    /// A call for a lease.
+    Lease,
+    /// A call that ends the only lease.
+    Tick,
 }
 
 /// How a call was answered.
@@ -52,28 +55,40 @@ fn viewed<A: Allocator + Copy, R: Wait>(
     }
 }
 
-/// Whether a call for a lease is answered in row 1, rather than that memory is refused; none where the
+/// The call for a lease, or the tick, and what it has done then.
+fn act_of(call: Call) -> (Act<'static>, Done) {
+    match call {
+        Call::Tick => (Act::Tick { moment: 100 }, Done::Ticked(100)),
+        Call::View | Call::Land | Call::Lease => {
+            let lease = Act::Lease {
+                client: 7,
+                path: b"/",
+                kind: LeaseKind::Read,
+                end: 90,
+            };
+            (lease, Done::Leased(1))
+        }
+    }
+}
+
+/// Whether the call for leases is answered in row 1, rather than that memory is refused; none where the
 /// answer is another one.
 fn acted<A: Allocator + Copy, R: Wait>(
     rt: &R,
     shared: &Shared<Desk<A>, A>,
     pass: &mut Pass<Desk<A>>,
+    call: Call,
 ) -> Option<bool>
     requires { IsPassOf shared.now pass.old }
     ensures { IsPassOf shared.now pass.new }
 {
-    let lease = Act::Lease {
-        client: 7,
-        path: b"/",
-        kind: LeaseKind::Read,
-        end: 90,
-    };
-    let leased = ActReply {
+    let (asked, done) = act_of(call);
+    let right = ActReply {
         position: 1,
-        answer: Ok(Done::Leased(1)),
+        answer: Ok(done),
     };
-    match act(rt, shared, pass, lease) {
-        Ok(reply) if reply == leased => Some(true),
+    match act(rt, shared, pass, asked) {
+        Ok(reply) if reply == right => Some(true),
         Err(SharedWant::OutOfMemory) => Some(false),
         _ => None,
     }
@@ -139,7 +154,7 @@ fn called<A: Allocator + Copy, R: Wait>(
     heap.refuse_after(growth);
     let is_ample = match call {
         Call::View => viewed(rt, shared, pass)?,
-        Call::Land | Call::Act => acted(rt, shared, pass)?,
+        Call::Land | Call::Lease | Call::Tick => acted(rt, shared, pass, call)?,
     };
     if is_ample {
         Some(Answer::Ample)
@@ -152,7 +167,7 @@ fn called<A: Allocator + Copy, R: Wait>(
 fn rows_after(call: Call) -> u32 {
     match call {
         Call::View => 1,
-        Call::Land | Call::Act => 2,
+        Call::Land | Call::Lease | Call::Tick => 2,
     }
 }
 
@@ -237,7 +252,9 @@ fn each_growth_of_a_landing_refused(rt: HostRuntime) {
 
 #[test]
 fn each_growth_of_a_call_for_leases_refused(rt: HostRuntime) {
-    let count = growths(&rt, rt.alloc(), Call::Act);
+    let count = growths(&rt, rt.alloc(), Call::Lease);
+    assert!(rt; matches!(count, Ok(1..)), "{count:?}");
+    let count = growths(&rt, rt.alloc(), Call::Tick);
     assert!(rt; matches!(count, Ok(1..)), "{count:?}");
 }
 

@@ -1,9 +1,10 @@
-//! Batches of one worker with each growth of memory refused in turn.
+//! Batches of one worker with each growth of memory refused in turn: four creations by client 7, and a
+//! Write by client 8, which is answered No. The last creation and the Write go together.
 
 use crate::batch::{Ending, are_creates, batch, creates, is_create};
-use crate::files::FILES_P;
+use crate::files::{FILES_P, WRITE_LOG_OF_8, WRITE_PLAN};
 use crate::gates::Open;
-use crate::setting::opened_with;
+use crate::setting::{opened_with, submission_of};
 use kfs_desk::{Desk, Reply};
 use kfs_plan::Submission;
 use kfs_shared::{BatchBack, BatchEnd, Left, SharedWant};
@@ -21,32 +22,60 @@ const MANY: u64 = 1_000;
 /// A desk, and the submissions that it hasn't answered.
 type Rest<A> = (Desk<A>, Vec<Submission<A>, A>);
 
+/// The number of the Write.
+const WRITE: usize = FILES_P.len();
+
+/// Whether it is the Write of client 8, as it was handed in.
+fn is_write<A: Allocator>(submission: &Submission<A>) -> bool {
+    submission.client == 8
+        && submission.log.as_slice() == WRITE_LOG_OF_8
+        && submission.plan.as_slice() == WRITE_PLAN
+}
+
+/// Whether it is the submission with this number, as it was handed in.
+fn is_submission<A: Allocator>(submission: &Submission<A>, number: usize) -> bool {
+    if number < WRITE {
+        is_create(submission, &FILES_P[number])
+    } else {
+        number == WRITE && is_write(submission)
+    }
+}
+
 /// Whether the submission with this number is left for want of memory, as it was handed in.
 fn is_left<A: Allocator>(left: &[Left<A>], number: usize) -> bool {
     match left {
         [one] => {
             one.number as usize == number
                 && one.why == SharedWant::OutOfMemory
-                && number < FILES_P.len()
-                && is_create(&one.submission, &FILES_P[number])
+                && is_submission(&one.submission, number)
         }
         _ => false,
     }
 }
 
-/// Whether each creation has a Yes or is left, and the docket has a row for each Yes.
+/// Whether it is the right reply to the submission with this number, in this row.
+fn is_reply(reply: &Reply, number: usize, row: u32) -> bool {
+    match reply {
+        Reply::Yes { position, .. } => number < WRITE && *position == row,
+        Reply::No { position, .. } => number == WRITE && *position == row,
+        Reply::NoRoom { .. } => false,
+    }
+}
+
+/// Whether each creation has a Yes and the Write a No, or is left, and the docket has a row for each
+/// reply.
 fn is_settled<A: Allocator + Copy>(end: &BatchEnd<A>) -> bool {
     let mut rows = 1;
-    for number in 0..FILES_P.len() {
+    for number in 0..WRITE + 1 {
         match end.replies.get(number) {
-            Some(Some(Reply::Yes { position, .. })) if *position == rows => {
+            Some(Some(reply)) if is_reply(reply, number, rows) => {
                 rows = rows.wrapping_add(1);
             }
             Some(None) if is_left(end.left.as_slice(), number) => {}
             _ => return false,
         }
     }
-    end.replies.len() == FILES_P.len() && end.desk.docket().len() == rows
+    end.replies.len() == WRITE + 1 && end.desk.docket().len() == rows
 }
 
 /// The submissions that are left.
@@ -80,13 +109,21 @@ fn rest_of_end<A: Allocator + Copy>(
     Some((desk, submissions))
 }
 
+/// Whether these are all five, as they were handed in.
+fn are_all<A: Allocator>(submissions: &[Submission<A>]) -> bool {
+    match submissions.split_last() {
+        Some((write, creates)) => is_write(write) && are_creates(creates, &FILES_P),
+        None => false,
+    }
+}
+
 /// All that came back; none where it isn't as it was handed in, or came back with no growth refused.
 fn rest_of_back<A: Allocator + Copy>(
     desk: Desk<A>,
     submissions: Vec<Submission<A>, A>,
     has_refused: bool,
 ) -> Option<Rest<A>> {
-    if has_refused && desk.docket().len() == 1 && are_creates(submissions.as_slice(), &FILES_P) {
+    if has_refused && desk.docket().len() == 1 && are_all(submissions.as_slice()) {
         Some((desk, submissions))
     } else {
         None
@@ -104,24 +141,32 @@ fn rest_of<A: Allocator + Copy>(alloc: A, ending: Ending<A>, has_refused: bool) 
     }
 }
 
-/// How a batch of the four creations ends, with the growth of this index refused.
+/// The four creations and the Write.
+fn all_five<A: Allocator + Copy>(alloc: A) -> Option<Vec<Submission<A>, A>> {
+    let mut submissions = creates(alloc, &FILES_P)?;
+    let write = submission_of(alloc, 8, WRITE_LOG_OF_8, WRITE_PLAN)?;
+    submissions.push(write).ok()?;
+    Some(submissions)
+}
+
+/// How a batch of the five ends, with the growth of this index refused.
 fn ended<'a, R: Threads + Wait + Sync>(
     rt: &R,
     heap: &'a Refusing<Global>,
     growth: u64,
 ) -> Option<Ending<&'a Refusing<Global>>> {
     let desk = opened_with(heap, 100)?;
-    let submissions = creates(heap, &FILES_P)?;
+    let submissions = all_five(heap)?;
     heap.refuse_after(growth);
     batch(rt, heap, &Open, desk, submissions, 1)
 }
 
-/// Whether nothing is left, and the docket has five rows.
+/// Whether nothing is left, and the docket has six rows.
 fn is_done<A: Allocator + Copy>(end: &BatchEnd<A>) -> bool {
-    end.left.is_empty() && end.desk.docket().len() == 5
+    end.left.is_empty() && end.desk.docket().len() == 6
 }
 
-/// Whether a batch of what isn't answered leaves nothing, and the docket has five rows then.
+/// Whether a batch of what isn't answered leaves nothing, and the docket has six rows then.
 fn is_finished<'a, R: Threads + Wait + Sync>(
     rt: &R,
     heap: &'a Refusing<Global>,

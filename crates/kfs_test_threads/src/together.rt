@@ -5,8 +5,8 @@
 //! judged again at its landing.
 
 use crate::batch::{Ending, batch};
-use crate::files::{FILE_A, WRITE_LOG, WRITE_PLAN};
-use crate::gates::Open;
+use crate::files::{FILE_A, WRITE_LOG, WRITE_LOG_OF_8, WRITE_PLAN};
+use crate::gates::Noting;
 use crate::setting::{opened, submission, submission_of};
 use kfs_desk::Reply;
 use kfs_judge::{EntryFault, Reason};
@@ -14,9 +14,6 @@ use kfs_plan::{Fault, Submission};
 use std::alloc::Global;
 use std::sync::Wait;
 use std::thread::Threads;
-
-/// Client 8 writes "x" to file 5, at its first byte.
-const WRITE_LOG_OF_8: &[u8] = b"KLOG\x01\0\0\0\x08\0\x01\x02\0\0\0\x05\0\0\0\0\0\0\0\0\0\0\0\x01x";
 
 /// The creation of file 5 by client 7, and a Write to it by this client.
 fn create_and_write(alloc: Global, client: u32) -> Option<Vec<Submission<Global>>> {
@@ -33,11 +30,16 @@ fn create_and_write(alloc: Global, client: u32) -> Option<Vec<Submission<Global>
     Some(both)
 }
 
-/// How a batch of the two ends.
-fn ended<R: Threads + Wait + Sync>(rt: &R, alloc: Global, client: u32) -> Option<Ending<Global>> {
+/// How a batch of the two ends, with this gate.
+fn ended<R: Threads + Wait + Sync>(
+    rt: &R,
+    alloc: Global,
+    gate: &Noting,
+    client: u32,
+) -> Option<Ending<Global>> {
     let desk = opened(alloc)?;
     let submissions = create_and_write(alloc, client)?;
-    batch(rt, alloc, &Open, desk, submissions, 1)
+    batch(rt, alloc, gate, desk, submissions, 1)
 }
 
 /// Whether the second submission is answered in row 2 by a No for this reason. And whether it was judged
@@ -62,14 +64,21 @@ fn second_of(ending: &Ending<Global>, reason: Reason) -> Option<bool> {
     }
 }
 
-/// Whether the Write of this client is refused for the reason, and was judged again.
+/// Whether the Write of this client is refused for the reason, and was judged again. None also where the
+/// gate wasn't called for 0 and then for 1.
 fn is_judged_again<R: Threads + Wait + Sync>(
     rt: &R,
     alloc: Global,
     client: u32,
     reason: Reason,
 ) -> Option<bool> {
-    second_of(&ended(rt, alloc, client)?, reason)
+    let gate = Noting::new();
+    let ending = ended(rt, alloc, &gate, client)?;
+    if gate.has_noted_both() {
+        second_of(&ending, reason)
+    } else {
+        None
+    }
 }
 
 #[test]

@@ -1,6 +1,5 @@
 -- What the calls for one submission tell of its worker's pass.
 use Rattle.std.proofs.Common.{◌≡◌, ◌≢◌, ℕ, Bool, List, [], ◌∷◌, ◌++◌, length, sym, refl, ap, subst, ◌∙◌, arith, length-append, append_assoc, append-nil, Result, Ok, Err}
-use Rattle.std.specs.Prelude.{IfOk, IfErr, OnErr}
 use Rattle.kfs_model.specs.Judgement.{State}
 use Rattle.kfs_model.specs.Machine.{Row}
 use Rattle.kfs_desk.specs.History.Legal.{IsLegalDocket}
@@ -14,6 +13,8 @@ use Rattle.kfs_desk.specs.Machine.{AnswerMeans, IsStep}
 use Rattle.kfs_shared.proofs.TurnsLemmas.Lists.{starts_longer, starts_trans}
 use Rattle.kfs_shared.specs.Turns.Lists.{StartsWith}
 use Rattle.kfs_shared.specs.Calls.{HasAdded, IsLanding, IsUnanswered}
+use Rattle.kfs_shared.specs.Landings.{IsAnswered}
+use Rattle.kfs_shared.proofs.Landed.{unanswered_begins}
 use Rattle.kfs_shared.specs.declared.want.SharedBack.{SharedBack}
 use Rattle.kfs_shared.specs.declared.want.SharedWant.{SharedWant}
 use Rattle.kfs_shared.specs.declared.want.SharedWant.TheVariants.{OutOfMemory, DocketFull, TurnsSpent}
@@ -21,11 +22,6 @@ use Rattle.kfs_shared.specs.Crew.Tasks.{HasWorked}
 use Rattle.kfs_shared.specs.Batch.Answers.{IsAnswerTo, IsRepliedIn, IsWhyLeft, positions_in}
 
 -- ---- no answer
-
-pub unanswered_begins : (beginning : Beginning) (why : SharedWant) (s0 s1 : List Row) (ended : Bool) → IsUnanswered beginning why s0 s1 ended → StartsWith s1 s0
-unanswered_begins beginning OutOfMemory s0 s1 ended h = h
-unanswered_begins beginning DocketFull s0 s1 ended h = h.0
-unanswered_begins beginning TurnsSpent s0 s1 ended h = ([], h.1 ∙ sym (append-nil s0))
 
 pub unanswered_why : (beginning : Beginning) (why : SharedWant) (s0 s1 : List Row) (ended : Bool) → IsUnanswered beginning why s0 s1 ended → IsWhyLeft beginning s1 why
 unanswered_why beginning OutOfMemory s0 s1 ended h = tt
@@ -62,17 +58,16 @@ is_replied {A} beginning s0 s1 o0 o1 judged submission reply same is = record {
   meaning = subst (λ (s : Submission A). AnswerMeans is.before (submission_of s) reply is.after) same is.is.meaning;
 }
 
--- ---- the landing in a turn
+-- ---- a landing's answer
 
-pub landed_worked : {A : Type 0} (beginning : Beginning) (s1 s2 : List Row) (o1 o2 : List ℕ) (ended : Bool) (judged : Judged A) (r : Result Reply (SharedBack A))
-    → IfOk r (λ reply. HasAdded beginning s1 o1 (position_of reply) (IsLanding judged reply) s2 o2) → IfErr r (λ back. IsUnanswered beginning back.why s1 s2 ended) → OnErr r (o2 ≡ o1) → HasWorked s1 o1 (positions_in r) s2 o2
-landed_worked beginning s1 s2 o1 o2 ended judged (Ok reply) ok err same = one_made beginning s1 s2 o1 o2 (position_of reply) (IsLanding judged reply) ok
-landed_worked beginning s1 s2 o1 o2 ended judged (Err back) ok err same = nothing_made s1 s2 o1 o2 (unanswered_begins beginning back.why s1 s2 ended err) same
+pub answer_worked : {A : Type 0} (beginning : Beginning) (ended : Bool) (judged : Judged A) (s0 s1 : List Row) (o0 o1 : List ℕ) (r : Result Reply (SharedBack A)) → IsAnswered beginning ended judged s0 o0 r s1 o1 → HasWorked s0 o0 (positions_in r) s1 o1
+answer_worked beginning ended judged s0 s1 o0 o1 (Ok reply) is = one_made beginning s0 s1 o0 o1 (position_of reply) (IsLanding judged reply) is
+answer_worked beginning ended judged s0 s1 o0 o1 (Err back) is = nothing_made s0 s1 o0 o1 (unanswered_begins beginning back.why s0 s1 ended is.1) is.2
 
-pub landed_answer : {A : Type 0} (beginning : Beginning) (s1 s2 : List Row) (o1 o2 : List ℕ) (ended : Bool) (judged : Judged A) (submission : Submission A) (r : Result Reply (SharedBack A)) → judged.submission ≡ submission
-    → IfOk r (λ reply. HasAdded beginning s1 o1 (position_of reply) (IsLanding judged reply) s2 o2) → IfErr r (λ back. back.submission ≡ judged.submission) → IfErr r (λ back. IsUnanswered beginning back.why s1 s2 ended) → IsAnswerTo beginning s2 submission r
-landed_answer beginning s1 s2 o1 o2 ended judged submission (Ok reply) same ok back err = is_replied beginning s1 s2 o1 o2 judged submission reply same ok
-landed_answer beginning s1 s2 o1 o2 ended judged submission (Err left) same ok back err = (back ∙ same, unanswered_why beginning left.why s1 s2 ended err)
+pub is_answer : {A : Type 0} (beginning : Beginning) (ended : Bool) (judged : Judged A) (submission : Submission A) (s0 s1 : List Row) (o0 o1 : List ℕ) (r : Result Reply (SharedBack A)) → judged.submission ≡ submission
+    → IsAnswered beginning ended judged s0 o0 r s1 o1 → IsAnswerTo beginning s1 submission r
+is_answer beginning ended judged submission s0 s1 o0 o1 (Ok reply) same is = is_replied beginning s0 s1 o0 o1 judged submission reply same is
+is_answer beginning ended judged submission s0 s1 o0 o1 (Err back) same is = (is.0 ∙ same, unanswered_why beginning back.why s0 s1 ended is.1)
 
 -- ---- a submission that is left
 

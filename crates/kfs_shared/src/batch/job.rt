@@ -1,13 +1,9 @@
 //! One submission of a batch: where it is, and what its worker does for it.
-ghost use Rattle.std.specs.Prelude.{◌≡◌, ◌≢◌, List, IfSome, IfOk, IfErr};
-ghost use Rattle.kfs_model.specs.Machine.{Row};
-ghost use Rattle.kfs_desk.specs.Beginning.{beginning_of};
-ghost use Rattle.kfs_shared.specs.Passes.{IsTurnOf, started, seen_by};
-ghost use Rattle.kfs_shared.specs.Batch.Answers.{IsAnswerTo, positions_in};
-ghost use Rattle.kfs_shared.specs.Batch.Jobs.{HasWorkedIn, IsJudged, IsLanded, kept, positions_of};
+ghost use Rattle.std.specs.Prelude.{◌≡◌, ◌≢◌, IfOk, IfErr};
+ghost use Rattle.kfs_shared.specs.Batch.Jobs.{IsJudged};
 
-use crate::{Shared, SharedBack, SharedWant, Turn};
-use kfs_desk::{Desk, Reply};
+use crate::{Landing, SharedBack, SharedWant};
+use kfs_desk::Reply;
 use kfs_judge::View;
 use kfs_plan::{Back, Judged, Submission, judge};
 use std::alloc::Allocator;
@@ -85,42 +81,9 @@ fn verdict<A: Allocator + Copy>(
     }
 }
 
-/// Lands the verdict in the turn. Where no turn could be had, the submission comes back.
-fn landed<A: Allocator + Copy>(
-    shared: &Shared<Desk<A>, A>,
-    turn: Option<Turn<Desk<A>>>,
-    judged: Judged<A>,
-) -> (Option<Turn<Desk<A>>>, Result<Reply, SharedBack<A>>)
-    requires { IfSome turn (IsTurnOf shared.now) }
-    ensures turn { IfSome result.0 (IsTurnOf shared.now) }
-    ensures worked { HasWorkedIn turn (positions_in result.1) result.0 }
-    ensures answer { (s : List Row) → IsAnswerTo (started beginning_of shared.now) (seen_by result.0 s) judged.submission result.1 }
-{
-    match turn {
-        Some(turn) => {
-            let (turn, answer) = turn.land(shared, judged);
-            (Some(turn), answer)
-        }
-        None => {
-            let (submission, _outcome) = judged.into_parts();
-            let why = SharedWant::TurnsSpent;
-            (None, Err(SharedBack { submission, why }))
-        }
-    }
-}
-
-/// The answer, kept.
-fn hand_of<A: Allocator>(answer: Result<Reply, SharedBack<A>>) -> Hand<A>
-    ensures { result ≡ kept answer }
-{
-    match answer {
-        Ok(reply) => Hand::Replied(reply),
-        Err(back) => Hand::Back(back),
-    }
-}
-
 impl<'g, A: Allocator + Copy, G: Gate> Job<'g, A, G> {
-    /// Judges the submission, and calls the gate if there is a verdict. Else the submission is back.
+    /// Judges a submission that waits, and calls the gate if there is a verdict. Else the submission is
+    /// back.
     pub fn judge(&mut self, view: &Result<View<A>, SharedWant>)
         requires view { IfErr view.now (λ why. why ≢ SharedWant.DocketFull) }
         ensures number { self.new.number ≡ self.old.number }
@@ -137,30 +100,35 @@ impl<'g, A: Allocator + Copy, G: Gate> Job<'g, A, G> {
             Err(back) => self.hand = Hand::Back(back),
         }
     }
+}
 
-    /// Lands the verdict in the turn, and keeps the answer. What is back stays so.
-    pub fn land(
-        &mut self,
-        shared: &Shared<Desk<A>, A>,
-        turn: Option<Turn<Desk<A>>>,
-    ) -> Option<Turn<Desk<A>>>
-        requires { IfSome turn (IsTurnOf shared.now) }
-        ensures turn { IfSome result (IsTurnOf shared.now) }
-        ensures number { self.new.number ≡ self.old.number }
-        ensures worked { HasWorkedIn turn (positions_of self.new.hand) result }
-        ensures landed { (s : List Row) → IsLanded (started beginning_of shared.now) (seen_by result s) self.old.hand self.new.hand }
-    {
+impl<'g, A: Allocator + Copy, G: Gate> Landing<Judged<A>, SharedBack<A>> for Job<'g, A, G> {
+    ghost use Rattle.std.specs.Prelude.{◌≡◌};
+    ghost use Rattle.kfs_shared.specs.Batch.Jobs.{kept, verdict_of};
+
+    ghost number = { λ job. job.number };
+
+    ghost verdict = { λ job. verdict_of job.hand };
+
+    ghost keeps = { λ job answer. job.hand ≡ kept answer };
+
+    fn give(&mut self) -> Option<Judged<A>> {
         match mem::replace(&mut self.hand, Hand::Taken) {
-            Hand::Judged(judged) => {
-                let (turn, answer) = landed(shared, turn, Box::into_inner(judged));
-                self.hand = hand_of(answer);
-                turn
+            Hand::Judged(judged) => Some(Box::into_inner(judged)),
+            hand => {
+                self.hand = hand;
+                None
             }
-            Hand::Back(back) => {
-                self.hand = Hand::Back(back);
-                turn
-            }
-            Hand::Waiting(_) | Hand::Taken | Hand::Replied(_) => turn,
         }
+    }
+
+    fn keep(&mut self, answer: Result<Reply, SharedBack<A>>)
+        ensures number { self.new.number ≡ self.old.number }
+        ensures kept { self.new.hand ≡ kept answer }
+    {
+        self.hand = match answer {
+            Ok(reply) => Hand::Replied(reply),
+            Err(back) => Hand::Back(back),
+        };
     }
 }

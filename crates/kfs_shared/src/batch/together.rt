@@ -1,16 +1,13 @@
 //! Which submissions a worker answers together, and how: it judges them against one view, and lands
 //! their verdicts in one turn.
-ghost use Rattle.std.specs.Prelude.{◌≡◌, ◌≢◌, List, IfSome, IfErr, drop};
-ghost use Rattle.kfs_model.specs.Machine.{Row};
-ghost use Rattle.kfs_desk.specs.Beginning.{beginning_of};
+ghost use Rattle.std.specs.Prelude.{◌≡◌, ◌≢◌, IfErr};
 ghost use Rattle.kfs_shared.specs.Turns.Lists.{StartsWith};
-ghost use Rattle.kfs_shared.specs.Passes.{IsPassOf, IsTurnOf, started, seen, own, seen_by};
-ghost use Rattle.kfs_shared.specs.Crew.Tasks.{IsDoneIn, all_of};
-ghost use Rattle.kfs_shared.specs.Batch.Jobs.{FromOn, HasWorkedIn, IsJobJudged, IsJobLanded, positions_of};
+ghost use Rattle.kfs_shared.specs.Passes.{IsPassOf, seen, own};
+ghost use Rattle.kfs_shared.specs.Batch.Jobs.{FromOn, IsJobJudged};
 
 use crate::batch::job::{Gate, Hand, Job};
 use crate::crew::Task;
-use crate::{Pass, Shared, SharedWant, Turn};
+use crate::{Pass, Shared, SharedWant};
 use kfs_desk::Desk;
 use kfs_judge::View;
 use std::alloc::Allocator;
@@ -82,26 +79,6 @@ fn judge_from<A: Allocator + Copy, G: Gate>(
     judge_from(view, jobs, from + 1);
 }
 
-/// Lands the verdicts on the submissions from this number on, in their order. Where no turn could be had,
-/// the submissions come back.
-fn land_from<A: Allocator + Copy, G: Gate>(
-    shared: &Shared<Desk<A>, A>,
-    turn: Option<Turn<Desk<A>>>,
-    jobs: &mut [Job<'_, A, G>],
-    from: usize,
-) -> Option<Turn<Desk<A>>>
-    requires { IfSome turn (IsTurnOf shared.now) }
-    ensures turn { IfSome result (IsTurnOf shared.now) }
-    ensures worked { HasWorkedIn turn (all_of (λ job. positions_of job.hand) (drop from jobs.new)) result }
-    ensures landed { (s : List Row) → FromOn (IsDoneIn (λ docket v w. IsJobLanded (started beginning_of shared.now) docket v.number v.hand w.number w.hand) (seen_by result s)) from jobs.old jobs.new }
-{
-    if from >= jobs.len() {
-        return turn;
-    }
-    let turn = jobs[from].land(shared, turn);
-    land_from(shared, turn, jobs, from + 1)
-}
-
 /// The view that was kept, or else a new one.
 fn view_of<A: Allocator + Copy, R: Wait>(
     rt: &R,
@@ -152,14 +129,6 @@ impl<'g, A: Allocator + Copy, G: Gate> Task<Desk<A>, A> for Job<'g, A, G> {
         judge_from(&view, tasks, 0);
         // A view that is dropped shares nothing with the desk, which then copies less.
         drop(view);
-        let turn = shared.begin_turn(rt, pass);
-        match land_from(shared, turn, tasks, 0) {
-            Some(turn) => {
-                let next = turn.view().ok();
-                shared.end_turn(pass, turn);
-                next
-            }
-            None => None,
-        }
+        shared.land_each(rt, pass, tasks).ok()
     }
 }

@@ -1,14 +1,16 @@
 use Rattle.kfs_desk.specs.Beginning.{beginning_of}
+use Rattle.kfs_desk.specs.Docket.{position_of}
+use Rattle.kfs_shared.specs.Calls.{IsLanding}
 use Rattle.kfs_shared.specs.Passes.{started, seen, own, seen_in, own_in}
-use Rattle.kfs_shared.proofs.Landed.{landed_err, landed_ok}
+use Rattle.kfs_shared.proofs.Landed.{answered_err, answered_ok}
 use Rattle.kfs_shared.proofs.land.Shared+Desk+A+A.land.Goals as goal
 
 pub returns-clause-ok : goal.returns-clause-ok
 returns-clause-ok g c =
-    landed_ok (started beginning_of c.args.self.now) (seen c.args.pass.now) (seen_in c.in-Some.turn) (seen_in c.land-turn.result.0) (seen c.end_turn.new.pass) (own c.args.pass.now) (own_in c.in-Some.turn) (own_in c.land-turn.result.0) (own c.end_turn.new.pass)
-    c.args.judged c.land-turn.result.1 c.in-Some.ensures.begins c.in-Some.ensures.own c.end_turn.ensures.seen c.end_turn.ensures.own c.land-turn.ensures.ok
+    answered_ok (started beginning_of c.args.self.now) (seen c.args.pass.now) (seen_in c.in-Some.turn) (seen_in c.land-turn.result.0) (seen c.end_turn.new.pass) (own c.args.pass.now) (own_in c.in-Some.turn) (own_in c.land-turn.result.0) (own c.end_turn.new.pass)
+    position_of (IsLanding c.args.judged) c.land-turn.result.1 c.in-Some.ensures.begins c.in-Some.ensures.own c.end_turn.ensures.seen c.end_turn.ensures.own c.land-turn.ensures.ok
 
 pub returns-clause-err : goal.returns-clause-err
 returns-clause-err g c =
-    landed_err (started beginning_of c.args.self.now) (seen c.args.pass.now) (seen_in c.in-Some.turn) (seen_in c.land-turn.result.0) (seen c.end_turn.new.pass) _ c.land-turn.result.1
+    answered_err (started beginning_of c.args.self.now) (seen c.args.pass.now) (seen_in c.in-Some.turn) (seen_in c.land-turn.result.0) (seen c.end_turn.new.pass) _ (λ back. back.why) c.land-turn.result.1
     c.in-Some.ensures.begins c.end_turn.ensures.seen c.land-turn.ensures.err

@@ -1,10 +1,13 @@
-use Rattle.std.proofs.Common.{rules, Some, true, ap, sym, ◌∙◌}
+use Rattle.std.proofs.Common.{rules, Some, true, false, ap, refl, subst, sym, ◌∙◌}
 use Rattle.kfs_desk.specs.Beginning.{beginning_of}
 use Rattle.kfs_shared.specs.Turns.Stages.{ticket}
 use Rattle.kfs_shared.specs.declared.turns.known.Stage.TheVariants.{Served}
 use Rattle.kfs_shared.proofs.TurnsLemmas.Lists.{starts_same}
-use Rattle.kfs_shared.proofs.Landed.{added_served, has_added, still_begun}
-use Rattle.kfs_shared.proofs.turn.Turn+Desk+A.land.Goals as goal
+use Rattle.kfs_shared.specs.Calls.{IsUnanswered}
+use Rattle.kfs_shared.specs.Passes.{started, seen_in}
+use Rattle.kfs_shared.proofs.Landed.{added_served, full_in_turn, has_added, still_begun}
+use Rattle.kfs_shared.proofs.land.Turn+Desk+A.land.Goals as goal
+use Rattle.kfs_shared.proofs.land.Turn+Desk+A.land.Goals.{in-OutOfMemory, in-DocketFull}
 
 pub returns-in-Ok-clause-ok : goal.returns-in-Ok-clause-ok
 returns-in-Ok-clause-ok g c =
@@ -24,3 +27,14 @@ invariant_of-result-clause-begun g c =
 
 pub invariant_of-result-in-Err-clause-served : goal.invariant_of-result-in-Err-clause-served
 invariant_of-result-in-Err-clause-served g c = c.args.self.served ∙ ap (λ d. Served (ticket c.args.self.seat.me.0.stage) d true) (sym c.in-Err.ensures.back.1)
+
+pub returns-after-why-clause-err : goal.returns-after-why-clause-err
+returns-after-why-clause-err g c =
+    let turn = c.args.self in
+    let b = started beginning_of c.args.shared.now in
+    let rows = seen_in turn in
+    elim c.match-why.branch [
+      | in-OutOfMemory w ↦ subst (λ why. IsUnanswered b why rows rows false) (sym w.why-is) (starts_same rows rows refl)
+      | in-DocketFull w ↦ subst (λ why. IsUnanswered b why rows rows false) (sym w.why-is)
+          (starts_same rows rows refl, full_in_turn b turn.seat.me.0.opening turn.object rows (search rules) turn.begun turn.whole (c.in-Err.ensures.full.0 w.in-DocketFull.is))
+    ]
