@@ -16,6 +16,9 @@ returns-in_default-clause-landed g c =
           c.args.landings.now c.hand_back.new.landings none.0 none.1 none.2 (c.hand_back.ensures (started beginning_of c.args.self.now) (seen c.args.pass.now) (own c.args.pass.now)),
     )
 
+pub returns-in_default-clause-err : goal.returns-in_default-clause-err
+returns-in_default-clause-err g c = let none = c.in_default.ensures.none in (none.0, none.1)
+
 pub returns-clause-landed : goal.returns-clause-landed
 returns-clause-landed g c = (
   seen_in c.in-Some.turn,
