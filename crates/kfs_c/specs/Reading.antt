@@ -12,7 +12,7 @@ use Rattle.kfs_model.specs.Table.{get}
 use Rattle.kfs_model.specs.Tree.{NameTable, content_of, headers, target}
 use Rattle.kfs_model.specs.Device.Canonical.{canonical_bytes}
 use Rattle.kfs_types.specs.Views.{header_of}
-use Rattle.kfs_types.specs.declared.header.Header.{Header}
+use Rattle.kfs_types.specs.declared.entry.Header.{Header}
 use Rattle.kfs_desk.specs.Machine.{Desk}
 use Rattle.kfs_plan_maker.specs.PlanMade.{HasNoPlan, IsPlanMade}
 use Rattle.kfs_c.specs.declared.numbers.NodeNumbers.{NodeNumbers}

@@ -1,8 +1,8 @@
 -- Answers to calls and headers as the numbers that C is told.
 use Rattle.std.specs.Prelude.{ℕ, Bool, true, false, Result, Ok, Err}
-use Rattle.kfs_types.specs.declared.header.Header.{Header}
-use Rattle.kfs_types.specs.declared.header.Kind.{Kind}
-use Rattle.kfs_types.specs.declared.header.Kind.TheVariants as kinds
+use Rattle.kfs_types.specs.declared.entry.Header.{Header}
+use Rattle.kfs_types.specs.declared.entry.Kind.{Kind}
+use Rattle.kfs_types.specs.declared.entry.Kind.TheVariants as kinds
 use Rattle.kfs_lease.specs.declared.leases.LeaseFault.{LeaseFault}
 use Rattle.kfs_lease.specs.declared.leases.LeaseFault.TheVariants as leases
 use Rattle.kfs_types.specs.declared.moves.moves.MoveFault.{MoveFault}

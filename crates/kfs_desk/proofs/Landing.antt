@@ -15,7 +15,7 @@ use Rattle.kfs_model.specs.Machine.{leases_after}
 use Rattle.kfs_model.proofs.Tables.{found_from_any, any_from_found}
 use Rattle.kfs_model.proofs.Heads.{get-headers}
 use Rattle.kfs_types.specs.Views.{header_of as shown_header}
-use Rattle.kfs_types.specs.declared.header.Header.{Header as CodeHeader}
+use Rattle.kfs_types.specs.declared.entry.Header.{Header as CodeHeader}
 use Rattle.kfs_types.specs.declared.plan.NodeRow.{NodeRow}
 use Rattle.kfs_types.specs.declared.entry.Log.{Log as CodeLog}
 use Rattle.kfs_types.specs.declared.plan.Plan.{Plan as CodePlan}

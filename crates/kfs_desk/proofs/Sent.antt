@@ -14,7 +14,7 @@ use Rattle.kfs_image.proofs.image.Image.TheSendSync as image
 use Rattle.kfs_lease.specs.contracts.leases.Leases as Leases
 use Rattle.kfs_lease.proofs.leases.Leases.TheSendSync as leases
 use Rattle.kfs_desk.specs.contracts.history.docket.Docket as Docket
-use Rattle.kfs_desk.specs.contracts.state.ShownState as ShownState
+use Rattle.kfs_desk.specs.contracts.state_change.ShownState as ShownState
 use Rattle.kfs_desk.specs.contracts.desk.Desk as Desk
 
 docket_send : IsSend Docket.the_row

@@ -4,7 +4,7 @@ use Rattle.std.specs.List.{AllByRecursion}
 use Rattle.kfs_model.specs.Lease.{Leases, without_gone}
 use Rattle.kfs_model.specs.Plan.{PiecesAscend}
 use Rattle.kfs_types.specs.declared.entry.Log.{Log}
-use Rattle.kfs_types.specs.declared.header.Header.{Header}
+use Rattle.kfs_types.specs.declared.entry.Header.{Header}
 use Rattle.kfs_types.specs.declared.plan.NodeRow.{NodeRow}
 use Rattle.kfs_types.specs.declared.plan.Plan.{Plan}
 use Rattle.kfs_entry.specs.Answers.{SpansAreWithin, log_of, plan_of}

@@ -29,8 +29,7 @@ use crate::history::Docket;
 use crate::history::answers::{
     Act, ActFault, ActReply, BeginFault, Done, Reply, SubmissionsBack, Unanswered,
 };
-use crate::state::ShownState;
-use crate::state_change::change_state;
+use crate::state_change::{ShownState, change_state};
 use kfs_image::{Answer, Cell, Header, Image, Shape, look};
 use kfs_judge::View;
 use kfs_lease::{LeaseFault, LeaseKind, Leases};

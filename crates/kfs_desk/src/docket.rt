@@ -8,7 +8,7 @@ ghost use Rattle.kfs_desk.specs.HandedIn.{handed_in};
 
 use crate::history::answers::{ActFault, Done, Reply};
 use crate::history::{Docket, OneRow, RowRule};
-use crate::state::ShownState;
+use crate::state_change::ShownState;
 use kfs_lease::Act;
 use kfs_migrate::Move;
 use kfs_plan::Submission;

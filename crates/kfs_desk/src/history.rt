@@ -2,7 +2,5 @@
 //! `docket.rt`.
 pub mod answers;
 mod docket;
-mod row;
 
-pub use self::docket::Docket;
-pub use self::row::{OneRow, RowRule};
+pub use self::docket::{Docket, OneRow, RowRule};

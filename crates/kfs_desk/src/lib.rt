@@ -11,7 +11,6 @@ mod docket;
 mod fill;
 mod first_fault;
 pub mod history;
-mod state;
 mod state_change;
 mod verdict;
 

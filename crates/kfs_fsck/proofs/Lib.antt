@@ -1,6 +1,6 @@
--- Lemmas on tests in parts, and on old images that are spelled anew.
+-- Lemmas on tests in parts, and on saved images that are read again.
 pub mod LeastOfParts
 pub mod JoinedPlaces
 pub mod JoinedRules
 pub mod Cleaned
-pub mod OldImages
+pub mod SavedImages

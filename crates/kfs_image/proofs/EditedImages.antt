@@ -18,7 +18,7 @@ use Rattle.kfs_map_chunks.specs.Edits.{KeysAscend}
 use Rattle.kfs_map_chunks.specs.Overlays.{Say, overlaid}
 use Rattle.kfs_map_chunks.specs.Tables.{table_after}
 use Rattle.kfs_map_chunks.proofs.Overlays.{overlaid_none, table_after_said}
-use Rattle.kfs_image.specs.declared.tier.change.NewBlock.{NewBlock}
+use Rattle.kfs_image.specs.declared.tier.tiers.NewBlock.{NewBlock}
 use Rattle.kfs_image.specs.Tier.Tiers.{with_blocks}
 use Rattle.kfs_image.proofs.TierLemmas.TierLists.{rest_at}
 use Rattle.kfs_image.specs.Blocks.Blocks.{BlocksShown, CanChange, changed as changed_blocks}

@@ -2,7 +2,7 @@
 use Rattle.std.proofs.Common.{◌≡◌, ◌≢◌, ℕ, ◌+◌, ◌<◌, ◌≤◌, cond, List, [], ◌∷◌, ◌++◌, length, get_or, take, Option, option_map, refl, sym, ap, ◌∙◌}
 use Rattle.std.specs.Ordering.{nat_cmp, eq_by_cmp}
 use Rattle.std.proofs.lemmas.List.{take_all, take_more}
-use Rattle.kfs_types.specs.declared.header.Header.{Header as CodeHeader}
+use Rattle.kfs_types.specs.declared.entry.Header.{Header as CodeHeader}
 use Rattle.kfs_types.specs.declared.plan.NodeRow.{NodeRow}
 use Rattle.kfs_types.specs.Views.{header_of}
 use Rattle.kfs_model.specs.Header.{Header}

@@ -8,9 +8,9 @@ use Rattle.std.proofs.lemmas.List.Folds.{list_any-append}
 use Rattle.std.specs.Cmp.{unsigned_tied}
 use Rattle.std.specs.List.{list_any}
 use Rattle.std.specs.Ordering.{nat_cmp, eq_by_cmp}
-use Rattle.kfs_types.specs.declared.header.Header.{Header as CodeHeader}
-use Rattle.kfs_types.specs.declared.header.Kind.{Kind as CodeKind}
-use Rattle.kfs_types.specs.declared.header.Kind.TheVariants as kinds
+use Rattle.kfs_types.specs.declared.entry.Header.{Header as CodeHeader}
+use Rattle.kfs_types.specs.declared.entry.Kind.{Kind as CodeKind}
+use Rattle.kfs_types.specs.declared.entry.Kind.TheVariants as kinds
 use Rattle.kfs_types.specs.declared.plan.NodeRow.{NodeRow}
 use Rattle.kfs_types.specs.Views.{header_of}
 use Rattle.kfs_model.specs.Header.{Kind, File, Directory, Header}
@@ -19,7 +19,7 @@ use Rattle.kfs_model.specs.Table.{Table, numbers, get, changed}
 use Rattle.kfs_model.specs.Placement.{Place, Placement, block_count}
 use Rattle.kfs_model.proofs.TableLaws.{same_table, get-changed, get-retain}
 use Rattle.kfs_model.specs.Device.ShownTree.{DeviceImage, IsLawful}
-use Rattle.kfs_map_pages.specs.declared.edit.NumberEdit.{NumberEdit}
+use Rattle.kfs_map_pages.specs.declared.change.NumberEdit.{NumberEdit}
 use Rattle.kfs_map_pages.specs.Edits.{edited, AreEdits}
 use Rattle.kfs_image.specs.declared.blocks.fill.BlockRun.{BlockRun}
 use Rattle.kfs_image.specs.Blocks.Fill.{is_in, is_in_one, less}

@@ -1,10 +1,8 @@
 //! Where the blocks of files lie, and the three tiers, changed together. Begin with `blocks.rt`.
 mod blocks;
 mod fill;
-mod moves;
 mod nested;
 mod read;
-mod staged;
 
 pub use self::blocks::FileBlocks;
 pub use self::fill::{BlockRow, BlockRun};

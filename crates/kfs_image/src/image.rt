@@ -18,19 +18,18 @@ ghost use Rattle.kfs_image.specs.Edit.{CanEdit, edited_all};
 ghost use Rattle.kfs_image.specs.Image.{contents_of, fresh_image, place_at};
 ghost use Rattle.kfs_image.specs.Net.{CanApply, applied};
 ghost use Rattle.kfs_image.specs.Read.{FileIsRead};
+ghost use Rattle.kfs_types.specs.Views.{header_of};
 
 use crate::blocks::{ChangeBlocks, FileBlocks, FillBlocks, MoveBlocks, Place};
 use crate::codec::RawImage;
 use crate::edit::{Edit, Parts};
-use crate::headers::header;
 use crate::net::Fill;
 use crate::raw::{raw_blocks, raw_shape, tell_spelled};
-use crate::read::ReadFault;
-use crate::released::released_blocks;
-use kfs_image_nodes::{Net, Shape};
+use crate::read::{ReadFault, released_blocks};
+use kfs_image_nodes::{Answer, Cell, Net, Shape, look};
 use kfs_map_chunks::key_edits;
 use kfs_model::device::laws::well_formed_image_is_lawful;
-use kfs_types::{BLOCK_SIZE, Change, Kind, Name, NameRow, NodeRow, TierSizes};
+use kfs_types::{BLOCK_SIZE, Change, Header, Kind, Name, NameRow, NodeRow, TierSizes};
 use std::alloc::{AllocError, Allocator};
 use std::marker::Model;
 use std::ops::Bound;
@@ -329,4 +328,29 @@ impl<A: Allocator> Image<A> {
         self.blocks.read_bytes(number, start, &mut buffer[..count]);
         Ok(count)
     }
+}
+
+/// The header of the node with this number, or none. Takes no memory.
+pub fn header<A: Allocator>(image: &Image<A>, number: u32) -> Option<Header>
+    ensures { option_map header_of result ≡ get image.now.heads number }
+{
+    match look(image.shape(), &Cell::Header(number)) {
+        Answer::Header(header) => header,
+        // `look` answers a question for a header with a header.
+        _ => unreachable!(),
+    }
+}
+
+/// The header of the node with this number after the rows are made, or none. It goes through all rows.
+/// Takes no memory.
+pub fn header_after<A: Allocator>(image: &Image<A>, rows: &[NodeRow], number: u32) -> Option<Header>
+    ensures { option_map header_of result ≡ get (reheaded image.now.heads rows.now) number }
+{
+    let mut found = header(image, number);
+    for row in rows {
+        if row.number == number {
+            found = row.now;
+        }
+    }
+    found
 }

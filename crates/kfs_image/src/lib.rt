@@ -10,21 +10,19 @@ mod blocks;
 pub mod codec;
 mod edit;
 mod encode;
-mod headers;
 mod image;
 mod net;
 mod raw;
 mod read;
-mod released;
 pub mod tier;
 
 pub use blocks::{BlockRow, BlockRun, Place};
 pub use codec::{Extent, ExtentRow, ImageFault, RawImage, RawNode, decode_image};
 pub use edit::Edit;
 pub use encode::encode_image;
-#[doc(hidden)]
-pub use headers::{header, header_after};
 pub use image::Image;
+#[doc(hidden)]
+pub use image::{header, header_after};
 pub use kfs_image_nodes::{Answer, Cell, HeaderPage, Net, Page, Shape, look};
 pub use kfs_types::{
     BLOCK_SIZE, GREATEST_MODE, GREATEST_NUMBER, Header, Kind, LINK_LIMIT, Name, NameRow, NodeRow,

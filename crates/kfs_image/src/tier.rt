@@ -2,14 +2,10 @@
 //! `tiers.rt`. A place is a tier's number and a block's number on its device.
 mod bits;
 mod blocks;
-mod change;
 pub mod laws;
-mod place;
 mod places;
 mod tier;
 mod tiers;
 
-pub use self::change::NewBlock;
-pub use self::place::Place;
-pub use self::places::Places;
-pub use self::tiers::Tiers;
+pub use self::places::{Place, Places};
+pub use self::tiers::{NewBlock, Tiers};

@@ -1,7 +1,7 @@
 -- The headers of one page, and the next one of all pages, as the model has them.
 use Rattle.std.specs.Prelude.{IsSome}
 use Rattle.std.proofs.Common.{◌≡◌, ℕ, ◌==◌, Bool, true, false, cond, Option, Some, None, option_map, refl, sym, ap, subst, ◌∙◌}
-use Rattle.kfs_types.specs.declared.header.Header.{Header as CodeHeader}
+use Rattle.kfs_types.specs.declared.entry.Header.{Header as CodeHeader}
 use Rattle.kfs_types.specs.Views.{header_of}
 use Rattle.kfs_map_pages.specs.Edits.{page_of}
 use Rattle.kfs_map_pages.specs.Shown.{part}

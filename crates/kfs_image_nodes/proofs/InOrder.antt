@@ -6,14 +6,14 @@ use Rattle.std.specs.declared.cmp.Ordering.TheVariants.{Less}
 use Rattle.std.specs.Ordering.{is_eq}
 use Rattle.std.specs.Cmp.{eq_by_cmp_equiv}
 use Rattle.std.specs.FinMap.Entries.{find}
-use Rattle.kfs_types.specs.declared.header.Header.{Header as CodeHeader}
+use Rattle.kfs_types.specs.declared.entry.Header.{Header as CodeHeader}
 use Rattle.kfs_types.specs.declared.plan.NameRow.{NameRow}
 use Rattle.kfs_types.specs.declared.plan.NodeRow.{NodeRow}
 use Rattle.kfs_model.specs.Spelling.{IsName}
 use Rattle.kfs_model.specs.Table.{Order, Table, get, changed}
 use Rattle.kfs_model.specs.Tree.{NameTable, name_order}
 use Rattle.kfs_map_pages.specs.Edits as numbered
-use Rattle.kfs_map_chunks.specs.declared.edit.KeyEdit.{KeyEdit}
+use Rattle.kfs_map_chunks.specs.declared.entries.KeyEdit.{KeyEdit}
 use Rattle.kfs_map_chunks.specs.Edits.{edited, KeysAscend}
 use Rattle.kfs_map_chunks.specs.Tables.{table, table_after}
 use Rattle.kfs_map_chunks.proofs.Tables.{get-table, get-table_after}

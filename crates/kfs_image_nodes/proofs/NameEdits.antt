@@ -12,11 +12,11 @@ use Rattle.std.specs.FinMap.Entries.{find}
 use Rattle.std.specs.BTreeMap.{BTreeMap, get as get_slot}
 use Rattle.kfs_model.specs.Table.{Order, Table, numbers, get}
 use Rattle.kfs_model.specs.Tree.{NameTable, name_order, entry_count}
-use Rattle.kfs_map_pages.specs.declared.edit.NumberEdit as numbered
+use Rattle.kfs_map_pages.specs.declared.change.NumberEdit as numbered
 use Rattle.kfs_map_pages.specs.Edits as numbered_edits
 use Rattle.kfs_map_pages.specs.Edits.{AreEdits}
 use Rattle.kfs_map_pages.proofs.Tables.{get-rewritten}
-use Rattle.kfs_map_chunks.specs.declared.edit.KeyEdit.{KeyEdit}
+use Rattle.kfs_map_chunks.specs.declared.entries.KeyEdit.{KeyEdit}
 use Rattle.kfs_map_chunks.specs.Edits.{rewritten}
 use Rattle.kfs_map_chunks.specs.Tables.{table}
 use Rattle.kfs_map_chunks.proofs.Tables.{get-table, find-rewritten}

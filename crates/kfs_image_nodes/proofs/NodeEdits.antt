@@ -12,10 +12,10 @@ use Rattle.std.specs.List.{filter}
 use Rattle.std.specs.List.Sorted.{IsStrictlySortedBy}
 use Rattle.std.specs.Map.{lookup, keys_of}
 use Rattle.std.specs.BTreeMap.{is_at}
-use Rattle.kfs_types.specs.declared.header.Header.{Header as CodeHeader}
+use Rattle.kfs_types.specs.declared.entry.Header.{Header as CodeHeader}
 use Rattle.kfs_types.specs.declared.plan.NodeRow.{NodeRow}
 use Rattle.kfs_types.specs.Views.{header_of}
-use Rattle.kfs_map_pages.specs.declared.edit.NumberEdit.{NumberEdit}
+use Rattle.kfs_map_pages.specs.declared.change.NumberEdit.{NumberEdit}
 use Rattle.kfs_map_pages.specs.Edits.{edited, rewritten, AreEdits}
 use Rattle.kfs_map_pages.proofs.Tables.{get-rewritten}
 use Rattle.kfs_model.specs.Header.{Header}

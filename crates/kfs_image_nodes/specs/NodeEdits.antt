@@ -1,12 +1,12 @@
 -- The header of a number after node rows, and the edits that make it so.
 use Rattle.std.specs.Prelude.{◌≡◌, ℕ, ◌≤◌, ◌&&◌, nat_le, List, [], ◌∷◌, Option, Some, if◌then◌else◌}
 use Rattle.std.specs.Ordering.{nat_cmp, eq_by_cmp}
-use Rattle.kfs_types.specs.declared.header.Header.{Header as CodeHeader}
+use Rattle.kfs_types.specs.declared.entry.Header.{Header as CodeHeader}
 use Rattle.kfs_types.specs.declared.plan.NodeRow.{NodeRow}
 use Rattle.kfs_model.specs.Header.{Header}
 use Rattle.kfs_model.specs.Limits.{greatest_number}
 use Rattle.kfs_model.specs.Table.{Table, numbers, get}
-use Rattle.kfs_map_pages.specs.declared.edit.NumberEdit.{NumberEdit}
+use Rattle.kfs_map_pages.specs.declared.change.NumberEdit.{NumberEdit}
 
 -- the header of a number after the rows, given its header before
 abbrev pub left_by : List NodeRow → ℕ → Option CodeHeader → Option CodeHeader

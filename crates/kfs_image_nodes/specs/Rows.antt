@@ -1,6 +1,6 @@
 -- The tables that the rows of a shape show.
 use Rattle.std.specs.Prelude.{ℕ}
-use Rattle.kfs_types.specs.declared.header.Header.{Header as CodeHeader}
+use Rattle.kfs_types.specs.declared.entry.Header.{Header as CodeHeader}
 use Rattle.kfs_types.specs.Views.{header_of}
 use Rattle.kfs_model.specs.Header.{Header}
 use Rattle.kfs_model.specs.Table.{Table, numbers, mapped}

@@ -6,7 +6,7 @@ ghost use Rattle.kfs_map_pages.specs.Edits.{edited, AreEdits};
 ghost use Rattle.kfs_image_nodes.specs.NodeEdits.{left_by, node_edit, IsNumber};
 ghost use Rattle.kfs_map_chunks.specs.Overlays.{said_or};
 
-use crate::overlay::number_edits;
+use crate::name_edits::number_edits;
 use kfs_map_chunks::Overlay;
 use kfs_map_pages::NumberEdit;
 use kfs_types::{GREATEST_NUMBER, Header, NodeRow};

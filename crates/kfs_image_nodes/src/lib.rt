@@ -4,14 +4,12 @@
 //! Begin with `layout.rt` (`Shape`) and `cell.rt` (what can be looked up).
 #![tactic(auto)]
 
-mod borrowed;
 mod cell;
 mod edits;
 mod header_page;
 mod layout;
 mod name_edits;
 mod net;
-mod overlay;
 mod rows;
 mod sorted_rows;
 mod tallies;

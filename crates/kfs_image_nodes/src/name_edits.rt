@@ -9,14 +9,18 @@ ghost use Rattle.kfs_map_chunks.specs.Tables.{table, table_after};
 ghost use Rattle.kfs_image_nodes.specs.Change.{led_to};
 ghost use Rattle.kfs_image_nodes.specs.Indexes.{AreNames, IsCounted, by_node};
 ghost use Rattle.kfs_image_nodes.specs.NameEdits.{names_seen, counts_seen, ways_seen, IsCountedOver, AreEditsOf, AreRowsInOrder};
+ghost use Rattle.std.specs.Ordering.{nat_cmp};
+ghost use Rattle.std.specs.BTreeMap.{IsOrdered};
+ghost use Rattle.kfs_image_nodes.specs.NodeEdits.{edits_from};
+ghost use Rattle.kfs_image_nodes.specs.Overlays.{SayOfNumbers};
 
-use crate::overlay::number_edits;
 use crate::rows::{name_key, target_of};
 use crate::tallies::Tallies;
 use kfs_map_chunks::{Chunks, KeyEdit, Near, Overlay, key_edits, push_above};
 use kfs_map_pages::{NumberEdit, Pages};
-use kfs_types::{Name, NameRow};
+use kfs_types::{GREATEST_NUMBER, Name, NameRow};
 use std::alloc::{AllocError, Allocator};
+use std::collections::BTreeMap;
 
 /// New names, new counts of each directory's names, and new counts of uplinks: how many names of a
 /// directory lead to a node. Each list ascends.
@@ -157,4 +161,36 @@ impl<A: Allocator + Clone> Overlays<A> {
         self.names.set(key, to)?;
         Ok(())
     }
+}
+
+/// The overlay as edits, ascending by number. Numbers that pages don't have are left out.
+pub(crate) fn number_edits<V: Copy, A: Allocator + Clone>(
+    alloc: &A,
+    overlay: &Overlay<u32, V, A>,
+) -> Result<Vec<NumberEdit<V>, A>, AllocError>
+    ensures edits { IfOk result (λ edits. AreEdits edits.items) }
+    ensures said { IfOk result (λ edits. SayOfNumbers edits.items overlay.now.latest) }
+{
+    let mut edits = Vec::with_capacity(alloc.clone()?, overlay.latest.len())?;
+    list_numbers(&overlay.latest, &mut edits)?;
+    Ok(edits)
+}
+
+fn list_numbers<V: Copy, A: Allocator + Clone>(
+    latest: &BTreeMap<u32, Option<V>, A>,
+    edits: &mut Vec<NumberEdit<V>, A>,
+) -> Result<(), AllocError>
+    requires { edits.old.items ≡ [] }
+    ensures edits { OnOk result (edits.new.items ≡ edits_from latest.now.entries) }
+    ensures ordered { IsOrdered nat_cmp latest.now }
+{
+    for (number, now) in latest {
+        if 1 <= *number && *number <= GREATEST_NUMBER {
+            edits.push(NumberEdit {
+                number: *number,
+                value: *now,
+            })?;
+        }
+    }
+    Ok(())
 }

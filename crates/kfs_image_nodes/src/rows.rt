@@ -7,7 +7,7 @@ ghost use Rattle.kfs_model.specs.Table.{get, empty, changed};
 ghost use Rattle.kfs_model.specs.Tree.{entry_count, name_order, target};
 ghost use Rattle.kfs_model.specs.Sight.{holder};
 ghost use Rattle.kfs_map_pages.specs.Edits.{rewritten, AreEdits};
-ghost use Rattle.kfs_map_chunks.specs.Edits as keyed;
+ghost use Rattle.kfs_map_chunks.specs.{Edits as keyed};
 ghost use Rattle.kfs_map_chunks.specs.Starts.{is_from};
 ghost use Rattle.kfs_image_nodes.specs.Change.{led_to, renamed, reheaded};
 ghost use Rattle.kfs_image_nodes.specs.Indexes.{by_node};
@@ -16,7 +16,6 @@ ghost use Rattle.kfs_image_nodes.specs.NodeEdits.{IsNumber};
 ghost use Rattle.kfs_image_nodes.specs.Rows.{heads_in, names_in, CountsAreExact, FitPages};
 ghost use Rattle.kfs_image_nodes.specs.SortedRows.{name_entries};
 
-use crate::borrowed::Borrowed;
 use crate::edits::header_edits;
 use crate::name_edits::{NameEdits, name_edits};
 use crate::sorted_rows::{NameCounts, counts_of, names_of};
@@ -278,5 +277,27 @@ impl<A: Allocator + Clone> NodeTables<A> {
         let headers = header_edits(alloc, nodes)?;
         let edits = name_edits(alloc, &self.names, &self.counts, &self.uplinks, names)?;
         self.change(headers.as_slice(), &edits, then)
+    }
+}
+
+/// A change, by reference.
+#[derive(Drop)]
+pub(crate) struct Borrowed<'a, T> {
+    pub(crate) change: &'a mut T,
+}
+
+impl<'a, T: Change> Change for Borrowed<'a, T> {
+    ghost use Rattle.std.specs.Prelude.{◌≡◌, refl};
+
+    ghost can_make = { λ before. T.can_make before.change.now };
+
+    ghost made = { λ before after. T.made before.change.now after.change.now × (after.change.ghost_name ≡ before.change.ghost_name) };
+
+    ghost kept = { λ before after. T.kept before.change.now after.change.now × (after.change.ghost_name ≡ before.change.ghost_name) };
+
+    ghost not_tried = { λ before. (T.not_tried before.change.now, refl) };
+
+    fn make(&mut self) -> Result<(), AllocError> {
+        self.change.make()
     }
 }

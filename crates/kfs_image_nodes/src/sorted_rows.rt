@@ -10,7 +10,7 @@ ghost use Rattle.kfs_image_nodes.specs.NameEdits.{counts_seen, ways_seen};
 ghost use Rattle.kfs_image_nodes.specs.NodeEdits.{IsNumber};
 ghost use Rattle.kfs_image_nodes.specs.SortedRows.{name_entry, name_entries, CountEntries};
 
-use crate::overlay::number_edits;
+use crate::name_edits::number_edits;
 use crate::rows::name_key;
 use crate::tallies::Tallies;
 use kfs_map_chunks::{ChunkList, Chunks, Key, key_edits};

@@ -14,7 +14,7 @@ use Rattle.kfs_image_nodes.specs.declared.net.Net.{Net}
 use Rattle.kfs_judge.specs.declared.walk.EntryFault.{EntryFault as CodeEntryFault}
 use Rattle.kfs_judge.specs.Walks.{WalkEndsIn, ComesToTree, fault_of}
 use Rattle.kfs_judge.specs.Step.Nets.{IsNetOf}
-use Rattle.kfs_pieces.specs.declared.sizes.FileSize.{FileSize}
+use Rattle.kfs_pieces.specs.declared.log.FileSize.{FileSize}
 use Rattle.kfs_pieces.specs.Sizes.{AreSizesBetween}
 
 stopped : (fault : EntryFault) (ran : Result (Tree ℕ) EntryFault) → shown_run ran ≡ Err fault → ran ≡ Err fault

@@ -16,7 +16,7 @@ use Rattle.kfs_model.specs.Run.{EntryFault, run, over_bytes}
 use Rattle.kfs_image_nodes.specs.declared.net.Net.{Net}
 use Rattle.kfs_judge.specs.declared.walk.EntryFault.{EntryFault as CodeEntryFault}
 use Rattle.kfs_judge.specs.Step.Nets.{IsNetOf}
-use Rattle.kfs_pieces.specs.declared.sizes.FileSize.{FileSize}
+use Rattle.kfs_pieces.specs.declared.log.FileSize.{FileSize}
 use Rattle.kfs_pieces.specs.Sizes.{AreSizesBetween, SizesAscend, IsSize}
 use Rattle.kfs_judge.specs.Check.Checks.{reason_of}
 use Rattle.kfs_judge.specs.declared.draft.draft.Draft.{Draft}

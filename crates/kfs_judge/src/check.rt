@@ -5,7 +5,6 @@ mod climbs;
 mod entry_judge;
 mod reads;
 mod record;
-mod seen;
 mod view;
 
 pub use self::check::{Check, Reason};

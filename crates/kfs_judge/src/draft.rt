@@ -1,8 +1,5 @@
 //! What the entries of a log have changed so far. It is kept apart, over the state that the log began
 //! with. Begin with `draft.rt`.
 mod draft;
-mod header;
-mod parents;
 
-pub use self::draft::Draft;
-pub use self::header::{linked, unlinked};
+pub use self::draft::{Draft, linked, unlinked};

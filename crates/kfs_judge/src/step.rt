@@ -8,7 +8,6 @@ mod log_judge;
 mod net;
 mod regroup;
 mod rename;
-mod sizes;
 mod truncate;
 mod unlink;
 mod write;

@@ -1,8 +1,6 @@
 //! The rows of a table of leases, found by node and client, and their ends in order. Copies share what
 //! isn't changed. Begin with `rows.rt`.
 mod change;
-mod ending;
-mod row_end;
 mod rows;
 mod walk;
 

@@ -12,7 +12,7 @@ use Rattle.std.specs.Map.{lookup, keys_of}
 use Rattle.std.specs.BTreeMap.{BTreeMap, get as get_slot, is_at}
 use Rattle.kfs_model.specs.Table.{Order, Table, get, changed}
 use Rattle.kfs_model.proofs.TableLaws.{same_table, get-changed}
-use Rattle.kfs_map_chunks.specs.declared.edit.KeyEdit.{KeyEdit}
+use Rattle.kfs_map_chunks.specs.declared.entries.KeyEdit.{KeyEdit}
 use Rattle.kfs_map_chunks.specs.Edits.{edited, KeysAscend}
 use Rattle.kfs_map_chunks.specs.Tables.{table_after}
 use Rattle.kfs_map_chunks.specs.Overlays.{said_or, key_edits, overlaid, Say}

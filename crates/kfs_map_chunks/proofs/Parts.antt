@@ -13,7 +13,7 @@ use Rattle.std.specs.List.Sorted.{IsPartitionedBy}
 use Rattle.std.specs.FinMap.Entries.{find, is_sorted, below_all}
 use Rattle.kfs_model.specs.Table.{Order}
 use Rattle.kfs_model.proofs.Tables.{left_part, right_part}
-use Rattle.kfs_map_chunks.specs.declared.edit.KeyEdit.{KeyEdit}
+use Rattle.kfs_map_chunks.specs.declared.entries.KeyEdit.{KeyEdit}
 use Rattle.kfs_map_chunks.specs.Edits.{KeysAscend}
 use Rattle.kfs_map_chunks.specs.Buffer.{Buffer}
 use Rattle.kfs_map_chunks.specs.Joined.{joined, first_chunk_from, Each, IsNotEmpty, AreSized, AreFilled}

@@ -13,7 +13,7 @@ use Rattle.std.specs.Cmp.{Equal-is}
 use Rattle.std.specs.FinMap.Entries.{put, by_order, is_sorted}
 use Rattle.kfs_model.specs.Table.{Order}
 use Rattle.kfs_model.proofs.Tables.{left_part}
-use Rattle.kfs_map_chunks.specs.declared.edit.KeyEdit.{KeyEdit}
+use Rattle.kfs_map_chunks.specs.declared.entries.KeyEdit.{KeyEdit}
 use Rattle.kfs_map_chunks.specs.Edits.{entered, entered_all, KeysAscend}
 use Rattle.kfs_map_chunks.specs.Buffer.{Buffer}
 use Rattle.kfs_map_chunks.specs.Joined.{joined, Each}

@@ -9,7 +9,7 @@ use Rattle.std.specs.Ordering.{is_eq, is_lt, eq_by_cmp, ordering_reverse}
 use Rattle.std.specs.FinMap.Entries.{put, where_key, by_order, is_sorted, below_all}
 use Rattle.kfs_model.specs.Table.{Order}
 use Rattle.kfs_model.proofs.Tables.{left_part, right_part, find_below}
-use Rattle.kfs_map_chunks.specs.declared.edit.KeyEdit.{KeyEdit}
+use Rattle.kfs_map_chunks.specs.declared.entries.KeyEdit.{KeyEdit}
 use Rattle.kfs_map_chunks.specs.Edits.{entered, entered_all, KeysAscend}
 use Rattle.kfs_map_chunks.specs.Joined.{IsSized}
 use Rattle.kfs_map_chunks.specs.Starts.{is_from, first_from, entry_from}

@@ -5,7 +5,7 @@ use Rattle.std.specs.Cmp.{eq_by_cmp_equiv}
 use Rattle.std.specs.FinMap.Entries.{find, find-put, find-where_key, is_sorted, same_entries}
 use Rattle.kfs_model.specs.Table.{Order, Table, get, changed}
 use Rattle.kfs_model.proofs.TableLaws.{get-insert, same_table, get-changed}
-use Rattle.kfs_map_chunks.specs.declared.edit.KeyEdit.{KeyEdit}
+use Rattle.kfs_map_chunks.specs.declared.entries.KeyEdit.{KeyEdit}
 use Rattle.kfs_map_chunks.specs.Edits.{edited, entered, rewritten}
 use Rattle.kfs_map_chunks.specs.Tables.{table, table_after}
 

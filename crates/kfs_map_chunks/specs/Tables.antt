@@ -2,7 +2,7 @@
 -- edits.
 use Rattle.std.specs.Prelude.{List, [], ◌∷◌}
 use Rattle.kfs_model.specs.Table.{Order, Table, empty, insert, changed}
-use Rattle.kfs_map_chunks.specs.declared.edit.KeyEdit.{KeyEdit}
+use Rattle.kfs_map_chunks.specs.declared.entries.KeyEdit.{KeyEdit}
 
 module _ {K V : Type 0} (R : Order K) where
   -- the table of the entries

@@ -1,17 +1,16 @@
 //! A change of a map within its present chunks: memory is taken while the calls go inwards, values are
 //! set while they return.
-ghost use Rattle.std.specs.Prelude.{◌≡◌, ◌++◌, T, All, Ok, None, true, false, OnErr};
+ghost use Rattle.std.specs.Prelude.{◌≡◌, ◌++◌, T, All, Ok, None, true, false, OnErr, ◌≤◌, [], IfOk, OnOk};
 ghost use Rattle.std.specs.FinMap.Entries.{is_sorted, below_all};
 ghost use Rattle.std.specs.declared.ops.Bound.TheVariants.{Included};
 ghost use Rattle.kfs_map_chunks.specs.Edits.{entered_all, KeysAscend};
 ghost use Rattle.kfs_map_chunks.specs.Joined.{joined, were_made, if_made, IsSized, IsNotEmpty, AreSized, AreFilled};
 ghost use Rattle.kfs_map_chunks.specs.Starts.{entry_from};
+ghost use Rattle.std.proofs.Common.{rules};
 
-use crate::edit::KeyEdit;
-use crate::entries::Entries;
-use crate::key::Key;
-use crate::part::Part;
-use crate::place::{place, place_part, run_of, run_of_part};
+use crate::chunks::Chunks;
+use crate::entries::{Entries, Key, KeyEdit};
+use crate::part::{MOST_CHUNKS, Part, place, place_part, run_of, run_of_part};
 use kfs_types::Change;
 use std::alloc::{AllocError, Allocator};
 use std::ops::Bound;
@@ -162,4 +161,213 @@ fn change_from<K: Key, V: Copy, A: Allocator + Clone, C: Change>(
         chunk.write(mine);
     }
     done
+}
+
+/// Edits of a map in chunks, and the change to be made together with them.
+#[derive(Drop)]
+pub struct EditChunks<'a, K: Key, V: Copy, A: Allocator, T> {
+    /// The map that is changed.
+    pub chunks: &'a mut Chunks<K, V, A>,
+    /// Its edits, ascending by key.
+    pub edits: &'a [KeyEdit<K, V>],
+    /// The change made with them.
+    pub then: T,
+}
+
+impl<'a, K: Key, V: Copy, A: Allocator + Clone, T: Change> Change for EditChunks<'a, K, V, A, T> {
+    ghost use Rattle.kfs_types.specs.Nested.{Becomes};
+    ghost use Rattle.kfs_map_chunks.specs.Edits.{rewritten, KeysAscend};
+
+    ghost can_make = { λ before. KeysAscend K.order.compare before.edits.now × T.can_make before.then };
+
+    ghost made = { λ before after. Becomes before.chunks after.chunks (rewritten K.order before.chunks.now before.edits.now) × T.made before.then after.then };
+
+    ghost kept = { λ before after. Becomes before.chunks after.chunks before.chunks.now × T.kept before.then after.then };
+
+    ghost not_tried = { λ before. Prim.search rules };
+
+    fn make(&mut self) -> Result<(), AllocError> {
+        self.chunks.change_then(self.edits, &mut self.then)
+    }
+}
+
+/// The chunks after the edits. Chunks without edits are shared; the others are cut anew.
+pub(crate) fn rebuilt<K: Key, V: Copy, A: Allocator + Clone>(
+    chunks: &Vec<Arc<Entries<K, V, A>, A>, A>,
+    edits: &[KeyEdit<K, V>],
+) -> Result<Vec<Arc<Entries<K, V, A>, A>, A>, AllocError>
+    requires ascend { KeysAscend K.cmp edits.now }
+    requires sorted { T (is_sorted K.cmp (joined chunks.now.items)) }
+    requires sized { AreSized chunks.now.items }
+    ensures joined { IfOk result (λ new. joined new.items ≡ entered_all K.cmp (joined chunks.now.items) edits.now) }
+    ensures sized { IfOk result (λ new. AreSized new.items) }
+{
+    let mut new = Vec::with_capacity(chunks.allocator().clone()?, chunks.len())?;
+    let mut left = chunks.as_slice();
+    let mut later = edits;
+    while let Some((chunk, rest)) = left.split_first() {
+        let (mine, others) = later.split_at(run_of(later, chunk, rest));
+        push(&mut new, chunk, mine)?;
+        left = rest;
+        later = others;
+    }
+    let last = Entries::new(chunks.allocator().clone()?).merged(later)?;
+    append(&mut new, last)?;
+    Ok(new)
+}
+
+/// The chunks that the edits make of a map without entries.
+pub(crate) fn fresh<K: Key, V: Copy, A: Allocator + Clone>(
+    alloc: &A,
+    edits: &[KeyEdit<K, V>],
+) -> Result<Vec<Arc<Entries<K, V, A>, A>, A>, AllocError>
+    requires { KeysAscend K.cmp edits.now }
+    ensures joined { IfOk result (λ new. joined new.items ≡ entered_all K.cmp [] edits.now) }
+    ensures sized { IfOk result (λ new. AreSized new.items) }
+{
+    let mut new = Vec::new(alloc.clone()?);
+    append(&mut new, Entries::new(alloc.clone()?).merged(edits)?)?;
+    Ok(new)
+}
+
+/// Appends the chunk after its edits; where there are none, the same chunk.
+fn push<K: Key, V: Copy, A: Allocator + Clone>(
+    new: &mut Vec<Arc<Entries<K, V, A>, A>, A>,
+    chunk: &Arc<Entries<K, V, A>, A>,
+    edits: &[KeyEdit<K, V>],
+) -> Result<(), AllocError>
+    requires ascend { KeysAscend K.cmp edits.now }
+    requires sized { AreSized new.old.items }
+    requires size { IsSized chunk.now.value.pairs }
+    ensures joined { OnOk result (joined new.new.items ≡ joined new.old.items ++ entered_all K.cmp chunk.now.value.pairs edits.now) }
+    ensures sized { OnOk result (AreSized new.new.items) }
+{
+    if edits.is_empty() {
+        new.push(chunk.clone()?)?;
+        return Ok(());
+    }
+    append(new, chunk.merged(edits)?)
+}
+
+/// Appends the entries: as a chunk if they fit in one and don't take twice the memory they need, else
+/// cut into chunks.
+fn append<K: Key, V: Copy, A: Allocator + Clone>(
+    new: &mut Vec<Arc<Entries<K, V, A>, A>, A>,
+    entries: Entries<K, V, A>,
+) -> Result<(), AllocError>
+    requires sized { AreSized new.old.items }
+    ensures joined { OnOk result (joined new.new.items ≡ joined new.old.items ++ entries.pairs) }
+    ensures sized { OnOk result (AreSized new.new.items) }
+{
+    let len = entries.len();
+    if len == 0 || len > K::most_entries() || entries.room() > len {
+        return cut(new, &entries);
+    }
+    let chunk = Arc::new(new.allocator().clone()?, entries)?;
+    new.push(chunk)?;
+    Ok(())
+}
+
+/// Appends the entries, cut into chunks of one size; only the last may be smaller.
+fn cut<K: Key, V: Copy, A: Allocator + Clone>(
+    new: &mut Vec<Arc<Entries<K, V, A>, A>, A>,
+    entries: &Entries<K, V, A>,
+) -> Result<(), AllocError>
+    requires sized { AreSized new.old.items }
+    ensures joined { OnOk result (joined new.new.items ≡ joined new.old.items ++ entries.now.pairs) }
+    ensures sized { OnOk result (AreSized new.new.items) }
+{
+    let size = size_for(entries.len(), K::most_entries());
+    let mut from = 0;
+    while from < entries.len() {
+        let count = size.min(entries.len() - from);
+        let chunk = entries.part(from, count)?;
+        new.push(Arc::new(new.allocator().clone()?, chunk)?)?;
+        from += count;
+    }
+    Ok(())
+}
+
+/// How many entries each new chunk gets, where a chunk takes `most`: all if they fit in one, half if
+/// two chunks suffice, else three quarters of `most`, so that each can grow.
+pub(crate) fn size_for(len: usize, most: usize) -> usize
+    requires fits_two { 2 ≤ most }
+    requires most { most ≤ 256 }
+    ensures least { 1 ≤ result }
+    ensures most { result ≤ most }
+{
+    if len <= most {
+        most
+    } else if len <= 2 * most {
+        len - len / 2
+    } else {
+        most - most / 4
+    }
+}
+
+/// The parts after the edits. Parts without edits are shared; the others are cut anew.
+pub(crate) fn rebuilt_parts<K: Key, V: Copy, A: Allocator + Clone>(
+    parts: &Vec<Arc<Part<K, V, A>, A>, A>,
+    edits: &[KeyEdit<K, V>],
+) -> Result<Vec<Arc<Part<K, V, A>, A>, A>, AllocError>
+    requires ascend { KeysAscend K.cmp edits.now }
+    requires sorted { T (is_sorted K.cmp (joined parts.now.items)) }
+    requires filled { AreFilled parts.now.items }
+    ensures joined { IfOk result (λ new. joined new.items ≡ entered_all K.cmp (joined parts.now.items) edits.now) }
+    ensures filled { IfOk result (λ new. AreFilled new.items) }
+{
+    let mut new = Vec::with_capacity(parts.allocator().clone()?, parts.len())?;
+    let mut left = parts.as_slice();
+    let mut later = edits;
+    while let Some((part, rest)) = left.split_first() {
+        let (mine, others) = later.split_at(run_of_part(later, part, rest));
+        push_part(&mut new, part, mine)?;
+        left = rest;
+        later = others;
+    }
+    let last = fresh(parts.allocator(), later)?;
+    cut_parts(&mut new, &last)?;
+    Ok(new)
+}
+
+/// Appends the part after its edits; where there are none, the same part.
+fn push_part<K: Key, V: Copy, A: Allocator + Clone>(
+    new: &mut Vec<Arc<Part<K, V, A>, A>, A>,
+    part: &Arc<Part<K, V, A>, A>,
+    edits: &[KeyEdit<K, V>],
+) -> Result<(), AllocError>
+    requires ascend { KeysAscend K.cmp edits.now }
+    requires sorted { T (is_sorted K.cmp part.now.value.pairs) }
+    requires filled { AreFilled new.old.items }
+    requires part { IsNotEmpty part.now.value.pairs }
+    ensures joined { OnOk result (joined new.new.items ≡ joined new.old.items ++ entered_all K.cmp part.now.value.pairs edits.now) }
+    ensures filled { OnOk result (AreFilled new.new.items) }
+{
+    if edits.is_empty() {
+        new.push(part.clone()?)?;
+        return Ok(());
+    }
+    cut_parts(new, &part.rebuilt(edits)?)
+}
+
+/// Appends the chunks, cut into parts of one size; only the last may be smaller.
+pub(crate) fn cut_parts<K: Key, V: Copy, A: Allocator + Clone>(
+    new: &mut Vec<Arc<Part<K, V, A>, A>, A>,
+    chunks: &[Arc<Entries<K, V, A>, A>],
+) -> Result<(), AllocError>
+    requires sorted { T (is_sorted K.cmp (joined chunks.now)) }
+    requires sized { AreSized chunks.now }
+    requires filled { AreFilled new.old.items }
+    ensures joined { OnOk result (joined new.new.items ≡ joined new.old.items ++ joined chunks.now) }
+    ensures filled { OnOk result (AreFilled new.new.items) }
+{
+    let size = size_for(chunks.len(), MOST_CHUNKS);
+    let mut left = chunks;
+    while !left.is_empty() {
+        let (mine, rest) = left.split_at(size.min(left.len()));
+        let part = Part::of(new.allocator().clone()?, mine)?;
+        new.push(Arc::new(new.allocator().clone()?, part)?)?;
+        left = rest;
+    }
+    Ok(())
 }

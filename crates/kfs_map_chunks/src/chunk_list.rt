@@ -4,8 +4,7 @@ ghost use Rattle.std.specs.FinMap.Entries.{is_sorted};
 ghost use Rattle.kfs_map_chunks.specs.Joined.{IsSized};
 
 use crate::chunks::Chunks;
-use crate::entries::Entries;
-use crate::key::Key;
+use crate::entries::{Entries, Key};
 use std::alloc::{AllocError, Allocator};
 use std::marker::Model;
 use std::sync::Arc;

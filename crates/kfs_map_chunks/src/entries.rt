@@ -1,16 +1,16 @@
 //! The entries of a chunk: keys with their values in one block of memory, the keys ascending.
-ghost use Rattle.std.specs.Prelude.{◌≡◌, ◌<◌, ◌≤◌, ◌+◌, [], T, true, is_some, IfSome, IfNone, IfOk, OnOk, length, take, drop, Some, None, Ok, Err, if◌then◌else◌};
+ghost use Rattle.std.specs.Prelude.{◌≡◌, ◌<◌, ◌≤◌, ◌+◌, [], T, true, is_some, IfSome, IfNone, IfOk, OnOk, length, take, drop, Some, None, Ok, Err, if◌then◌else◌, refl, ◌↔◌, ◌++◌, ◌∷◌, OnErr, IsTrue, IsFalse, All};
 ghost use Rattle.std.specs.Option.{option_copied};
 ghost use Rattle.std.specs.FinMap.Entries.{find, is_sorted};
 ghost use Rattle.std.specs.Range.Bound.{bound_map};
 ghost use Rattle.std.specs.declared.cmp.Ordering.TheVariants.{Less};
 ghost use Rattle.std.specs.declared.ops.Bound.TheVariants.{Included};
-ghost use Rattle.kfs_map_chunks.specs.Edits.{entered, entered_all, KeysAscend};
+ghost use Rattle.kfs_map_chunks.specs.Edits.{entered, entered_all, KeysAscend, IsPassed};
 ghost use Rattle.kfs_map_chunks.specs.Starts.{is_from, first_from, entry_from, reaches};
+ghost use Rattle.kfs_model.specs.Table.{Order, pairs, numbers};
+ghost use Rattle.kfs_model.specs.Tree.{name_order};
 
-use crate::edit::KeyEdit;
-use crate::key::Key;
-use crate::merge::merged;
+use kfs_types::Name;
 use std::alloc::{AllocError, Allocator};
 use std::marker::Model;
 use std::ops::Bound;
@@ -266,5 +266,137 @@ fn is_from<K: Ord>(start: &Bound<&K>, key: &K) -> bool
         Bound::Included(first) => !key.cmp(first).is_lt(),
         Bound::Excluded(last) => key.cmp(last).is_gt(),
         Bound::Unbounded => true,
+    }
+}
+
+/// A key of a map in chunks. Keys are ordered, only equal keys compare as equal, and a key takes no
+/// memory of its own: chunks are copied as they lie in memory.
+pub trait Key: Ord + Copy {
+    /// The order of the keys.
+    ghost order: { Order Self };
+
+    /// How many entries with such keys a chunk may have. A new entry moves those behind it in its chunk.
+    /// So a chunk of long keys has fewer.
+    fn most_entries() -> usize
+        ensures least { 2 ≤ result }
+        ensures most { result ≤ 256 };
+
+    /// The order is that of `cmp`.
+    ghost compared: { Self.cmp ≡ order.compare };
+}
+
+impl Key for (u32, u32) {
+    ghost order = { pairs numbers numbers };
+
+    ghost compared = { refl };
+
+    fn most_entries() -> usize {
+        256
+    }
+}
+
+impl Key for (u32, Name) {
+    ghost order = { name_order };
+
+    ghost compared = { refl };
+
+    fn most_entries() -> usize {
+        32
+    }
+}
+
+/// The new value of a key, or none where it is to have none.
+#[derive(Drop)]
+pub struct KeyEdit<K: Key, V: Copy> {
+    /// The key.
+    pub key: K,
+    /// The new value, or none.
+    pub value: Option<V>,
+}
+
+/// Adds an edit behind the others, where its key is above theirs, and answers whether it is. Condition:
+/// the keys of the others ascend. `Err` where memory is refused; the edits are as before then.
+pub fn push_above<K: Key, V: Copy, A: Allocator>(
+    edits: &mut Vec<KeyEdit<K, V>, A>,
+    key: K,
+    value: Option<V>,
+) -> Result<bool, AllocError>
+    requires { KeysAscend K.cmp edits.old.items }
+    ensures ascend { KeysAscend K.cmp edits.new.items }
+    ensures above { IfOk result (λ above. IsTrue above ↔ All (λ e. K.cmp e.key key ≡ Less) edits.old.items) }
+    ensures added { IfOk result (λ above. IsTrue above → edits.new.items ≡ edits.old.items ++ record { key = key; value = value } ∷ []) }
+    ensures others { IfOk result (λ above. IsFalse above → edits.new.items ≡ edits.old.items) }
+    ensures err { OnErr result (edits.new.items ≡ edits.old.items) }
+{
+    if !is_above(edits, &key) {
+        return Ok(false);
+    }
+    edits.push(KeyEdit { key, value })?;
+    Ok(true)
+}
+
+/// Whether the key is above those of the edits.
+fn is_above<K: Key, V: Copy>(edits: &[KeyEdit<K, V>], key: &K) -> bool
+    requires { KeysAscend K.cmp edits.now }
+    ensures { IsTrue result ↔ All (λ e. K.cmp e.key key.now ≡ Less) edits.now }
+{
+    match edits.last() {
+        Some(last) => last.key.cmp(key).is_lt(),
+        None => true,
+    }
+}
+
+/// The entries after the edits.
+pub(crate) fn merged<K: Key, V: Copy, A: Allocator>(
+    alloc: A,
+    entries: &[(K, V)],
+    edits: &[KeyEdit<K, V>],
+) -> Result<Vec<(K, V), A>, AllocError>
+    requires sorted { T (is_sorted K.cmp entries.now) }
+    requires ascend { KeysAscend K.cmp edits.now }
+    ensures { IfOk result (λ merged. merged.items ≡ entered_all K.cmp entries.now edits.now) }
+{
+    let room = entries.len().saturating_add(edits.len());
+    let mut merged = Vec::with_capacity(alloc, room)?;
+    let mut left = entries;
+    for edit in edits {
+        left = enter(&mut merged, left, edit)?;
+    }
+    merged.extend_from_slice(left)?;
+    Ok(merged)
+}
+
+/// Copies the entries below the edit's key, and then the edit's entry, if it has a value. Answers the
+/// entries that are left.
+fn enter<'a, K: Key, V: Copy, A: Allocator>(
+    merged: &mut Vec<(K, V), A>,
+    left: &'a [(K, V)],
+    edit: &KeyEdit<K, V>,
+) -> Result<&'a [(K, V)], AllocError>
+    requires { T (is_sorted K.cmp left.now) }
+    ensures sorted { IfOk result (λ rest. T (is_sorted K.cmp rest.now)) }
+    ensures passed { IfOk result (λ rest. IsPassed K.cmp edit.now merged.old.items left.now merged.new.items rest.now) }
+{
+    let (below, from) = left.split_at(first_from(left, Bound::Included(&edit.key)));
+    merged.extend_from_slice(below)?;
+    if let Some(value) = edit.value {
+        merged.push((edit.key, value))?;
+    }
+    Ok(behind(from, &edit.key))
+}
+
+/// The entries without the first one, if that has the key.
+fn behind<'a, K: Key, V: Copy>(entries: &'a [(K, V)], key: &K) -> &'a [(K, V)]
+    requires sorted { T (is_sorted K.cmp entries.now) }
+    requires from { first_from K.cmp (Included key.now) entries.now ≡ 0 }
+    ensures { result.now ≡ entered K.cmp entries.now key.now None }
+{
+    let Some((first, rest)) = entries.split_first() else {
+        return entries;
+    };
+    if first.0.cmp(key).is_eq() {
+        rest
+    } else {
+        entries
     }
 }

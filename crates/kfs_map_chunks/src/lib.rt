@@ -9,21 +9,13 @@
 mod change;
 mod chunk_list;
 mod chunks;
-mod edit;
 mod entries;
-mod key;
-mod merge;
-mod nested;
 mod overlay;
 mod part;
-mod place;
-mod rebuilt;
-mod rebuilt_parts;
 
+pub use change::EditChunks;
 pub use chunk_list::ChunkList;
 pub use chunks::Chunks;
-pub use edit::{KeyEdit, push_above};
-pub use key::Key;
-pub use nested::EditChunks;
+pub use entries::{Key, KeyEdit, push_above};
 pub use overlay::{Overlay, key_edits};
-pub use place::Near;
+pub use part::Near;

@@ -5,8 +5,7 @@ ghost use Rattle.std.specs.BTreeMap.{get, IsOrdered};
 ghost use Rattle.kfs_map_chunks.specs.Edits.{KeysAscend};
 ghost use Rattle.kfs_map_chunks.specs.Overlays.{said_or, key_edits, Say};
 
-use crate::edit::KeyEdit;
-use crate::key::Key;
+use crate::entries::{Key, KeyEdit};
 use std::alloc::{AllocError, Allocator};
 use std::collections::BTreeMap;
 

@@ -4,7 +4,7 @@ use Rattle.std.proofs.lemmas.List.{append_assoc, length-append, length-replicate
 use Rattle.std.specs.declared.sync.Arc.{Arc}
 use Rattle.std.specs.List.{AllZip}
 use Rattle.std.specs.Option.{is_some}
-use Rattle.kfs_map_pages.specs.declared.group.Group.{Group}
+use Rattle.kfs_map_pages.specs.declared.page.Group.{Group}
 use Rattle.kfs_map_pages.specs.Values.{Sheet}
 use Rattle.kfs_map_pages.specs.Groups.{held, all_held, no_pages, page_in, pages_of, flat, GroupsAreWhole}
 

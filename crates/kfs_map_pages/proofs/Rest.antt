@@ -2,8 +2,8 @@
 use Rattle.std.proofs.Common.{◌≡◌, ◌≤◌, ℕ, ◌+◌, ◌*◌, All, List, ◌++◌, length, Option, sym, ap, subst, ◌∙◌, arith}
 use Rattle.std.proofs.lemmas.List.{append_assoc}
 use Rattle.std.specs.declared.sync.Arc.{Arc}
-use Rattle.kfs_map_pages.specs.declared.edit.NumberEdit.{NumberEdit}
-use Rattle.kfs_map_pages.specs.declared.group.Group.{Group}
+use Rattle.kfs_map_pages.specs.declared.change.NumberEdit.{NumberEdit}
+use Rattle.kfs_map_pages.specs.declared.page.Group.{Group}
 use Rattle.kfs_map_pages.specs.Values.{Sheet}
 use Rattle.kfs_map_pages.specs.Edits.{page_of}
 use Rattle.kfs_map_pages.specs.Groups.{all_held, flat, GroupsAreWhole}

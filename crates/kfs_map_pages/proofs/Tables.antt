@@ -7,7 +7,7 @@ use Rattle.std.specs.Cmp.{unsigned_tied}
 use Rattle.std.specs.Option.{is_some}
 use Rattle.kfs_model.specs.Table.{Table, numbers, get, empty, option_or, changed}
 use Rattle.kfs_model.proofs.TableLaws.{get-united, get-retain, same_table, get-changed}
-use Rattle.kfs_map_pages.specs.declared.edit.NumberEdit.{NumberEdit}
+use Rattle.kfs_map_pages.specs.declared.change.NumberEdit.{NumberEdit}
 use Rattle.kfs_map_pages.specs.Values.{Sheet, IsNextNumber}
 use Rattle.kfs_map_pages.specs.Edits.{page_of, rewritten, edited}
 use Rattle.kfs_map_pages.specs.Shown.{part, slot_shows, shown, Edited, HasIndex, AreIndexedFrom, page_table, table_from}

@@ -1,13 +1,13 @@
 //! A change of pages together with another change: memory is taken while the calls go inwards, values
 //! are set while they return. Many edits are made a few at a time, in groups that the caller can drop.
-ghost use Rattle.std.specs.Prelude.{◌≡◌, ℕ, ◌+◌, ◌*◌, ◌≤◌, ◌<◌, ◌++◌, [], ◌∷◌, All, IsSome, OnOk, OnErr, length};
-ghost use Rattle.kfs_map_pages.specs.Edits.{edited, Ascends, EditsAreWithin, IsOfPage};
+ghost use Rattle.std.specs.Prelude.{◌≡◌, ℕ, ◌+◌, ◌*◌, ◌≤◌, ◌<◌, ◌++◌, [], ◌∷◌, All, IsSome, OnOk, OnErr, length, take, drop};
+ghost use Rattle.kfs_map_pages.specs.Edits.{edited, Ascends, EditsAreWithin, IsOfPage, page_of};
 ghost use Rattle.kfs_map_pages.specs.Groups.{held, all_held, pages_of, laid_out, GroupsAreWhole};
 ghost use Rattle.kfs_map_pages.specs.Shown.{slot_shows, HasIndex, AreIndexedFrom, Edited};
+ghost use Rattle.std.proofs.Common.{rules};
 
-use crate::edit::{NumberEdit, page_of, run_of};
-use crate::group::{GROUP_LEN, Group};
-use crate::page::Page;
+use crate::page::{GROUP_LEN, Group, Page};
+use crate::pages::Pages;
 use kfs_types::{Change, Nothing};
 use std::alloc::{AllocError, Allocator};
 use std::sync::Arc;
@@ -232,4 +232,67 @@ fn change_from<V: Copy, A: Allocator + Clone, T: Change>(
         page.write(mine);
     }
     done
+}
+
+/// The new value of a number, or none where it is to have none.
+#[derive(Clone, Copy, Debug)]
+pub struct NumberEdit<V: Copy> {
+    /// 1 to 65,536.
+    pub number: u32,
+    /// The new value, or none.
+    pub value: Option<V>,
+}
+
+/// The index of the page to which a number from 1 on belongs.
+pub(crate) fn page_of(number: u32) -> u32
+    ensures { result ≡ page_of number }
+{
+    number.saturating_sub(1) / 64
+}
+
+/// How many edits at the front of the list belong to this page.
+pub(crate) fn run_of<V: Copy>(edits: &[NumberEdit<V>], index: u32) -> usize
+    requires ascends { Ascends edits.now }
+    requires from { All (λ e. index ≤ page_of e.number) edits.now }
+    ensures within { result ≤ length edits.now }
+    ensures run { All (λ e. page_of e.number ≡ index) (take result edits.now) }
+    ensures rest { All (λ e. index + 1 ≤ page_of e.number) (drop result edits.now) }
+    ensures ascends { Ascends (drop result edits.now) }
+{
+    let mut run = 0;
+    for edit in edits {
+        if page_of(edit.number) != index {
+            break;
+        }
+        run += 1;
+    }
+    run
+}
+
+/// Edits of a map in pages, and the change to be made together with them.
+#[derive(Drop)]
+pub struct EditPages<'a, V: Copy, A: Allocator, T> {
+    /// The map that is changed.
+    pub pages: &'a mut Pages<V, A>,
+    /// Its edits, ascending by number.
+    pub edits: &'a [NumberEdit<V>],
+    /// The change made with them.
+    pub then: T,
+}
+
+impl<'a, V: Copy, A: Allocator + Clone, T: Change> Change for EditPages<'a, V, A, T> {
+    ghost use Rattle.kfs_map_pages.specs.Edits.{rewritten, AreEdits};
+    ghost use Rattle.kfs_types.specs.Nested.{Becomes};
+
+    ghost can_make = { λ before. AreEdits before.edits.now × T.can_make before.then };
+
+    ghost made = { λ before after. Becomes before.pages after.pages (rewritten before.pages.now before.edits.now) × T.made before.then after.then };
+
+    ghost kept = { λ before after. Becomes before.pages after.pages before.pages.now × T.kept before.then after.then };
+
+    ghost not_tried = { λ before. Prim.search rules };
+
+    fn make(&mut self) -> Result<(), AllocError> {
+        self.pages.change_then(self.edits, &mut self.then)
+    }
 }

@@ -6,10 +6,8 @@ ghost use Rattle.kfs_map_pages.specs.Values.{IsNextNumber};
 ghost use Rattle.kfs_map_pages.specs.Edits.{rewritten, AreEdits};
 ghost use Rattle.kfs_map_pages.specs.Shown.{part};
 
-use crate::change::{MOST_TOGETHER, change_each, change_groups};
-use crate::edit::{NumberEdit, page_of};
-use crate::group::{GROUP_LEN, Group, nothing, page_at};
-use crate::page::Page;
+use crate::change::{MOST_TOGETHER, NumberEdit, change_each, change_groups, page_of};
+use crate::page::{GROUP_LEN, Group, Page, nothing, page_at};
 use kfs_types::Change;
 use std::alloc::{AllocError, Allocator};
 use std::marker::Model;

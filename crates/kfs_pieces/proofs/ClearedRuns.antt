@@ -20,7 +20,7 @@ use Rattle.kfs_model.proofs.Tables.{any_from_found, found_from_any}
 use Rattle.kfs_model.proofs.Tape.{below_or_not}
 use Rattle.kfs_pieces.proofs.TouchedBlocks.{Classes, behind_part_classes, stops_at, zero_before, zero_in}
 use Rattle.kfs_pieces.specs.BlockLists.{blocks_between, cleared_from, cleared_runs, is_in_range, whole_until, zeros_start}
-use Rattle.kfs_pieces.specs.declared.block_lists.BlockRange.{BlockRange}
+use Rattle.kfs_pieces.specs.declared.blocks.BlockRange.{BlockRange}
 use Rattle.kfs_pieces.proofs.WrittenLists.{blocks_by_number}
 
 -- ---- lists of marks

@@ -4,8 +4,8 @@ use Rattle.std.proofs.lemmas.Bool.Decides.{nat_tests}
 use Rattle.std.proofs.lemmas.List.Sums.{count_by-le-length, sum_by-append, sum_by-cons}
 use Rattle.std.proofs.Math.ListN.{take-append-drop}
 use Rattle.kfs_model.specs.Plan.{ComesBy}
-use Rattle.kfs_pieces.specs.declared.byte_range.ByteRange.{ByteRange}
-use Rattle.kfs_pieces.specs.declared.sizes.FileSize.{FileSize}
+use Rattle.kfs_pieces.specs.declared.merge.ByteRange.{ByteRange}
+use Rattle.kfs_pieces.specs.declared.log.FileSize.{FileSize}
 use Rattle.kfs_pieces.specs.ByteRanges.{AreFrom, ends_by, begins_before, cut_below, cut_from, merged}
 use Rattle.kfs_pieces.specs.Made.{Reach, made, pieces_made, put_before, range_of}
 use Rattle.kfs_pieces.specs.RangeCounts.{edge_count, filled_count, grown_count}

@@ -20,7 +20,7 @@ use Rattle.kfs_pieces.proofs.NeedCounted.{need_is_counted}
 use Rattle.kfs_model.proofs.Tables.{find_below, left_part, right_part}
 use Rattle.kfs_types.specs.Views.{piece_of}
 use Rattle.kfs_types.specs.declared.plan.Piece.{Piece as CodePiece}
-use Rattle.kfs_pieces.specs.declared.sizes.FileSize.{FileSize}
+use Rattle.kfs_pieces.specs.declared.log.FileSize.{FileSize}
 use Rattle.kfs_pieces.specs.Parts.{AreByNumber, front_len}
 use Rattle.kfs_pieces.specs.Sizes.{length_after}
 

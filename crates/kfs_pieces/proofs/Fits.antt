@@ -3,9 +3,9 @@ use Rattle.std.proofs.Common.{◌≡◌, ℕ, ◌<◌, ◌≤◌, Bool, true, fa
 use Rattle.std.specs.List.{AllByRecursion}
 use Rattle.std.proofs.lemmas.Bool.Decides.{nat_tests}
 use Rattle.kfs_model.proofs.WrittenBlocks.{all_append}
-use Rattle.kfs_pieces.specs.declared.byte_range.Origin.{Origin}
-use Rattle.kfs_pieces.specs.declared.byte_range.Origin.TheVariants.{Zero, Payload}
-use Rattle.kfs_pieces.specs.declared.byte_range.ByteRange.{ByteRange}
+use Rattle.kfs_pieces.specs.declared.merge.Origin.{Origin}
+use Rattle.kfs_pieces.specs.declared.merge.Origin.TheVariants.{Zero, Payload}
+use Rattle.kfs_pieces.specs.declared.merge.ByteRange.{ByteRange}
 use Rattle.kfs_pieces.specs.ByteRanges.{AreFrom, ends_by, begins_before, cut_below, cut_from, merged}
 use Rattle.kfs_pieces.specs.Made.{IsPlacedAt, IsFit}
 

@@ -7,7 +7,7 @@ use Rattle.kfs_model.specs.PlanRow.{Piece}
 use Rattle.kfs_pieces.specs.PiecesApart.{begins_alike, behind_piece, first_apart, without_front}
 use Rattle.kfs_types.specs.declared.plan.Piece.{Piece as CodePiece}
 use Rattle.kfs_types.specs.Views.{piece_of}
-use Rattle.kfs_pieces.specs.declared.rest.Rest.{Rest}
+use Rattle.kfs_pieces.specs.declared.compare.Rest.{Rest}
 use Rattle.kfs_pieces.specs.Rests.{rest_of}
 use Rattle.kfs_pieces.proofs.Rests.{rest_some, rest_none}
 

@@ -3,8 +3,8 @@ use Rattle.std.proofs.Common.{◌≡◌, ℕ, cond, List, [], ◌∷◌, ◌++�
 use Rattle.std.proofs.lemmas.List.{take_all}
 use Rattle.std.proofs.Math.ListN.{take-append-drop}
 use Rattle.kfs_model.specs.Table.{option_or}
-use Rattle.kfs_pieces.specs.declared.byte_range.Origin.{Origin}
-use Rattle.kfs_pieces.specs.declared.byte_range.ByteRange.{ByteRange}
+use Rattle.kfs_pieces.specs.declared.merge.Origin.{Origin}
+use Rattle.kfs_pieces.specs.declared.merge.ByteRange.{ByteRange}
 use Rattle.kfs_pieces.specs.ByteRanges.{has_byte, origin_at, last_origin, AreFrom, merged}
 use Rattle.kfs_pieces.proofs.Merging.{merged_from, merged_says}
 

@@ -12,7 +12,7 @@ use Rattle.kfs_model.specs.Sight.{ClientSight, sight}
 use Rattle.kfs_model.specs.Table.{option_or}
 use Rattle.kfs_model.specs.Tree.{Tree}
 use Rattle.kfs_model.proofs.Cut.{changed_mark, changed_mark-said}
-use Rattle.kfs_pieces.specs.declared.sizes.FileSize.{FileSize}
+use Rattle.kfs_pieces.specs.declared.log.FileSize.{FileSize}
 use Rattle.kfs_pieces.specs.Sizes.{AreSizes, length_after, reaches_file}
 use Rattle.kfs_pieces.proofs.ChangedMarks.{changed_mark_is, growth_mark}
 

@@ -11,9 +11,9 @@ use Rattle.kfs_types.specs.Views.{entry_of, span_bytes, IsWithin}
 use Rattle.kfs_types.specs.declared.entry.Span.{Span}
 use Rattle.kfs_types.specs.declared.entry.Entry.{Entry as CodeEntry}
 use Rattle.kfs_types.specs.declared.entry.Entry.TheVariants as entries
-use Rattle.kfs_pieces.specs.declared.sizes.FileSize.{FileSize}
-use Rattle.kfs_pieces.specs.declared.byte_range.Origin.TheVariants.{Zero, Payload}
-use Rattle.kfs_pieces.specs.declared.byte_range.ByteRange.{ByteRange}
+use Rattle.kfs_pieces.specs.declared.log.FileSize.{FileSize}
+use Rattle.kfs_pieces.specs.declared.merge.Origin.TheVariants.{Zero, Payload}
+use Rattle.kfs_pieces.specs.declared.merge.ByteRange.{ByteRange}
 use Rattle.kfs_pieces.specs.Made.{AreMade, grown, made, reach_of}
 use Rattle.kfs_pieces.specs.Sizes.{AreSizes, growths, length_after, reach_in, reaches_file}
 

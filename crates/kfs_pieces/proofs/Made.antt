@@ -15,9 +15,9 @@ use Rattle.kfs_model.specs.PlanCut.{mark_in_pieces, AreInOrder}
 use Rattle.kfs_model.specs.LastCover.{file_size, covered_by, last_cover}
 use Rattle.kfs_model.proofs.Cut.{changed_mark, pieces_from_said}
 use Rattle.kfs_pieces.proofs.ChangedMarks.{growth_mark, changed_mark_is}
-use Rattle.kfs_pieces.specs.declared.byte_range.Origin.{Origin}
-use Rattle.kfs_pieces.specs.declared.byte_range.Origin.TheVariants.{Zero, Payload}
-use Rattle.kfs_pieces.specs.declared.byte_range.ByteRange.{ByteRange}
+use Rattle.kfs_pieces.specs.declared.merge.Origin.{Origin}
+use Rattle.kfs_pieces.specs.declared.merge.Origin.TheVariants.{Zero, Payload}
+use Rattle.kfs_pieces.specs.declared.merge.ByteRange.{ByteRange}
 use Rattle.kfs_types.specs.Views.{piece_of}
 use Rattle.kfs_types.specs.declared.plan.Piece.{Piece as CodePiece}
 use Rattle.kfs_pieces.specs.Parts.{AreByNumber}

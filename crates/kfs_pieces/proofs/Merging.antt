@@ -4,7 +4,7 @@ use Rattle.std.proofs.lemmas.Bool.Decides.{nat_tests}
 use Rattle.kfs_model.specs.Table.{option_or}
 use Rattle.kfs_model.specs.Plan.{ComesBy}
 use Rattle.kfs_pieces.proofs.PiecesFollowed.{comes_then, before_then, either_side, not_yet, no_more}
-use Rattle.kfs_pieces.specs.declared.byte_range.ByteRange.{ByteRange}
+use Rattle.kfs_pieces.specs.declared.merge.ByteRange.{ByteRange}
 use Rattle.kfs_pieces.specs.ByteRanges.{has_byte, origin_at, AreFrom, ends_by, begins_before, cut_below, cut_from, merged}
 
 -- ---- over plain numbers

@@ -1,6 +1,6 @@
 -- What is left of a list, by its first item.
 use Rattle.std.proofs.Common.{◌≡◌, List, [], ◌∷◌, drop, Some, None, ap}
-use Rattle.kfs_pieces.specs.declared.rest.Rest.{Rest}
+use Rattle.kfs_pieces.specs.declared.compare.Rest.{Rest}
 use Rattle.kfs_pieces.specs.Rests.{rest_of}
 
 pub rest_some : {T : Type 0} (list : List T) (rest : Rest T) (s : T) → rest.front ≡ Some s → rest_of list rest ≡ s ∷ drop rest.next list

@@ -11,7 +11,7 @@ use Rattle.kfs_model.specs.Soundness.{IsSound}
 use Rattle.kfs_model.specs.Table.{get}
 use Rattle.kfs_model.specs.Tree.{Tree, headers}
 use Rattle.kfs_model.proofs.Heads.{size_said, size_is_extent}
-use Rattle.kfs_pieces.specs.declared.sizes.FileSize.{FileSize}
+use Rattle.kfs_pieces.specs.declared.log.FileSize.{FileSize}
 use Rattle.kfs_pieces.specs.Sizes.{AreSizes, AreSizesBetween, size_in}
 use Rattle.kfs_pieces.proofs.Listed.{own_size}
 

@@ -10,7 +10,7 @@ use Rattle.kfs_model.specs.Plan.{end_of}
 use Rattle.kfs_model.specs.PlanRow.{Piece}
 use Rattle.kfs_model.specs.Run.{Mark}
 use Rattle.kfs_model.specs.Tree.{Tree, Node, content_of}
-use Rattle.kfs_pieces.specs.declared.block_lists.BlockRange.{BlockRange}
+use Rattle.kfs_pieces.specs.declared.blocks.BlockRange.{BlockRange}
 
 -- the blocks in the ranges, from `next` on, each listed once
 unfoldable pub listed : (next : ℕ) → List BlockInterval → List ℕ

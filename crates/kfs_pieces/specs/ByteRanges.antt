@@ -2,8 +2,8 @@
 use Rattle.std.specs.Prelude.{ℕ, ◌<◌, ◌==◌, ◌&&◌, ◌||◌, nat_le, nat_lt, Bool, List, [], ◌∷◌, ◌++◌, Option, Some, None, if◌then◌else◌}
 use Rattle.kfs_model.specs.Table.{option_or}
 use Rattle.kfs_model.specs.Plan.{ComesBy}
-use Rattle.kfs_pieces.specs.declared.byte_range.Origin.{Origin}
-use Rattle.kfs_pieces.specs.declared.byte_range.ByteRange.{ByteRange}
+use Rattle.kfs_pieces.specs.declared.merge.Origin.{Origin}
+use Rattle.kfs_pieces.specs.declared.merge.ByteRange.{ByteRange}
 
 abbrev pub has_byte : (number place : ℕ) → ByteRange → Bool
 has_byte n p s = (s.number == n) && nat_le s.start p && nat_lt p s.end

@@ -4,7 +4,7 @@ use Rattle.kfs_model.specs.Limits.{size_limit}
 use Rattle.kfs_model.specs.PlanRow.{Piece, Source, Zero, Payload}
 use Rattle.kfs_types.specs.Views.{piece_of}
 use Rattle.kfs_types.specs.declared.plan.Piece.{Piece as CodePiece}
-use Rattle.kfs_pieces.specs.declared.rest.Rest.{Rest}
+use Rattle.kfs_pieces.specs.declared.compare.Rest.{Rest}
 use Rattle.kfs_pieces.specs.Rests.{rest_of}
 
 -- the pieces left, as those of the definitions

@@ -10,9 +10,9 @@ use Rattle.kfs_model.specs.Run.{Mark, run, over_marks, marked}
 use Rattle.kfs_model.specs.Sight.{sight}
 use Rattle.kfs_model.specs.Tree.{Tree}
 use Rattle.kfs_model.specs.PlanRow.{Piece, Source}
-use Rattle.kfs_pieces.specs.declared.byte_range.Origin.{Origin}
-use Rattle.kfs_pieces.specs.declared.byte_range.Origin.TheVariants.{Zero, Payload}
-use Rattle.kfs_pieces.specs.declared.byte_range.ByteRange.{ByteRange}
+use Rattle.kfs_pieces.specs.declared.merge.Origin.{Origin}
+use Rattle.kfs_pieces.specs.declared.merge.Origin.TheVariants.{Zero, Payload}
+use Rattle.kfs_pieces.specs.declared.merge.ByteRange.{ByteRange}
 
 -- the source of a piece that begins at this byte
 abbrev pub source_at : Origin → (start : ℕ) → Source

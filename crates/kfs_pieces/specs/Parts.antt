@@ -5,7 +5,7 @@ use Rattle.kfs_model.specs.PlanRow.{Piece}
 use Rattle.kfs_model.specs.Run.{Mark}
 use Rattle.kfs_model.specs.Tree.{Tree}
 use Rattle.kfs_types.specs.declared.plan.Piece.{Piece as CodePiece}
-use Rattle.kfs_pieces.specs.declared.sizes.FileSize.{FileSize}
+use Rattle.kfs_pieces.specs.declared.log.FileSize.{FileSize}
 use Rattle.kfs_pieces.specs.Sizes.{AreSwept}
 
 -- the pieces ascend by file number, from `least` on

@@ -1,8 +1,8 @@
 -- How many byte ranges there are, and at how many places they begin or end.
 use Rattle.std.specs.Prelude.{ℕ, ◌+◌, ◌==◌, ◌&&◌, nat_lt, List, [], ◌∷◌, if◌then◌else◌}
 use Rattle.std.specs.List.{count_by}
-use Rattle.kfs_pieces.specs.declared.byte_range.ByteRange.{ByteRange}
-use Rattle.kfs_pieces.specs.declared.sizes.FileSize.{FileSize}
+use Rattle.kfs_pieces.specs.declared.merge.ByteRange.{ByteRange}
+use Rattle.kfs_pieces.specs.declared.log.FileSize.{FileSize}
 
 -- the ranges that aren't empty
 abbrev pub filled_count : List ByteRange → ℕ

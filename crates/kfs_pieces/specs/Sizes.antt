@@ -16,9 +16,9 @@ use Rattle.kfs_types.specs.declared.entry.Span.{Span}
 use Rattle.kfs_types.specs.declared.entry.Entry.{Entry as CodeEntry}
 use Rattle.kfs_types.specs.declared.entry.Entry.TheVariants as entries
 use Rattle.kfs_pieces.specs.Made.{Reach, Overwrites, Cuts, ReachesNone}
-use Rattle.kfs_pieces.specs.declared.sizes.FileSize.{FileSize}
-use Rattle.kfs_pieces.specs.declared.byte_range.Origin.TheVariants.{Zero}
-use Rattle.kfs_pieces.specs.declared.byte_range.ByteRange.{ByteRange}
+use Rattle.kfs_pieces.specs.declared.log.FileSize.{FileSize}
+use Rattle.kfs_pieces.specs.declared.merge.Origin.TheVariants.{Zero}
+use Rattle.kfs_pieces.specs.declared.merge.ByteRange.{ByteRange}
 
 -- the sizes ascend by file number, from `least` on, none twice
 abbrev pub SizesAscend : (least : ℕ) → List FileSize → Type 0

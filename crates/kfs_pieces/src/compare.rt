@@ -7,7 +7,6 @@ ghost use Rattle.kfs_pieces.specs.PiecesApart.{begins_alike, behind_piece, first
 ghost use Rattle.kfs_pieces.specs.Lefts.{FrontIsInRange, PieceIsInRange, pieces_left};
 ghost use Rattle.kfs_pieces.specs.Rests.{rest_of};
 
-use crate::rest::{Rest, from_next};
 use kfs_types::{Piece, Source};
 
 /// Whether both begin at the same byte, and with the same source.
@@ -100,5 +99,26 @@ pub fn first_piece_apart(pieces: &[Piece], right: &[Piece]) -> Option<usize>
         Some(pieces.len())
     } else {
         None
+    }
+}
+
+/// What is left of a list: a first item, perhaps without its front, and those from index `next` on.
+#[derive(Clone, Copy)]
+pub(crate) struct Rest<T> {
+    pub front: Option<T>,
+    pub next: usize,
+}
+
+/// The list from index `next` on.
+pub(crate) fn from_next<T: Copy>(list: &[T], next: usize) -> Rest<T>
+    ensures { rest_of list.now result ≡ drop next list.now }
+{
+    if next < list.len() {
+        Rest {
+            front: Some(list[next]),
+            next: next + 1,
+        }
+    } else {
+        Rest { front: None, next }
     }
 }

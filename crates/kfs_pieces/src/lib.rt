@@ -5,21 +5,12 @@
 //! a log), then `first_piece_apart` and `need_of`.
 #![tactic(auto)]
 
-mod block_lists;
 mod blocks;
-mod byte_range;
 mod compare;
 pub mod laws;
 mod log;
 mod merge;
-mod need;
-mod pieces;
-mod rest;
-mod sizes;
-mod touched;
 
-pub use block_lists::{cleared_in, written_in};
+pub use blocks::{cleared_in, front_len, need_of, written_in};
 pub use compare::first_piece_apart;
-pub use log::sweep;
-pub use need::{front_len, need_of};
-pub use sizes::FileSize;
+pub use log::{FileSize, sweep};

@@ -1,18 +1,17 @@
 //! Which bytes of files the entries of a log change.
-ghost use Rattle.std.specs.Prelude.{◌≡◌, ◌≤◌, ◌+◌, ◌*◌, ◌++◌, IfOk, IfSome, length, map};
+ghost use Rattle.std.specs.Prelude.{◌≡◌, ◌≤◌, ◌+◌, ◌*◌, ◌++◌, IfOk, IfSome, length, map, ◌<◌, ℕ};
 ghost use Rattle.std.specs.List.{AllByRecursion};
 ghost use Rattle.kfs_model.specs.Limits.{entry_limit};
 ghost use Rattle.kfs_types.specs.Views.{piece_of, IsSpanned};
 ghost use Rattle.kfs_pieces.specs.Lefts.{IsFilled, PieceIsInRange};
-ghost use Rattle.kfs_pieces.specs.Made.{IsFit, made, range_of};
+ghost use Rattle.kfs_pieces.specs.Made.{IsFit, made, range_of, AreRightOf, piece_made, pieces_made};
 ghost use Rattle.kfs_pieces.specs.Parts.{AreByNumber};
-ghost use Rattle.kfs_pieces.specs.RangeCounts.{grown_count};
+ghost use Rattle.kfs_pieces.specs.RangeCounts.{grown_count, filled_count};
 ghost use Rattle.kfs_pieces.specs.Sizes.{AreRightFrom, SizesAscend, IsSize, growth_of, growths, length_after, reach_in};
+ghost use Rattle.kfs_pieces.specs.ByteRanges.{AreFrom};
 
-use crate::byte_range::{ByteRange, Origin};
-use crate::pieces::right_pieces;
-use crate::sizes::{FileSize, size_after};
-use kfs_types::{Entry, Piece, Span};
+use crate::merge::{ByteRange, Origin, last_of_all};
+use kfs_types::{Entry, Piece, Source, Span};
 use std::alloc::{AllocError, Allocator};
 
 /// The range by which a file grew; empty where it didn't.
@@ -114,5 +113,86 @@ pub fn sweep<A: Allocator + Copy>(
 {
     let ranges = ranges_of(alloc, sizes, entries)?;
     let out = right_pieces(alloc, ranges.as_slice())?;
+    Ok(out)
+}
+
+/// The sizes of one file before and after a log.
+#[derive(Clone, Copy, Debug, PartialEq, Eq)]
+pub struct FileSize {
+    /// The file's number.
+    pub number: u32,
+    /// In bytes; 0 where the file wasn't there.
+    pub before: u64,
+    /// In bytes; 0 where the file is gone.
+    pub after: u64,
+}
+
+/// The file's size after the log, 0 where it isn't listed. The numbers ascend, so it is found by binary
+/// search.
+pub(crate) fn size_after(sizes: &[FileSize], number: u32) -> u64
+    requires { SizesAscend 0 sizes.now }
+    ensures { result ≡ length_after sizes.now number }
+{
+    let place = sizes.partition_point(|size| size.number < number);
+    match sizes.get(place) {
+        Some(size) => { if size.number == number { size.after } else { 0 } }
+        None => 0,
+    }
+}
+
+/// A range as a piece of a plan.
+fn piece_from(range: &ByteRange) -> Piece
+    requires fit { IsFit range.now }
+    requires filled { range.now.start < range.now.end }
+    ensures made { piece_of result ≡ piece_made range.now }
+    ensures whole { PieceIsInRange result }
+    ensures filled { IsFilled result }
+{
+    let source = match range.origin {
+        Origin::Zero => Source::Zero,
+        Origin::Payload { entry, offset } => Source::Payload {
+            entry,
+            place: (range.start - offset) as u32,
+        },
+    };
+    Piece {
+        number: range.number,
+        start: range.start,
+        len: range.end - range.start,
+        source,
+    }
+}
+
+/// The ranges as pieces of a plan.
+fn pieces_from<A: Allocator>(alloc: A, ranges: &[ByteRange]) -> Result<Vec<Piece, A>, AllocError>
+    requires fit { AllByRecursion IsFit ranges.now }
+    requires order { AreFrom 0 0 ranges.now }
+    ensures made { IfOk result (λ out. map piece_of out.items ≡ pieces_made ranges.now) }
+    ensures whole { IfOk result (λ out. AllByRecursion PieceIsInRange out.items) }
+    ensures filled { IfOk result (λ out. AllByRecursion IsFilled out.items) }
+    ensures order { IfOk result (λ out. AreByNumber 0 out.items) }
+{
+    let mut out = Vec::new(alloc);
+    for range in ranges {
+        out.push(piece_from(range))?;
+    }
+    Ok(out)
+}
+
+/// Right pieces of a log, from the ranges that it changed: first what each file grew by, then what each
+/// entry changes, in the log's order. `Err` where memory is refused.
+pub fn right_pieces<A: Allocator + Copy>(
+    alloc: A,
+    ranges: &[ByteRange],
+) -> Result<Vec<Piece, A>, AllocError>
+    requires fit { AllByRecursion IsFit ranges.now }
+    ensures right { IfOk result (λ out. AreRightOf ranges.now (map piece_of out.items)) }
+    ensures whole { IfOk result (λ out. AllByRecursion PieceIsInRange out.items) }
+    ensures filled { IfOk result (λ out. AllByRecursion IsFilled out.items) }
+    ensures order { IfOk result (λ out. AreByNumber 0 out.items) }
+    ensures few { IfOk result (λ out. length out.items ≤ 2 * filled_count ranges.now) }
+{
+    let laid = last_of_all(alloc, ranges)?;
+    let out = pieces_from(alloc, laid.as_slice())?;
     Ok(out)
 }

@@ -6,8 +6,7 @@ ghost use Rattle.kfs_pieces.specs.Made.{IsFit};
 ghost use Rattle.kfs_pieces.specs.RangeCounts.{edge_count, filled_count};
 ghost use Rattle.kfs_pieces.specs.Rests.{rest_of};
 
-use crate::byte_range::ByteRange;
-use crate::rest::{Rest, from_next};
+use crate::compare::{Rest, from_next};
 use std::alloc::{AllocError, Allocator};
 
 /// Whether the range ends at this byte of the file, or before it.
@@ -157,4 +156,27 @@ fn alone<A: Allocator>(alloc: A, range: &ByteRange) -> Result<Vec<ByteRange, A>,
         out.push(*range)?;
     }
     Ok(out)
+}
+
+/// What the bytes are: zero, or part of the payload of the entry with this index. The payload's first
+/// byte is at position `offset` of the file.
+#[derive(Clone, Copy, Debug, PartialEq, Eq)]
+pub enum Origin {
+    /// Zero bytes.
+    Zero,
+    /// Part of a payload.
+    Payload { entry: u16, offset: u64 },
+}
+
+/// Bytes of one file.
+#[derive(Clone, Copy, Debug, PartialEq, Eq)]
+pub struct ByteRange {
+    /// The file's number.
+    pub number: u32,
+    /// The position of the first byte, from 0.
+    pub start: u64,
+    /// The position after the last byte.
+    pub end: u64,
+    /// What they are.
+    pub origin: Origin,
 }

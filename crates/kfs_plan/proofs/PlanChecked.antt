@@ -16,7 +16,7 @@ use Rattle.kfs_model.proofs.Differences.{differences_only}
 use Rattle.kfs_entry.specs.Answers.{plan_of}
 use Rattle.kfs_types.specs.Views.{name_row_of, node_row_of, piece_of}
 use Rattle.kfs_types.specs.declared.plan.Plan.{Plan as CodePlan}
-use Rattle.kfs_pieces.specs.declared.sizes.FileSize.{FileSize}
+use Rattle.kfs_pieces.specs.declared.log.FileSize.{FileSize}
 use Rattle.kfs_pieces.specs.Sizes.{AreSizes, AreSwept}
 use Rattle.kfs_pieces.proofs.LogMade.{of_value}
 use Rattle.kfs_pieces.proofs.SizesBetween.{sizes_between}

@@ -13,17 +13,17 @@ use Rattle.kfs_model.specs.Run.{Mark}
 use Rattle.kfs_model.specs.Tree.{Tree}
 use Rattle.kfs_pieces.proofs.PiecesApart.{first_wrong_is_apart}
 use Rattle.kfs_types.specs.Views.{header_of, kind_of, piece_of}
-use Rattle.kfs_types.specs.declared.header.Kind.{Kind as CodeKind}
-use Rattle.kfs_types.specs.declared.header.Kind.TheVariants as kinds
-use Rattle.kfs_types.specs.declared.header.Header.{Header as CodeHeader}
+use Rattle.kfs_types.specs.declared.entry.Kind.{Kind as CodeKind}
+use Rattle.kfs_types.specs.declared.entry.Kind.TheVariants as kinds
+use Rattle.kfs_types.specs.declared.entry.Header.{Header as CodeHeader}
 use Rattle.kfs_types.specs.declared.plan.NameRow.{NameRow as CodeNameRow}
 use Rattle.kfs_types.specs.declared.plan.NodeRow.{NodeRow as CodeNodeRow}
 use Rattle.kfs_types.specs.declared.plan.Piece.{Piece as CodePiece}
 use Rattle.kfs_types.specs.declared.plan.Plan.{Plan as CodePlan}
 use Rattle.kfs_types.specs.contracts.plan.NameRowPartialEq.TheImpl as names
 use Rattle.kfs_types.specs.contracts.plan.NodeRowPartialEq.TheImpl as nodes
-use Rattle.kfs_types.specs.contracts.header.HeaderPartialEq.TheImpl as heads
-use Rattle.kfs_types.specs.contracts.header.KindPartialEq.TheImpl as kind_tests
+use Rattle.kfs_types.specs.contracts.entry.HeaderPartialEq.TheImpl as heads
+use Rattle.kfs_types.specs.contracts.entry.KindPartialEq.TheImpl as kind_tests
 use Rattle.kfs_image_nodes.specs.declared.net.Net.{Net}
 use Rattle.kfs_plan.specs.PlanCheck.{first_unlike}
 use Rattle.kfs_judge.specs.Step.Rows.{keyed_name_row, keyed_node_row}

@@ -23,7 +23,7 @@ use Rattle.kfs_types.specs.declared.entry.Log.{Log as CodeLog}
 use Rattle.kfs_types.specs.declared.plan.Plan.{Plan as CodePlan}
 use Rattle.kfs_entry.specs.declared.fault.SpellFault.{SpellFault}
 use Rattle.kfs_entry.specs.declared.fault.SpellFault.TheVariants as spelling
-use Rattle.kfs_pieces.specs.declared.sizes.FileSize.{FileSize}
+use Rattle.kfs_pieces.specs.declared.log.FileSize.{FileSize}
 use Rattle.kfs_image_nodes.specs.declared.net.Net.{Net}
 use Rattle.kfs_plan.specs.declared.rows.RowFault.{RowFault as CodeRowFault}
 use Rattle.kfs_plan.specs.declared.rows.RowFault.TheVariants as rows

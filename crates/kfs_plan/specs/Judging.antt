@@ -28,13 +28,13 @@ use Rattle.kfs_plan.specs.declared.submission.Fault.TheVariants as faults
 use Rattle.kfs_plan.specs.declared.submission.Submission.{Submission as CodeSubmission}
 use Rattle.kfs_plan.specs.declared.submission.Outcome.{Outcome}
 use Rattle.kfs_plan.specs.declared.submission.Outcome.TheVariants as outcomes
-use Rattle.kfs_plan.specs.declared.spelling.Spelled.{Spelled}
-use Rattle.kfs_plan.specs.declared.spelling.Spelled.TheVariants as readings
+use Rattle.kfs_plan.specs.declared.judgement.Spelled.{Spelled}
+use Rattle.kfs_plan.specs.declared.judgement.Spelled.TheVariants as readings
 use Rattle.kfs_judge.specs.declared.check.view.View.{View}
 use Rattle.kfs_judge.specs.declared.walk.EntryFault.{EntryFault as CodeEntryFault}
 use Rattle.kfs_judge.specs.declared.check.reads.Read.{Read}
 use Rattle.kfs_judge.specs.declared.check.reads.ReadAnswer.{ReadAnswer}
-use Rattle.kfs_pieces.specs.declared.sizes.FileSize.{FileSize}
+use Rattle.kfs_pieces.specs.declared.log.FileSize.{FileSize}
 use Rattle.kfs_plan.specs.PlanCheck.{TellsOfEachRun}
 use Rattle.kfs_judge.specs.Check.Reads.{Agrees, AreAmong}
 use Rattle.kfs_judge.specs.Check.View.{clients_of, client_sight_in}

@@ -13,7 +13,7 @@ use Rattle.kfs_entry.specs.Answers.{SpansAreWithin, plan_of}
 use Rattle.kfs_types.specs.Views.{entry_of, piece_of}
 use Rattle.kfs_types.specs.declared.entry.Log.{Log as CodeLog}
 use Rattle.kfs_types.specs.declared.plan.Plan.{Plan as CodePlan}
-use Rattle.kfs_pieces.specs.declared.sizes.FileSize.{FileSize}
+use Rattle.kfs_pieces.specs.declared.log.FileSize.{FileSize}
 use Rattle.kfs_pieces.specs.Sizes.{AreSizes}
 use Rattle.kfs_image_nodes.specs.declared.net.Net.{Net}
 use Rattle.kfs_plan.specs.declared.rows.RowFault.{RowFault as CodeRowFault}

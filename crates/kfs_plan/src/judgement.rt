@@ -1,5 +1,5 @@
 //! Judging a submission: its log and its plan, against a view.
-ghost use Rattle.std.specs.Prelude.{◌≡◌, ◌≤◌, [], length, IfOk, IfErr};
+ghost use Rattle.std.specs.Prelude.{◌≡◌, ◌≤◌, [], length, IfOk, IfErr, ◌≢◌};
 ghost use Rattle.std.specs.List.{AllByRecursion};
 ghost use Rattle.kfs_model.specs.Judgement.{State};
 ghost use Rattle.kfs_model.specs.Lease.{row_of};
@@ -9,13 +9,12 @@ ghost use Rattle.kfs_judge.specs.Check.Kept.{keeps_reads};
 ghost use Rattle.kfs_judge.specs.Check.Reads.{Agrees};
 ghost use Rattle.kfs_judge.specs.Walks.{HasOrderedSizes};
 ghost use Rattle.kfs_judge.specs.Check.View.{clients_of, client_sight_in};
-ghost use Rattle.kfs_plan.specs.Judging.{AreLooked, AgreesWithReads, OutcomeIsSettled, IsVerdict, RefusesByFault, ShowsAs, submission_of, submission_with};
+ghost use Rattle.kfs_plan.specs.Judging.{AreLooked, AgreesWithReads, OutcomeIsSettled, IsVerdict, RefusesByFault, ShowsAs, submission_of, submission_with, IsEarly, IsReading, StopsByFault};
 
 use crate::judged::Judged;
 use crate::rows::{RowFault, check_rows};
-use crate::spelling::{Spelled, read_submission};
 use crate::submission::{Back, Fault, Outcome, Submission, Why};
-use kfs_entry::{Log, Plan};
+use kfs_entry::{Log, Plan, SpellFault, decode_log, decode_plan};
 use kfs_judge::{Keeping, Reads, View, Walk, judge_entries_keeping};
 use kfs_mode::Client;
 use std::alloc::{AllocError, Allocator};
@@ -180,4 +179,51 @@ fn settle<A: Allocator + Copy>(
         reads,
         outcome,
     })
+}
+
+/// What the bytes of a submission decode to.
+#[derive(Drop)]
+pub enum Spelled<A: Allocator> {
+    /// A log of the submission's client, and a plan.
+    Yes(Log<A>, Plan<A>),
+    /// The fault found in the bytes.
+    No(Fault),
+}
+
+/// Decodes the bytes of a submission; `number` is the submission's client. `Err` where memory is
+/// refused.
+pub fn read_submission<A: Allocator + Copy>(
+    alloc: A,
+    number: u32,
+    log: &[u8],
+    plan: &[u8],
+) -> Result<Spelled<A>, Why>
+    ensures read { IfOk result (IsReading (submission_with number log.now plan.now)) }
+    ensures early { IfOk result IsEarly }
+    ensures fault { IfOk result StopsByFault }
+    ensures memory { IfErr result (λ why. why ≡ Why.OutOfMemory) }
+{
+    let log = match decode_log(alloc, log) {
+        Ok(log) => log,
+        Err(fault) => return Ok(Spelled::No(Fault::BadLog(unless_refused(fault)?))),
+    };
+    if log.client != number {
+        return Ok(Spelled::No(Fault::WrongClient));
+    }
+    let plan = match decode_plan(alloc, plan) {
+        Ok(plan) => plan,
+        Err(fault) => return Ok(Spelled::No(Fault::BadPlan(unless_refused(fault)?))),
+    };
+    Ok(Spelled::Yes(log, plan))
+}
+
+/// The fault, unless it is that memory was refused.
+fn unless_refused(fault: SpellFault) -> Result<SpellFault, Why>
+    ensures fault { IfOk result (λ told. (told ≡ fault) × (told ≢ SpellFault.OutOfMemory)) }
+    ensures refused { IfErr result (λ why. why ≡ Why.OutOfMemory) }
+{
+    match fault {
+        SpellFault::OutOfMemory => Err(Why::OutOfMemory),
+        _ => Ok(fault),
+    }
 }

@@ -8,7 +8,6 @@ mod judged;
 mod judgement;
 mod pieces;
 mod rows;
-mod spelling;
 mod submission;
 
 pub use judged::Judged;

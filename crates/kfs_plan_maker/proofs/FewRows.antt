@@ -10,7 +10,7 @@ use Rattle.kfs_model.specs.Plan.{AreDifferences}
 use Rattle.kfs_model.specs.Table.{Order, numbers}
 use Rattle.kfs_model.proofs.Exact.{IsExact, numbers-exact}
 use Rattle.kfs_model.proofs.Tables.{find_behind, find_head, left_part, right_part}
-use Rattle.kfs_pieces.specs.declared.sizes.FileSize.{FileSize}
+use Rattle.kfs_pieces.specs.declared.log.FileSize.{FileSize}
 use Rattle.kfs_pieces.specs.RangeCounts.{grown_count}
 use Rattle.kfs_pieces.specs.Sizes.{SizesAscend}
 

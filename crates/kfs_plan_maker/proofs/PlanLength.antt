@@ -17,7 +17,7 @@ use Rattle.kfs_model.specs.Table.{numbers}
 use Rattle.kfs_model.specs.Tree.{Tree, name_order}
 use Rattle.kfs_model.proofs.Exact.{numbers-exact, places-exact}
 use Rattle.kfs_model.proofs.SeenRun.{bytes_faithful}
-use Rattle.kfs_pieces.specs.declared.sizes.FileSize.{FileSize}
+use Rattle.kfs_pieces.specs.declared.log.FileSize.{FileSize}
 use Rattle.kfs_pieces.specs.RangeCounts.{grown_count}
 use Rattle.kfs_pieces.specs.Sizes.{AreSizesBetween, SizesAscend, size_in}
 use Rattle.kfs_plan_maker.specs.AskedLeases.{HoldsNamed, listed, numbers_named}

@@ -1,5 +1,5 @@
 //! The commands of a session.
-ghost use Rattle.std.specs.Prelude.{◌≡◌, ℕ, List, true, false, IfOk, IsErrOf, None, Some, option_map};
+ghost use Rattle.std.specs.Prelude.{◌≡◌, ℕ, List, true, false, IfOk, IsErrOf, None, Some, option_map, ◌≤◌};
 ghost use Rattle.kfs_lease.specs.Rows.Rows.{kind_of};
 ghost use Rattle.kfs_plan.specs.Judging.{submission_of};
 ghost use Rattle.kfs_program_command.specs.Command.{Land as LandLine, Listing as ListingLine, Load, Node as NodeLine, Request, Setup, Submit as SubmitLine, asked_by, client_of, drop_of, judge_of, kind_named, landing_worker, last_worker, lease_of, load_of, move_of, moves_in, new_of, plan_of, read_of, submission_in, submit_of};
@@ -8,7 +8,6 @@ ghost use Rattle.kfs_program_command.specs.Views.{act_of, asked_of, asked_of_des
 ghost use Rattle.kfs_program_text.specs.Decimals.{decimal_within};
 ghost use Rattle.kfs_program_text.specs.Reading.{ReadsAs, ReadsExactly, checked, first_by, words_left};
 
-use crate::worker::{LAST_WORKER, Worker};
 use kfs_image_nodes::TierSizes;
 use kfs_lease::{Act, LeaseKind};
 use kfs_mode::{Client, ClientFault};
@@ -465,4 +464,32 @@ fn read_move(words: &mut Words<'_>) -> Result<Move, Refusal>
         tier,
         place,
     })
+}
+
+/// The greatest number of a worker.
+pub const LAST_WORKER: u64 = 7;
+
+/// The number of a worker, 0 to 7.
+#[derive(Clone, Copy)]
+pub struct Worker {
+    number: u8,
+    ghost within: { number ≤ 7 },
+}
+
+impl Worker {
+    /// The worker with this number.
+    pub(crate) fn of(number: u8) -> Worker
+        requires { number ≤ 7 }
+        ensures { result.number ≡ number }
+    {
+        Worker { number }
+    }
+
+    /// The number, 0 to 7.
+    pub fn number(self) -> usize
+        ensures value { result ≡ self.number }
+        ensures within { result ≤ 7 }
+    {
+        usize::from(self.number)
+    }
 }

@@ -5,19 +5,13 @@
 //! `kfs_program` stand on it. Begin with `words.rt`.
 #![tactic(auto)]
 
-mod digits;
 mod fault;
 mod held;
-mod lines;
 pub mod parts;
-mod place;
 mod reading;
 mod words;
-mod writing;
 
 pub use fault::{InputFault, OutputFault};
-pub use held::HeldBack;
-pub use lines::first_line;
-pub use reading::read_some;
+pub use held::{HeldBack, flush, write_whole};
+pub use reading::{first_line, read_some};
 pub use words::{Refusal, Words};
-pub use writing::{flush, write_whole};

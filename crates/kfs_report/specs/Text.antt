@@ -3,9 +3,9 @@ use Rattle.std.specs.Prelude.{◌≡◌, ℕ, ◌≤◌, List, Vec, ◌++◌, Bo
 use Rattle.std.specs.declared.alloc.AllocError.{AllocError}
 use Rattle.kfs_entry.specs.declared.fault.SpellFault.{SpellFault}
 use Rattle.kfs_entry.specs.declared.fault.SpellFault.TheVariants as spell
-use Rattle.kfs_types.specs.declared.header.Header.{Header}
-use Rattle.kfs_types.specs.declared.header.Kind.{Kind}
-use Rattle.kfs_types.specs.declared.header.Kind.TheVariants.{File, Directory}
+use Rattle.kfs_types.specs.declared.entry.Header.{Header}
+use Rattle.kfs_types.specs.declared.entry.Kind.{Kind}
+use Rattle.kfs_types.specs.declared.entry.Kind.TheVariants.{File, Directory}
 use Rattle.kfs_image.specs.declared.codec.fault.ImageFault.{ImageFault}
 use Rattle.kfs_image.specs.declared.codec.fault.ImageFault.TheVariants as image
 use Rattle.kfs_judge.specs.declared.check.check.Reason.{Reason}

@@ -1,9 +1,9 @@
 -- The code's logs and plans as values of the definitions.
 use Rattle.std.specs.Prelude.{ℕ, ◌+◌, ◌≤◌, List, slice_range}
 use Rattle.std.specs.Option.{option_map}
-use Rattle.kfs_types.specs.declared.header.Kind.{Kind as CodeKind}
-use Rattle.kfs_types.specs.declared.header.Kind.TheVariants as kinds
-use Rattle.kfs_types.specs.declared.header.Header.{Header as CodeHeader}
+use Rattle.kfs_types.specs.declared.entry.Kind.{Kind as CodeKind}
+use Rattle.kfs_types.specs.declared.entry.Kind.TheVariants as kinds
+use Rattle.kfs_types.specs.declared.entry.Header.{Header as CodeHeader}
 use Rattle.kfs_types.specs.declared.plan.NameRow.{NameRow as CodeNameRow}
 use Rattle.kfs_types.specs.declared.plan.NodeRow.{NodeRow as CodeNodeRow}
 use Rattle.kfs_types.specs.declared.plan.Piece.{Piece as CodePiece}

@@ -7,23 +7,20 @@
 
 mod change;
 mod entry;
-mod header;
 mod limits;
 mod moves;
 mod name;
 mod plan;
 mod rows;
-mod sizes;
 
 pub use change::{Change, Nothing};
-pub use entry::{Entry, Log, Span};
-pub use header::{Header, Kind};
+pub use entry::{Entry, Header, Kind, Log, Span};
 pub use limits::{
     BLOCK_LEN, BLOCK_SIZE, CLIMB_LIMIT, ENTRY_LIMIT, GREATEST_MODE, GREATEST_MODE_OF_VERSION_1,
     GREATEST_NUMBER, LATEST_VERSION, LINK_LIMIT, PAYLOAD_LIMIT, ROOT, SIZE_LIMIT, TIER_LIMIT,
+    TierSizes,
 };
 pub use moves::{Move, MoveFault};
 pub use name::Name;
 pub use plan::{NameRow, NodeRow, Piece, Plan, Source};
 pub use rows::RowList;
-pub use sizes::TierSizes;

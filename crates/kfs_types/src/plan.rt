@@ -1,6 +1,6 @@
 //! Digest plans and their rows ("Strata", SOSP 2017: what is left of a log once it is coalesced).
 
-use crate::header::Header;
+use crate::entry::Header;
 use crate::name::Name;
 use crate::rows::RowList;
 use std::alloc::Allocator;

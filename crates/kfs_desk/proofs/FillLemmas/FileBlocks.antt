@@ -27,7 +27,7 @@ use Rattle.kfs_types.specs.Views.{piece_of}
 use Rattle.kfs_types.specs.declared.plan.Piece.{Piece as CodePiece}
 use Rattle.kfs_pieces.specs.BlockLists.{cleared_from, cleared_runs, is_in_range, listed, node_written, whole_until}
 use Rattle.kfs_pieces.specs.Parts.{AreByNumber, front_len}
-use Rattle.kfs_pieces.specs.declared.block_lists.BlockRange.{BlockRange}
+use Rattle.kfs_pieces.specs.declared.blocks.BlockRange.{BlockRange}
 use Rattle.kfs_pieces.proofs.ClearedRuns.{cleared_are_in_ranges}
 use Rattle.kfs_pieces.proofs.FileParts.{behind_front, not_of}
 use Rattle.kfs_pieces.proofs.Lists.{all_at, all_drop}

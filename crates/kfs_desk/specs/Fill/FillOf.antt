@@ -12,7 +12,7 @@ use Rattle.kfs_model.specs.Run.{Mark}
 use Rattle.kfs_model.specs.Table.{Table, numbers, get}
 use Rattle.kfs_model.specs.Tree.{Tree, headers}
 use Rattle.kfs_types.specs.declared.plan.NodeRow.{NodeRow}
-use Rattle.kfs_pieces.specs.declared.block_lists.BlockRange.{BlockRange}
+use Rattle.kfs_pieces.specs.declared.blocks.BlockRange.{BlockRange}
 use Rattle.kfs_model.specs.Device.ShownTree.{DeviceImage, shown_tree}
 use Rattle.kfs_image.specs.Tier.Unused.{unused_places}
 use Rattle.kfs_image.specs.declared.blocks.fill.BlockRow.{BlockRow}

@@ -1,5 +1,5 @@
 //! The fill of a landing: the blocks that it writes and those that it clears.
-ghost use Rattle.std.specs.Prelude.{◌≡◌, ◌++◌, IfOk, map};
+ghost use Rattle.std.specs.Prelude.{◌≡◌, ◌++◌, IfOk, map, OnErr, OnOk, take};
 ghost use Rattle.std.specs.List.{AllByRecursion};
 ghost use Rattle.kfs_types.specs.Views.{piece_of};
 ghost use Rattle.kfs_pieces.specs.TouchedBlocks.{touches};
@@ -9,12 +9,13 @@ ghost use Rattle.kfs_pieces.specs.Lefts.{IsFilled, PieceIsInRange};
 ghost use Rattle.kfs_pieces.specs.Parts.{AreByNumber};
 ghost use Rattle.kfs_image_nodes.specs.Change.{reheaded};
 ghost use Rattle.kfs_desk.specs.Fill.Bytes.{pieces_of, BlocksAscend, HasPayloads};
-ghost use Rattle.kfs_desk.specs.Fill.FillOf.{AreMadeZero, AreWritten, IsFillOf, run_of, size_among};
+ghost use Rattle.kfs_desk.specs.Fill.FillOf.{AreMadeZero, AreWritten, IsFillOf, run_of, size_among, CanLandWith, HasLandedWith};
+ghost use Rattle.kfs_image.specs.Tier.Unused.{unused_places};
+ghost use Rattle.kfs_desk.specs.Fill.Places.{CanBeChosen};
 
 use crate::fill::bytes::LogBytes;
-use crate::fill::places::free_places;
 use crate::fill::rows::block_rows;
-use kfs_image::{BlockRun, Fill, Image, header_after};
+use kfs_image::{BlockRun, Fill, Image, Net, header_after, net_apply_moving};
 use kfs_pieces::{cleared_in, front_len, written_in};
 use kfs_types::{NodeRow, Piece};
 use std::alloc::{AllocError, Allocator};
@@ -134,4 +135,53 @@ pub(crate) fn fill_of<A: Allocator + Copy>(
         rows,
         zero: blocks.zero,
     })
+}
+
+/// Makes the change that a log makes: the names and headers of its net, and its bytes. Condition: that
+/// of `fill_of`, and the net can be applied with such a fill. Blocks are made in the memory of those that
+/// were written over, where the image keeps some. `Err` where memory is refused; the image shows what it
+/// showed then.
+pub fn land_bytes<A: Allocator + Copy>(
+    alloc: A,
+    image: &mut Image<A>,
+    log: &LogBytes<'_>,
+    net: &Net<A>,
+) -> Result<(), AllocError>
+    requires payloads { HasPayloads log.now }
+    requires pieces { PiecesAscend (pieces_of log.now) }
+    requires whole { AllByRecursion PieceIsInRange log.now.pieces.now }
+    requires filled { AllByRecursion IsFilled log.now.pieces.now }
+    requires fits { CanLandWith image.old log.now net.now }
+    ensures ok { OnOk result (HasLandedWith image.old log.now net.now image.new) }
+    ensures err { OnErr result (image.new ≡ image.old) }
+{
+    let mut spares = Vec::new(alloc);
+    image.swap_spares(&mut spares);
+    let made = fill_of(alloc, image, log, net.nodes.as_slice(), &mut spares);
+    image.swap_spares(&mut spares);
+    let fill = made?;
+    net_apply_moving(alloc, image, net, fill)
+}
+
+/// The `count` least free places of tier 0, or all of them where there are fewer. `Err` where memory is
+/// refused.
+pub(crate) fn free_places<A: Allocator>(
+    alloc: A,
+    image: &Image<A>,
+    count: usize,
+) -> Result<Vec<u32, A>, AllocError>
+    ensures least { IfOk result (λ places. places.items ≡ take count (unused_places image.now.sizes image.now.placement 0)) }
+    ensures chosen { IfOk result (λ places. CanBeChosen image.now.sizes image.now.placement places.items) }
+{
+    let size = image.tier_size(0);
+    let mut places = Vec::with_capacity(alloc, count.min(image.free(0) as usize))?;
+    let mut from = 0;
+    while places.len() < count && from < size {
+        let Some(place) = image.next_free(0, from) else {
+            break;
+        };
+        places.push(place)?;
+        from = place + 1;
+    }
+    Ok(places)
 }

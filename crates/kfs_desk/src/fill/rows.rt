@@ -1,15 +1,14 @@
 //! The blocks that a landing writes, with their places and bytes.
-ghost use Rattle.std.specs.Prelude.{◌≡◌, IfOk, length};
+ghost use Rattle.std.specs.Prelude.{◌≡◌, IfOk, length, map};
 ghost use Rattle.kfs_model.specs.Plan.{PiecesAscend};
 ghost use Rattle.kfs_model.specs.Device.ShownTree.{shown_tree};
-ghost use Rattle.kfs_desk.specs.Fill.Bytes.{entries_of, pieces_of, HasPayloads, BlocksAscend};
+ghost use Rattle.kfs_desk.specs.Fill.Bytes.{entries_of, pieces_of, HasPayloads, BlocksAscend, ends_by, begins_before, reaching, beginning};
 ghost use Rattle.kfs_desk.specs.Fill.Fill.{AreRowsOf};
+ghost use Rattle.kfs_types.specs.Views.{piece_of};
 
-use crate::fill::block::block_bytes;
-use crate::fill::bytes::LogBytes;
-use crate::fill::parts::{beginning, reaching};
+use crate::fill::bytes::{LogBytes, block_bytes};
 use kfs_image::{BlockRow, Image, Place};
-use kfs_types::BLOCK_SIZE;
+use kfs_types::{BLOCK_SIZE, Piece};
 use std::alloc::{AllocError, Allocator};
 
 /// A row for each of these blocks, with its place on tier 0 and its bytes after the log. Pieces and
@@ -52,4 +51,41 @@ pub(crate) fn block_rows<A: Allocator + Copy>(
         })?;
     }
     Ok(rows)
+}
+
+/// Whether the piece ends at this byte of the file, or before it.
+fn ends_by(piece: &Piece, number: u32, place: u64) -> bool
+    ensures { result ≡ ends_by number place (piece_of piece.now) }
+{
+    piece.number < number
+        || piece.number == number && piece.start <= place && piece.len <= place - piece.start
+}
+
+/// Whether the piece begins before this byte of the file.
+fn begins_before(piece: &Piece, number: u32, place: u64) -> bool
+    ensures { result ≡ begins_before number place (piece_of piece.now) }
+{
+    piece.number < number || piece.number == number && piece.start < place
+}
+
+/// The pieces without those at the front that end at this byte or before it.
+pub(crate) fn reaching(pieces: &[Piece], number: u32, place: u64) -> &[Piece]
+    ensures { map piece_of result.now ≡ reaching number place (map piece_of pieces.now) }
+{
+    let mut first = 0;
+    while first < pieces.len() && ends_by(&pieces[first], number, place) {
+        first += 1;
+    }
+    &pieces[first..]
+}
+
+/// The pieces at the front that begin before this byte.
+pub(crate) fn beginning(pieces: &[Piece], number: u32, place: u64) -> &[Piece]
+    ensures { map piece_of result.now ≡ beginning number place (map piece_of pieces.now) }
+{
+    let mut end = 0;
+    while end < pieces.len() && begins_before(&pieces[end], number, place) {
+        end += 1;
+    }
+    &pieces[..end]
 }

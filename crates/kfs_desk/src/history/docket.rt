@@ -1,7 +1,8 @@
 //! The docket: rows that contracts see, and their number.
 ghost use Rattle.std.specs.Prelude.{◌≡◌, ◌+◌, ◌<◌, ◌^◌, [], ◌∷◌, ◌++◌, length};
+ghost use Rattle.kfs_model.specs.Machine.{Row};
+ghost use Rattle.std.specs.Borrow.{ftrue};
 
-use crate::history::row::OneRow;
 use kfs_model::GhostList;
 use std::marker::Model;
 
@@ -49,5 +50,30 @@ impl Docket {
     {
         self.rows = self.rows.and(&row);
         self.len += 1;
+    }
+}
+
+/// The property that a row must have, given values that a call has at hand.
+pub trait RowRule {
+    ghost is_row: { Self → Row → Type 0 };
+}
+
+/// A docket row. It takes no memory.
+#[derive(Drop)]
+pub struct OneRow {
+    pub ghost row: { Row },
+}
+
+impl Model for OneRow {
+    ghost also_owns = { λ _. ftrue };
+}
+
+impl OneRow {
+    /// A row with the property. The caller proves that such a row exists; at run time this is nothing.
+    pub fn of<R: RowRule>(rule: &R) -> OneRow
+        requires { (row : Row) × R.is_row rule.now row }
+        ensures { R.is_row rule.now result.row }
+    {
+        OneRow {}
     }
 }

@@ -9,7 +9,7 @@ use Rattle.kfs_model.proofs.TableLaws.{same_table, get-retain}
 use Rattle.kfs_model.specs.Device.Device.{Devices}
 use Rattle.kfs_map_chunks.specs.Edits.{KeysAscend}
 use Rattle.kfs_map_chunks.specs.Tables.{table_after}
-use Rattle.kfs_image.specs.declared.tier.change.NewBlock.{NewBlock}
+use Rattle.kfs_image.specs.declared.tier.tiers.NewBlock.{NewBlock}
 use Rattle.kfs_image.specs.Tier.Tiers.{with_blocks}
 use Rattle.kfs_image.proofs.TierLemmas.TierLists.{rest_at}
 use Rattle.kfs_image.specs.declared.blocks.fill.BlockRun.{BlockRun}

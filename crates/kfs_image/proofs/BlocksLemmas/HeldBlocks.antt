@@ -7,7 +7,7 @@ use Rattle.kfs_model.specs.Placement.{Place, Placement, TierSizes, tier_size, Is
 use Rattle.kfs_map_chunks.specs.Edits.{rewritten}
 use Rattle.kfs_map_chunks.specs.Tables.{table, table_after}
 use Rattle.kfs_map_chunks.proofs.Tables.{table-rewritten}
-use Rattle.kfs_image.specs.declared.tier.change.NewBlock.{NewBlock}
+use Rattle.kfs_image.specs.declared.tier.tiers.NewBlock.{NewBlock}
 use Rattle.kfs_image.specs.Tier.Places.{IsNextFree, AreUsedFrom}
 use Rattle.kfs_image.specs.Tier.Tiers.{TiersShown, places_in, IsInTier, CanMove, with_blocks, changed as changed_tiers}
 use Rattle.kfs_image.specs.Tier.Unused.{FreeIsUnused, IsNextUnused, AreTakenFrom}

@@ -8,7 +8,7 @@ use Rattle.std.specs.FinMap.Entries.{is_sorted, below_all}
 use Rattle.std.specs.List.{AllByRecursion}
 use Rattle.std.proofs.lemmas.List.Elements.{All-from_recursion}
 use Rattle.kfs_types.specs.Views.{header_of, name_row_of}
-use Rattle.kfs_types.specs.declared.header.Header.{Header as CodeHeader}
+use Rattle.kfs_types.specs.declared.entry.Header.{Header as CodeHeader}
 use Rattle.kfs_types.specs.declared.plan.NameRow.{NameRow}
 use Rattle.kfs_model.specs.Header.{Header}
 use Rattle.kfs_model.specs.Table.{Order, Table, numbers, get, insert, empty, changed}
@@ -31,7 +31,7 @@ use Rattle.kfs_image.specs.declared.codec.raw.RawNode.{RawNode as CodeRawNode}
 use Rattle.kfs_image.specs.declared.codec.raw.RawImage.{RawImage as CodeRawImage}
 use Rattle.kfs_image.specs.Codec.RawImages.{raw_node_of, raw_of}
 use Rattle.kfs_map_chunks.specs.Tables.{table}
-use Rattle.kfs_map_pages.specs.declared.edit.NumberEdit.{NumberEdit}
+use Rattle.kfs_map_pages.specs.declared.change.NumberEdit.{NumberEdit}
 use Rattle.kfs_map_pages.specs.Edits.{rewritten, AreEdits}
 use Rattle.kfs_image_nodes.specs.NodeEdits.{IsNumber}
 use Rattle.kfs_image_nodes.specs.Rows.{heads_of as heads_shown}

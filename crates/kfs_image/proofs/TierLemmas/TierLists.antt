@@ -12,7 +12,7 @@ use Rattle.kfs_model.specs.Table.{numbers, pairs, get, insert}
 use Rattle.kfs_model.specs.Placement.{Place}
 use Rattle.kfs_model.proofs.TableLaws.{get-insert, get-remove, same_table}
 use Rattle.kfs_model.specs.Device.Device.{Devices}
-use Rattle.kfs_image.specs.declared.tier.change.NewBlock.{NewBlock}
+use Rattle.kfs_image.specs.declared.tier.tiers.NewBlock.{NewBlock}
 use Rattle.kfs_image.specs.Tier.Blocks.{BlockTable, block_at, HasRoomForBlock, KeepsBlocks, with_room}
 use Rattle.kfs_image.specs.Tier.Places.{is_free_in}
 use Rattle.kfs_image.specs.Tier.Tier.{TierShown}

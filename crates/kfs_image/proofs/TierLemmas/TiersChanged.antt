@@ -6,7 +6,7 @@ use Rattle.std.proofs.lemmas.List.{get_or_past}
 use Rattle.kfs_model.specs.Table.{get}
 use Rattle.kfs_model.specs.Placement.{Place, TierSizes}
 use Rattle.kfs_model.specs.Device.Device.{byte_on}
-use Rattle.kfs_image.specs.declared.tier.change.NewBlock.{NewBlock}
+use Rattle.kfs_image.specs.declared.tier.tiers.NewBlock.{NewBlock}
 use Rattle.kfs_image.specs.Tier.Blocks.{block_at, byte_at}
 use Rattle.kfs_image.specs.Tier.Tier.{TierShown}
 use Rattle.kfs_image.specs.Tier.Tiers.{TiersShown, with_places, with_blocks, TiersAreSized, changed}

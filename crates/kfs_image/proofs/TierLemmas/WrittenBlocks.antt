@@ -9,7 +9,7 @@ use Rattle.kfs_model.specs.Table.{numbers, pairs, get, insert}
 use Rattle.kfs_model.specs.Placement.{TierSizes, tier_size}
 use Rattle.kfs_model.proofs.TableLaws.{get-insert}
 use Rattle.kfs_model.specs.Device.Device.{Devices, AreBlocks}
-use Rattle.kfs_image.specs.declared.tier.change.NewBlock.{NewBlock}
+use Rattle.kfs_image.specs.declared.tier.tiers.NewBlock.{NewBlock}
 use Rattle.kfs_image.specs.Tier.Tiers.{with_blocks}
 
 -- what a block that is there says of its place

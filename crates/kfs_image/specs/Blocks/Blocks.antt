@@ -6,7 +6,7 @@ use Rattle.kfs_model.specs.Placement.{TierSizes, Placement, tier_size, IsLaid}
 use Rattle.kfs_model.specs.Device.Device.{Devices, AreBlocks}
 use Rattle.kfs_map_chunks.specs.Edits.{KeysAscend}
 use Rattle.kfs_map_chunks.specs.Tables.{table_after}
-use Rattle.kfs_image.specs.declared.tier.change.NewBlock.{NewBlock}
+use Rattle.kfs_image.specs.declared.tier.tiers.NewBlock.{NewBlock}
 use Rattle.kfs_image.specs.Tier.Tiers.{TiersShown, with_blocks}
 use Rattle.kfs_image.specs.Tier.Unused.{FreeIsUnused}
 use Rattle.kfs_image.specs.Blocks.Moves.{BlockEdit}

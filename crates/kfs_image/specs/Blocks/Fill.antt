@@ -5,7 +5,7 @@ use Rattle.kfs_model.specs.Limits.{block_size}
 use Rattle.kfs_model.specs.Table.{insert, retain, changed}
 use Rattle.kfs_model.specs.Placement.{Place, Placement, tier_size, IsLaid}
 use Rattle.kfs_model.specs.Device.Device.{Devices}
-use Rattle.kfs_image.specs.declared.tier.change.NewBlock.{NewBlock}
+use Rattle.kfs_image.specs.declared.tier.tiers.NewBlock.{NewBlock}
 use Rattle.kfs_image.specs.declared.blocks.fill.BlockRun.{BlockRun}
 use Rattle.kfs_image.specs.declared.blocks.fill.BlockRow.{BlockRow}
 use Rattle.kfs_image.specs.Blocks.Blocks.{BlocksShown}

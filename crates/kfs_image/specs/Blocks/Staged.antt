@@ -2,7 +2,7 @@
 use Rattle.std.specs.Prelude.{◌≡◌, All, List, vec_len}
 use Rattle.kfs_model.specs.Limits.{block_size}
 use Rattle.kfs_model.specs.Placement.{Place}
-use Rattle.kfs_image.specs.declared.tier.change.NewBlock.{NewBlock}
+use Rattle.kfs_image.specs.declared.tier.tiers.NewBlock.{NewBlock}
 use Rattle.kfs_image.specs.Tier.Tiers.{IsInTier, CanMove, TiersShown}
 
 -- the tiers can make the change

@@ -5,7 +5,7 @@ use Rattle.kfs_model.specs.Table.{empty, insert}
 use Rattle.kfs_model.specs.Placement.{TierSizes, Place, tier_size}
 use Rattle.kfs_model.specs.Device.Device.{Devices}
 use Rattle.kfs_image.specs.Tier.Places.{is_free_in}
-use Rattle.kfs_image.specs.declared.tier.change.NewBlock.{NewBlock}
+use Rattle.kfs_image.specs.declared.tier.tiers.NewBlock.{NewBlock}
 
 -- the tiers' sizes, for each tier a list that says of each place whether it is free, and the written
 -- blocks

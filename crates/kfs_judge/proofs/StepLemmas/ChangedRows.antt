@@ -20,7 +20,7 @@ use Rattle.kfs_judge.specs.Step.Nets.{AreNamesOf, AreNodesOf}
 use Rattle.kfs_judge.specs.Draft.Overlay.{over}
 use Rattle.kfs_judge.specs.declared.draft.draft.Draft.{Draft}
 use Rattle.kfs_types.specs.Views.{header_of}
-use Rattle.kfs_types.specs.declared.header.Header.{Header as CodeHeader}
+use Rattle.kfs_types.specs.declared.entry.Header.{Header as CodeHeader}
 use Rattle.kfs_types.specs.declared.plan.NameRow.{NameRow as CodeNameRow}
 use Rattle.kfs_types.specs.declared.plan.NodeRow.{NodeRow as CodeNodeRow}
 use Rattle.kfs_model.specs.Tree.{name_order}

@@ -15,7 +15,7 @@ use Rattle.kfs_model.specs.Sight.{Sight, ClientSight, Cell, NameIn, HeaderOf}
 use Rattle.kfs_model.specs.Check.{EntryContext, is_some_and}
 use Rattle.kfs_model.specs.Limits.{link_limit}
 use Rattle.kfs_types.specs.Views.{header_of}
-use Rattle.kfs_types.specs.declared.header.Header.{Header as CodeHeader}
+use Rattle.kfs_types.specs.declared.entry.Header.{Header as CodeHeader}
 use Rattle.kfs_judge.specs.declared.draft.draft.Draft.{Draft}
 
 module _ {A : Type 0} where

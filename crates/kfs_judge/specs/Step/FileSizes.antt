@@ -5,7 +5,7 @@ use Rattle.kfs_model.specs.Entry.{Entry}
 use Rattle.kfs_model.specs.Sight.{Sight}
 use Rattle.kfs_judge.specs.declared.draft.draft.Draft.{Draft}
 use Rattle.kfs_judge.specs.Draft.Overlay.{over, has_header}
-use Rattle.kfs_pieces.specs.declared.sizes.FileSize.{FileSize}
+use Rattle.kfs_pieces.specs.declared.log.FileSize.{FileSize}
 use Rattle.kfs_pieces.specs.Sizes.{AreSizesBetween, reaches_file}
 
 module _ {A : Type 0} (draft : Draft A) where

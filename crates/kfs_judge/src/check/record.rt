@@ -6,12 +6,12 @@ ghost use Rattle.kfs_judge.specs.Check.Kept.{keeps_reads};
 ghost use Rattle.kfs_judge.specs.Check.SameReads.{same_read};
 
 use crate::check::reads::{Read, ReadAnswer};
-use crate::check::seen::SeenRead;
 use indexmap::IndexMap;
 use kfs_model::GhostList;
 use std::alloc::{AllocError, Allocator};
 use std::hash::{BuildHasherDefault, FoldHasher};
 use std::marker::Model;
+use std::snapshot::Snapshot;
 
 /// What a judgement keeps of its view.
 #[derive(Clone, Copy, Debug, PartialEq, Eq)]
@@ -124,4 +124,32 @@ fn record<A: Allocator + Copy>(
 {
     reads.insert(read, answer)?;
     Ok(())
+}
+
+/// A read with its answer. It takes no memory.
+#[derive(Drop)]
+pub(crate) struct SeenRead {
+    read: Snapshot<Read>,
+    answer: Snapshot<ReadAnswer>,
+}
+
+impl Model for SeenRead {
+    ghost use Rattle.kfs_judge.specs.declared.check.reads.Read.{Read as ReadShown};
+    ghost use Rattle.kfs_judge.specs.declared.check.reads.ReadAnswer.{ReadAnswer as AnswerShown};
+
+    ghost Value = { ReadShown × AnswerShown };
+
+    ghost view = { λ seen. (seen.read.value, seen.answer.value) };
+}
+
+impl SeenRead {
+    /// This read with this answer. At run time this is nothing.
+    pub(crate) fn of(read: &Read, answer: &ReadAnswer) -> SeenRead
+        ensures { result ≡ (read.now, answer.now) }
+    {
+        SeenRead {
+            read: Snapshot::of(read),
+            answer: Snapshot::of(answer),
+        }
+    }
 }

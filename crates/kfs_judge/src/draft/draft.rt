@@ -1,18 +1,16 @@
 //! What the entries of a log have changed so far, over the state that the log began with.
-
-ghost use Rattle.std.specs.Prelude.{◌≡◌, ℕ, ◌+◌, ◌==◌, ◌||◌, pos, negsuc, ◌+ℤ◌, ◌≤ℤ◌, FitsSigned, unwrap_or, OnOk, IsTrue, false, List, [], Contains};
+ghost use Rattle.std.specs.Prelude.{◌≡◌, ℕ, ◌+◌, ◌==◌, ◌||◌, pos, negsuc, ◌+ℤ◌, ◌≤ℤ◌, FitsSigned, unwrap_or, OnOk, IsTrue, false, List, [], Contains, ◌<◌, None, option_and_then};
 ghost use Rattle.std.specs.Option.{option_map, is_some};
 ghost use Rattle.std.specs.List.{list_any};
 ghost use Rattle.std.specs.Int.{w32};
 ghost use Rattle.kfs_types.specs.Views.{header_of, kind_of};
 ghost use Rattle.kfs_model.specs.Sight.{Sight, Cell, HeaderOf, NameIn};
 ghost use Rattle.std.specs.Ordering.{nat_cmp};
-ghost use Rattle.std.specs.BTreeMap.{get};
+ghost use Rattle.std.specs.BTreeMap.{get, IsEmpty};
 ghost use Rattle.kfs_model.specs.Tree.{name_order};
-ghost use Rattle.kfs_judge.specs.Draft.Overlay.{has_created, has_header, over, KeepsCreated, KeepsHeaders, KeepsShifts, ShiftsBy, ShiftsFurther, HasRoom, PutsAt, ChangesAreAmong, WritesNameAndHeader, WritesTwoNames, shift_of};
-ghost use Rattle.kfs_judge.specs.Draft.Overlay.{with_header, with_target, with_more_names, with_parent, with_directory_in, with_node, with_name, without_name, with_name_moved, shift_of};
+ghost use Rattle.kfs_judge.specs.Draft.Overlay.{has_created, has_header, over, KeepsCreated, KeepsHeaders, KeepsShifts, ShiftsBy, ShiftsFurther, HasRoom, PutsAt, ChangesAreAmong, WritesNameAndHeader, WritesTwoNames, shift_of, with_header, with_target, with_more_names, with_parent, with_directory_in, with_node, with_name, without_name, with_name_moved, IsLinked};
+ghost use Rattle.kfs_model.specs.{SeenAfter as seen};
 
-use crate::draft::parents::Parents;
 use kfs_types::{Header, Kind, Name};
 use std::alloc::{AllocError, Allocator};
 use std::collections::{BTreeMap, BTreeSet};
@@ -287,5 +285,99 @@ impl<A: Allocator> Draft<A> {
         ensures { result.now ≡ self.now.names }
     {
         &self.names
+    }
+}
+
+/// The header after a name is lost: one link fewer. None where the node goes, as a directory does, and
+/// a file with its last name.
+pub fn unlinked(header: Option<Header>) -> Option<Header>
+    ensures { option_map header_of result ≡ option_and_then seen.unlinked (option_map header_of header) }
+{
+    match header {
+        Some(header) => without_link(header),
+        None => None,
+    }
+}
+
+fn without_link(header: Header) -> Option<Header>
+    ensures { option_map header_of result ≡ seen.unlinked (header_of header) }
+{
+    match header.kind {
+        Kind::File if header.links > 1 => Some(Header {
+            links: header.links - 1,
+            ..header
+        }),
+        _ => None,
+    }
+}
+
+/// The header after a name is gained: one link more.
+pub fn linked(header: Option<Header>) -> Option<Header>
+    ensures linked { IsLinked (option_map header_of header) (option_map header_of result) }
+    ensures none { header ≡ None → result ≡ None }
+{
+    match header {
+        Some(header) => Some(with_link(header)),
+        None => None,
+    }
+}
+
+fn with_link(header: Header) -> Header
+    ensures { header.links < 65535 → header_of result ≡ record (header_of header) { links = header.links + 1 } }
+{
+    Header {
+        links: header.links.saturating_add(1),
+        ..header
+    }
+}
+
+/// The parent of each directory that was written, by number.
+#[derive(Drop)]
+pub struct Parents<A: Allocator> {
+    map: BTreeMap<u32, Option<u32>, A>,
+    /// The numbers in the map, in the order in which each was first written.
+    written: Vec<u32, A>,
+    ghost exact: { (n : ℕ) → list_any (λ m. m == n) written.items ≡ is_some (get nat_cmp map n) },
+}
+
+impl<A: Allocator + Copy> Parents<A> {
+    ghost use Rattle.kfs_judge.specs.Draft.Overlay.{PutsAt};
+
+    /// No parent is written. Takes no memory.
+    pub fn new(alloc: A) -> Parents<A>
+        ensures { IsEmpty result.map }
+    {
+        Parents {
+            map: BTreeMap::new(alloc),
+            written: Vec::new(alloc),
+        }
+    }
+
+    /// The directory's parent is this one, or none. `Err` where memory is refused; nothing is written then.
+    pub fn set(&mut self, number: u32, parent: Option<u32>) -> Result<(), AllocError>
+        ensures { OnOk result (PutsAt nat_cmp self.old.map self.new.map number parent) }
+    {
+        self.written.reserve(1)?;
+        let before = self.map.insert(number, parent)?;
+        if before.is_none() {
+            self.written.push(number)?;
+        }
+        Ok(())
+    }
+}
+
+impl<A: Allocator> Parents<A> {
+    /// The directory's parent, if it was written. An inner none means that it has none.
+    pub fn get(&self, number: u32) -> Option<Option<u32>>
+        ensures { result ≡ get nat_cmp self.now.map number }
+    {
+        self.map.get(&number).copied()
+    }
+
+    /// The numbers whose parent was written, in the order in which each was first written.
+    pub fn written(&self) -> &[u32]
+        ensures { (n : ℕ) → list_any (λ m. m == n) result.now ≡ is_some (get nat_cmp self.now.map n) }
+    {
+        self.written.as_slice()
     }
 }

@@ -13,8 +13,7 @@ ghost use Rattle.kfs_judge.specs.Check.View.{client_sight_in};
 
 use crate::check::{Reads, Reason, Recorder, View};
 use crate::draft::Draft;
-use crate::step::net::{name_rows, node_rows};
-use crate::step::sizes::file_sizes;
+use crate::step::net::{file_sizes, name_rows, node_rows};
 use kfs_entry::{Entry, Span, entry_table};
 use kfs_image_nodes::Net;
 use kfs_mode::Client;

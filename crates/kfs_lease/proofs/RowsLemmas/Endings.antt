@@ -13,10 +13,10 @@ use Rattle.kfs_map_chunks.specs.Starts.{is_from, IsNextEntry}
 use Rattle.kfs_map_chunks.specs.Tables.{table}
 use Rattle.kfs_map_chunks.proofs.Tables.{get-table}
 use Rattle.kfs_map_chunks.proofs.Overlays.{overlaid_none}
-use Rattle.kfs_lease.specs.declared.rows.row_end.RowEnd.{RowEnd}
+use Rattle.kfs_lease.specs.declared.rows.rows.RowEnd.{RowEnd}
 use Rattle.kfs_lease.specs.declared.rows.rows.Lease.{Lease}
 use Rattle.kfs_lease.specs.declared.rows.rows.LeaseRows.{LeaseRows}
-use Rattle.kfs_lease.specs.declared.rows.ending.Ending.{Ending}
+use Rattle.kfs_lease.specs.declared.rows.rows.Ending.{Ending}
 use Rattle.kfs_lease.specs.Rows.Ending.{AreLater, AreLeft, AreListed, HasPart, NoneOn, rows_left, ends_left, start_on}
 use Rattle.kfs_lease.specs.Rows.Rows.{by_node, by_end, row_end, ends_at, row_table, end_table, shown, without_node, AreEndsOf, EndsAreExact, RowTable, EndTable}
 use Rattle.kfs_lease.proofs.RowsLemmas.KeyOrder.{first_part, from_first, from_node}

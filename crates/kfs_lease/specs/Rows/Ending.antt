@@ -7,8 +7,8 @@ use Rattle.std.specs.declared.ops.Bound.TheVariants.{Included, Excluded}
 use Rattle.kfs_model.specs.Table.{Order, Table, get, changed}
 use Rattle.kfs_map_chunks.specs.Overlays.{overlaid}
 use Rattle.kfs_map_chunks.specs.Starts.{is_from}
-use Rattle.kfs_lease.specs.declared.rows.ending.Ending.{Ending}
-use Rattle.kfs_lease.specs.declared.rows.row_end.RowEnd.{RowEnd}
+use Rattle.kfs_lease.specs.declared.rows.rows.Ending.{Ending}
+use Rattle.kfs_lease.specs.declared.rows.rows.RowEnd.{RowEnd}
 use Rattle.kfs_lease.specs.declared.rows.rows.Lease.{Lease}
 use Rattle.kfs_lease.specs.declared.rows.rows.LeaseRows.{LeaseRows}
 use Rattle.kfs_lease.specs.Rows.Rows.{by_node, by_end, row_end, RowTable, EndTable, AreEndsOf, row_table, end_table}

@@ -6,9 +6,7 @@ ghost use Rattle.kfs_map_chunks.specs.Tables.{table_after};
 ghost use Rattle.kfs_lease.specs.Rows.Ending.{AreListed, rows_left};
 ghost use Rattle.kfs_lease.specs.Rows.Rows.{by_node, by_end, lease_of, row_table, end_table, table_in, AreEndsOf, EndsAreExact};
 
-use crate::rows::ending::Ending;
-use crate::rows::row_end::RowEnd;
-use crate::rows::rows::{Lease, LeaseRows};
+use crate::rows::rows::{Ending, Lease, LeaseRows, RowEnd};
 use kfs_map_chunks::{Chunks, KeyEdit, key_edits};
 use kfs_types::{Change, Nothing};
 use std::alloc::{AllocError, Allocator};

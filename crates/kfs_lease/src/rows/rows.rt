@@ -1,14 +1,13 @@
 //! The rows of leases, kept by node and client, and their ends, kept in order.
-ghost use Rattle.std.specs.Prelude.{◌≡◌, ◌==◌, ◌&&◌, ◌||◌, IfOk, IfErr, OnOk, OnErr, Some, None, option_map, is_some, false, cond};
+ghost use Rattle.std.specs.Prelude.{◌≡◌, ◌==◌, ◌&&◌, ◌||◌, IfOk, IfErr, OnOk, OnErr, Some, None, option_map, is_some, false, cond, refl, []};
 ghost use Rattle.kfs_model.specs.Table.{empty, get, insert, remove};
-ghost use Rattle.kfs_model.specs.Lease as model;
-ghost use Rattle.kfs_lease.specs.Rows.Rows.{kind_of, lease_of, bars, conflicting, row_end, row_table, table_in, without_nodes, EndsAreExact};
+ghost use Rattle.kfs_model.specs.{Lease as model};
+ghost use Rattle.kfs_lease.specs.Rows.Rows.{kind_of, lease_of, bars, conflicting, row_end, row_table, table_in, without_nodes, EndsAreExact, by_end};
+ghost use Rattle.kfs_lease.specs.Rows.Ending.{AddsRow, AddsEnd};
 
 use crate::rows::change::EndEdit;
-use crate::rows::ending::Ending;
-use crate::rows::row_end::RowEnd;
 use crate::rows::walk::next_on;
-use kfs_map_chunks::{Chunks, KeyEdit};
+use kfs_map_chunks::{Chunks, Key, KeyEdit, Overlay};
 use kfs_types::{Change, Nothing};
 use std::alloc::{AllocError, Allocator};
 
@@ -258,5 +257,56 @@ fn unlisted(end: u64, key: (u32, u32)) -> EndEdit
     KeyEdit {
         key: RowEnd { end, key },
         value: None,
+    }
+}
+
+/// The end of a lease, with its row's key. Ends are ordered by their moment, and then by the row's key.
+#[derive(Clone, Copy, Debug, PartialEq, Eq, PartialOrd, Ord)]
+pub struct RowEnd {
+    /// The moment at which the lease ends.
+    pub end: u64,
+    /// The number of the lease's node, and that of its client.
+    pub key: (u32, u32),
+}
+
+impl Key for RowEnd {
+    ghost order = { by_end };
+
+    ghost compared = { refl };
+
+    fn most_entries() -> usize {
+        256
+    }
+}
+
+/// Rows that are to go, and their ends.
+#[derive(Drop)]
+pub(crate) struct Ending<A: Allocator> {
+    /// The keys of the rows, all without a value.
+    pub(crate) rows: Overlay<(u32, u32), Lease, A>,
+    /// Their ends, without a value.
+    pub(crate) ends: Overlay<RowEnd, (), A>,
+}
+
+impl<A: Allocator + Copy> Ending<A> {
+    /// No row is to go. Takes no memory.
+    pub(crate) fn none(alloc: A) -> Ending<A>
+        ensures rows { result.rows.latest.entries ≡ [] }
+        ensures ends { result.ends.latest.entries ≡ [] }
+    {
+        Ending {
+            rows: Overlay::new(alloc),
+            ends: Overlay::new(alloc),
+        }
+    }
+
+    /// Adds the row that has this end.
+    pub(crate) fn add(&mut self, end: RowEnd) -> Result<(), AllocError>
+        ensures rows { OnOk result (AddsRow end.key self.old self.new) }
+        ensures ends { OnOk result (AddsEnd end self.old self.new) }
+    {
+        self.rows.set(end.key, None)?;
+        self.ends.set(end, None)?;
+        Ok(())
     }
 }

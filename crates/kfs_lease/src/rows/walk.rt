@@ -5,9 +5,7 @@ ghost use Rattle.kfs_map_chunks.specs.Starts.{IsNextEntry};
 ghost use Rattle.kfs_lease.specs.Rows.Ending.{rows_left, start_on, AreLater, AreListed, NoneOn};
 ghost use Rattle.kfs_lease.specs.Rows.Rows.{by_node, by_end, shown, without_node, EndsAreExact};
 
-use crate::rows::ending::Ending;
-use crate::rows::row_end::RowEnd;
-use crate::rows::rows::{Lease, LeaseRows};
+use crate::rows::rows::{Ending, Lease, LeaseRows, RowEnd};
 use kfs_map_chunks::Chunks;
 use std::alloc::{AllocError, Allocator};
 use std::ops::Bound;

@@ -10,7 +10,7 @@ use Rattle.kfs_model.specs.Machine as machine
 use Rattle.kfs_model.specs.Machine.{opening}
 use Rattle.kfs_mode.specs.declared.client.ClientFault.{ClientFault}
 use Rattle.kfs_types.specs.Views.{header_of}
-use Rattle.kfs_types.specs.declared.header.Header.{Header as CodeHeader}
+use Rattle.kfs_types.specs.declared.entry.Header.{Header as CodeHeader}
 use Rattle.kfs_model.specs.Device.ShownTree.{DeviceImage, shown_tree}
 use Rattle.kfs_image.specs.Image.{fresh_image}
 use Rattle.kfs_desk.specs.Machine.{Desk, IsActed, IsAnswered, opened_at}

@@ -1,8 +1,8 @@
 use Rattle.std.proofs.Common.{◌≡◌, ◌<◌, ◌≤◌, [], ◌∷◌, ◌++◌, All, None, slice_index_or, map, sym, ap, subst, arith}
 use Rattle.std.proofs.lemmas.List.Elements.{All-nil, All-push, All-weaker}
-use Rattle.kfs_types.specs.declared.header.Header.{Header}
+use Rattle.kfs_types.specs.declared.entry.Header.{Header}
 use Rattle.kfs_types.specs.declared.plan.NodeRow.{NodeRow}
-use Rattle.kfs_map_pages.specs.declared.edit.NumberEdit.{NumberEdit}
+use Rattle.kfs_map_pages.specs.declared.change.NumberEdit.{NumberEdit}
 use Rattle.kfs_map_pages.specs.Edits.{AreEdits}
 use Rattle.kfs_map_chunks.proofs.InOrder.{ascends_further, none_ascends, one_made, all_made}
 use Rattle.kfs_image_nodes.specs.NodeEdits.{node_edit, IsNumber}

@@ -3,7 +3,7 @@ use Rattle.std.proofs.lemmas.List.{take-append-drop, length-append, with_items_i
 use Rattle.std.specs.Vec.{with_items}
 use Rattle.std.specs.declared.ops.Bound.TheVariants.{Included}
 use Rattle.std.specs.FinMap.Entries.{is_sorted}
-use Rattle.kfs_map_chunks.specs.declared.edit.KeyEdit.{KeyEdit}
+use Rattle.kfs_map_chunks.specs.declared.entries.KeyEdit.{KeyEdit}
 use Rattle.kfs_map_chunks.specs.Edits.{entered_all, KeysAscend}
 use Rattle.kfs_map_chunks.specs.Buffer.{Buffer}
 use Rattle.kfs_map_chunks.specs.Joined.{joined, first_chunk_from, were_made, if_made, IsSized, IsNotEmpty, AreSized, AreFilled}

@@ -4,8 +4,8 @@ use Rattle.std.specs.Prelude.{OnOk, OnErr}
 use Rattle.std.specs.Result.{is_ok}
 use Rattle.std.specs.Vec.{with_items}
 use Rattle.kfs_model.specs.Table.{get}
-use Rattle.kfs_map_pages.specs.declared.edit.NumberEdit.{NumberEdit}
-use Rattle.kfs_map_pages.specs.declared.group.Group.{Group}
+use Rattle.kfs_map_pages.specs.declared.change.NumberEdit.{NumberEdit}
+use Rattle.kfs_map_pages.specs.declared.page.Group.{Group}
 use Rattle.kfs_map_pages.specs.Values.{Sheet}
 use Rattle.kfs_map_pages.specs.Edits.{page_of, edited, Ascends, EditsAreWithin, IsOfPage}
 use Rattle.kfs_map_pages.specs.Groups.{held, all_held, pages_of, flat, GroupsAreWhole}

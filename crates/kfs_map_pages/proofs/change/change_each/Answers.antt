@@ -1,6 +1,6 @@
 use Rattle.std.proofs.Common.{◌≡◌, ◌∙◌, ◌+◌, ◌++◌, take, ap, sym, subst, arith, length-drop}
 use Rattle.std.proofs.lemmas.List.{take-append-drop, get_or-drop}
-use Rattle.kfs_map_pages.specs.declared.edit.NumberEdit.{NumberEdit}
+use Rattle.kfs_map_pages.specs.declared.change.NumberEdit.{NumberEdit}
 use Rattle.kfs_map_pages.specs.Edits.{page_of, edited, Ascends, EditsAreWithin}
 use Rattle.kfs_map_pages.specs.Groups.{all_held, flat}
 use Rattle.kfs_map_pages.specs.Shown.{shown}

@@ -9,7 +9,7 @@ use Rattle.kfs_model.specs.Looked.{looked_cells}
 use Rattle.kfs_entry.specs.Answers.{log_of}
 use Rattle.kfs_types.specs.Views.{entry_of}
 use Rattle.kfs_plan.specs.declared.submission.Fault.TheVariants as faults
-use Rattle.kfs_plan.specs.declared.spelling.Spelled.TheVariants as readings
+use Rattle.kfs_plan.specs.declared.judgement.Spelled.TheVariants as readings
 use Rattle.kfs_plan.specs.Judging.{submission_with, AreSpelled, IsEarly, IsVerdict, IsReading, RefusesByFault, StopsByFault}
 use Rattle.kfs_judge.specs.Check.Reads.{Agrees, AreAmong}
 use Rattle.kfs_judge.specs.Check.View.{clients_of, client_sight_in}

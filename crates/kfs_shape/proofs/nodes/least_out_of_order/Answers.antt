@@ -1,6 +1,6 @@
 use Rattle.std.proofs.Common.{◌+◌, get_or, ap, ◌∙◌}
 use Rattle.std.specs.Option.{option_map}
-use Rattle.kfs_types.specs.declared.header.Kind.TheVariants as kinds
+use Rattle.kfs_types.specs.declared.entry.Kind.TheVariants as kinds
 use Rattle.kfs_model.specs.Device.Rules.{number_test}
 use Rattle.kfs_image.specs.declared.codec.raw.RawNode.{RawNode}
 use Rattle.kfs_image.specs.Codec.RawImages.{raw_node_of}

@@ -1,5 +1,5 @@
 use Rattle.std.proofs.Common.{◌++◌, map, ap, ◌∙◌}
-use Rattle.kfs_pieces.specs.declared.block_lists.BlockRange.{BlockRange}
+use Rattle.kfs_pieces.specs.declared.blocks.BlockRange.{BlockRange}
 use Rattle.kfs_desk.specs.Fill.FillOf.{run_of}
 use Rattle.kfs_desk.proofs.FillLemmas.Pushed.{pushed_one, pushed_all}
 use Rattle.kfs_desk.proofs.fill.fill.add_cleared.Goals as goal

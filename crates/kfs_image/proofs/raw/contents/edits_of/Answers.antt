@@ -1,5 +1,5 @@
 use Rattle.std.proofs.Common.{◌++◌, map, ap}
-use Rattle.kfs_types.specs.declared.header.Kind.TheVariants as kinds
+use Rattle.kfs_types.specs.declared.entry.Kind.TheVariants as kinds
 use Rattle.kfs_image.specs.declared.codec.raw.RawNode.{RawNode}
 use Rattle.kfs_map_chunks.proofs.InOrder.{one_made, all_made}
 use Rattle.kfs_image_nodes.proofs.NodeEdits.{rows_left}

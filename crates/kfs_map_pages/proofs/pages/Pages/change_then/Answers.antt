@@ -3,8 +3,8 @@ use Rattle.std.proofs.lemmas.List.{with_items_is}
 use Rattle.std.specs.Prelude.{OnOk, OnErr}
 use Rattle.std.specs.Vec.{with_items}
 use Rattle.std.specs.declared.sync.Arc.{Arc}
-use Rattle.kfs_map_pages.specs.declared.edit.NumberEdit.{NumberEdit}
-use Rattle.kfs_map_pages.specs.declared.group.Group.{Group}
+use Rattle.kfs_map_pages.specs.declared.change.NumberEdit.{NumberEdit}
+use Rattle.kfs_map_pages.specs.declared.page.Group.{Group}
 use Rattle.kfs_model.specs.Table.{Table, numbers}
 use Rattle.kfs_map_pages.specs.Edits.{page_of, rewritten, AreEdits, Ascends, EditsAreWithin}
 use Rattle.kfs_map_pages.specs.Groups.{all_held, flat, GroupsAreWhole}

@@ -5,7 +5,7 @@ use Rattle.std.specs.Fmt.{digits}
 use native.Mathlib.Decide.{ℕ_discrete}
 use Rattle.kfs_model.specs.Examples.Example.{computing}
 use Rattle.kfs_model.specs.Table.{changed}
-use Rattle.kfs_types.specs.declared.header.Kind.TheVariants.{Directory}
+use Rattle.kfs_types.specs.declared.entry.Kind.TheVariants.{Directory}
 use Rattle.kfs_desk.specs.declared.history.answers.Done.TheVariants.{Leased}
 use Rattle.kfs_program_text.specs.Cut.{cut}
 use Rattle.kfs_program_text.specs.Decimals.{decimals32}

@@ -2,7 +2,7 @@ use Rattle.std.proofs.Common.{◌≡◌, true, false, All, sym, ap, subst, ◌�
 use Rattle.std.proofs.lemmas.List.{with_items_is}
 use Rattle.std.specs.Prelude.{OnOk, OnErr}
 use Rattle.std.specs.Vec.{with_items}
-use Rattle.kfs_image.specs.declared.tier.change.NewBlock.{NewBlock}
+use Rattle.kfs_image.specs.declared.tier.tiers.NewBlock.{NewBlock}
 use Rattle.kfs_image.specs.Tier.Tiers.{IsInTier, TiersAreSized, changed, with_places}
 use Rattle.kfs_image.specs.Tier.TierViews.{free_of, CanTurnPlaces}
 use Rattle.kfs_image.proofs.TierLemmas.TierChanges.{can_turn, free_in_tier}

@@ -1,0 +1,10 @@
+use Rattle.std.proofs.Common.{◌++◌, map, sym, ap, subst, ◌∙◌}
+use Rattle.kfs_image.specs.Released.{AreReleased, behind}
+use Rattle.kfs_image.proofs.ReleasedBlocks.{released_are}
+use Rattle.kfs_image.proofs.read.released_blocks.Goals as goal
+
+pub returns : goal.returns
+returns g c =
+    subst (AreReleased c.args.nodes.now c.args.zero.now)
+    (sym (c.in_ok-extend_from_slice.ensures.items ∙ ap (λ runs. runs ++ c.args.zero.now) (c.in_ok-released.ensures ∙ ap (map behind) c.as_slice.ensures.value)))
+    (released_are c.args.nodes.now c.in_ok-edits.edits.items c.args.zero.now c.in_ok-edits.ensures.edits c.in_ok-edits.ensures.made)

@@ -1,9 +1,0 @@
-use Rattle.std.proofs.Common.{None}
-use Rattle.kfs_map_chunks.proofs.Overlays.{overlaid_set}
-use Rattle.kfs_lease.proofs.rows.ending.Ending.add.Goals as goal
-
-pub returns-clause-rows : goal.returns-clause-rows
-returns-clause-rows g c = λ t. overlaid_set t c.args.self.now.rows.latest c.set.new.self.latest c.args.end.key None c.in_ok-set.ensures
-
-pub returns-clause-ends : goal.returns-clause-ends
-returns-clause-ends g c = λ t. overlaid_set t c.args.self.now.ends.latest c.set-2.new.self.latest c.args.end None c.in_ok-set-2.ensures
