@@ -1,4 +1,5 @@
-//! The change of a landing: the image changes, and leases on nodes that go end.
+//! The change of a landing: the image changes, and leases on nodes that go end. A state of the machine,
+//! visible to contracts only.
 ghost use Rattle.std.specs.Prelude.{◌≡◌, ◌++◌, IfOk, OnErr, OnOk};
 ghost use Rattle.std.specs.List.{AllByRecursion};
 ghost use Rattle.kfs_model.specs.Plan.{PiecesAscend};

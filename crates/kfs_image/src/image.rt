@@ -1,4 +1,5 @@
-//! The image: nodes and names, which views share, and the blocks of files.
+//! The image: nodes and names, which views share, and the blocks of files. The headers of nodes, now
+//! and after rows.
 ghost use Rattle.std.specs.Prelude.{◌≡◌, ◌↔◌, ℕ, ◌+◌, ◌*◌, ◌<◌, ◌≤◌, true, List, length, slice_index, option_map, Err, Some, None, IsTrue, IfSome, IfNone, IfOk, IfErr, OnOk, OnErr, EachIndex};
 ghost use Rattle.kfs_model.specs.Table.{get, pairs, numbers};
 ghost use Rattle.kfs_model.specs.Tree.{target};

@@ -1,4 +1,4 @@
-//! Reading the bytes of files.
+//! Reading the bytes of files. The blocks that a landing unmaps.
 ghost use Rattle.std.specs.Prelude.{◌≡◌, ◌↔◌, Err, None, IsTrue, IfOk, OnErr, ◌-◌, ◌^◌, map, min, option_map};
 ghost use Rattle.kfs_model.specs.Table.{get};
 ghost use Rattle.kfs_model.specs.Sight.{is_directory};

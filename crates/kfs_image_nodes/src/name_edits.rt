@@ -1,5 +1,5 @@
 //! The changes that name rows make to the names, to the counts of directories' names, and to the
-//! uplinks.
+//! uplinks. An overlay of numbers as edits of a map in pages.
 ghost use Rattle.std.specs.Prelude.{◌≡◌, [], OnOk, IfOk, IfSome};
 ghost use Rattle.kfs_model.specs.Table.{get, changed};
 ghost use Rattle.kfs_model.specs.Tree.{name_order};

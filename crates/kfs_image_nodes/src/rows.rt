@@ -1,4 +1,5 @@
-//! The maps that hold the nodes and names of a shape, with counts of the names.
+//! The maps that hold the nodes and names of a shape, with counts of the names. A change that a caller
+//! lends, to be made together with a change of the tables.
 ghost use Rattle.std.specs.Prelude.{◌≡◌, ℕ, ◌≤◌, ◌<◌, T, All, true, option_map, IfOk, IfSome, IfNone, OnOk, OnErr, Some, None, List, [], ◌∷◌};
 ghost use Rattle.std.specs.FinMap.Entries.{is_sorted};
 ghost use Rattle.kfs_types.specs.Views.{header_of};

@@ -1,5 +1,6 @@
 //! A change of a map within its present chunks: memory is taken while the calls go inwards, values are
-//! set while they return.
+//! set while they return. A change of chunks that is made together with another one or not at all.
+//! Chunks after edits, as a new list. Parts after edits, as a new list.
 ghost use Rattle.std.specs.Prelude.{◌≡◌, ◌++◌, T, All, Ok, None, true, false, OnErr, ◌≤◌, [], IfOk, OnOk};
 ghost use Rattle.std.specs.FinMap.Entries.{is_sorted, below_all};
 ghost use Rattle.std.specs.declared.ops.Bound.TheVariants.{Included};

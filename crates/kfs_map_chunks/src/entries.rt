@@ -1,4 +1,6 @@
-//! The entries of a chunk: keys with their values in one block of memory, the keys ascending.
+//! The entries of a chunk: keys with their values in one block of memory, the keys ascending. What a
+//! type must offer to be the key of a map in chunks. Edits of a map in chunks. Entries after edits, as
+//! a new list, made in one walk over both.
 ghost use Rattle.std.specs.Prelude.{◌≡◌, ◌<◌, ◌≤◌, ◌+◌, [], T, true, is_some, IfSome, IfNone, IfOk, OnOk, length, take, drop, Some, None, Ok, Err, if◌then◌else◌, refl, ◌↔◌, ◌++◌, ◌∷◌, OnErr, IsTrue, IsFalse, All};
 ghost use Rattle.std.specs.Option.{option_copied};
 ghost use Rattle.std.specs.FinMap.Entries.{find, is_sorted};

@@ -1,4 +1,5 @@
-//! A part of a map: a list of chunks that copies share.
+//! A part of a map: a list of chunks that copies share. Finding the part, and in it the chunk, to which
+//! a key belongs.
 ghost use Rattle.std.specs.Prelude.{◌≡◌, ◌≤◌, T, IfSome, IfNone, IfOk, Some, None, length, ◌++◌, All, take, drop};
 ghost use Rattle.std.specs.Option.{option_copied};
 ghost use Rattle.std.specs.FinMap.Entries.{find, is_sorted, below_all};

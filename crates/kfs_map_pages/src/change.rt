@@ -1,5 +1,7 @@
 //! A change of pages together with another change: memory is taken while the calls go inwards, values
 //! are set while they return. Many edits are made a few at a time, in groups that the caller can drop.
+//! Edits of a map in pages, and the pages that their numbers belong to. Changes of several maps that
+//! are made together or not at all.
 ghost use Rattle.std.specs.Prelude.{◌≡◌, ℕ, ◌+◌, ◌*◌, ◌≤◌, ◌<◌, ◌++◌, [], ◌∷◌, All, IsSome, OnOk, OnErr, length, take, drop};
 ghost use Rattle.kfs_map_pages.specs.Edits.{edited, Ascends, EditsAreWithin, IsOfPage, page_of};
 ghost use Rattle.kfs_map_pages.specs.Groups.{held, all_held, pages_of, laid_out, GroupsAreWhole};

@@ -1,4 +1,6 @@
-//! How many blocks of a file its right pieces write.
+//! How many blocks of a file its right pieces write. The blocks of a file that its right pieces write,
+//! one by one, and the ranges of blocks that they make all zero. How many blocks right pieces write,
+//! over all files. Runs of blocks that a piece writes.
 ghost use Rattle.std.specs.Prelude.{◌≡◌, ◌+◌, ◌<◌, ◌≤◌, ◌^◌, ◌++◌, [], ◌∷◌, drop, map, if◌then◌else◌, IfOk};
 ghost use Rattle.std.specs.List.{AllByRecursion};
 ghost use Rattle.kfs_types.specs.Views.{piece_of};

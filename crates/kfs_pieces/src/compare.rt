@@ -1,4 +1,5 @@
-//! A plan's pieces compared with right ones, however either list is cut.
+//! A plan's pieces compared with right ones, however either list is cut. What is left of a list that is
+//! used up from its front.
 ghost use Rattle.std.specs.Prelude.{◌≡◌, ◌+◌, ◌<◌, ◌≤◌, ◌^◌, ℕ, List, drop, map, IfSome, MatchOption, Option, None, Some};
 ghost use Rattle.std.specs.Option.{option_map};
 ghost use Rattle.std.specs.List.{AllByRecursion};

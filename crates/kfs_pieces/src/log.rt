@@ -1,4 +1,5 @@
-//! Which bytes of files the entries of a log change.
+//! Which bytes of files the entries of a log change. The sizes of the files that a log changes. Right
+//! pieces of a log, made from byte ranges.
 ghost use Rattle.std.specs.Prelude.{◌≡◌, ◌≤◌, ◌+◌, ◌*◌, ◌++◌, IfOk, IfSome, length, map, ◌<◌, ℕ};
 ghost use Rattle.std.specs.List.{AllByRecursion};
 ghost use Rattle.kfs_model.specs.Limits.{entry_limit};

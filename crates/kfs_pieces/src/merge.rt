@@ -1,4 +1,5 @@
-//! Lists of byte ranges, one laid over another.
+//! Lists of byte ranges, one laid over another. A range of bytes of one file that one entry of a log
+//! made.
 ghost use Rattle.std.specs.Prelude.{◌≡◌, ◌≤◌, ◌*◌, ◌++◌, IfOk, ℕ, List, [], ◌∷◌};
 ghost use Rattle.kfs_pieces.specs.ByteRanges.{AreFrom, begins_before, cut_below, cut_from, ends_by, last_origin, merged, origin_at};
 ghost use Rattle.std.specs.List.{AllByRecursion};

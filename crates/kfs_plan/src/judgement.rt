@@ -1,4 +1,4 @@
-//! Judging a submission: its log and its plan, against a view.
+//! Judging a submission: its log and its plan, against a view. The bytes of a submission, decoded.
 ghost use Rattle.std.specs.Prelude.{◌≡◌, ◌≤◌, [], length, IfOk, IfErr, ◌≢◌};
 ghost use Rattle.std.specs.List.{AllByRecursion};
 ghost use Rattle.kfs_model.specs.Judgement.{State};

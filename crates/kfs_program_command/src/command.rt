@@ -1,4 +1,4 @@
-//! The commands of a session.
+//! The commands of a session. The numbers of workers. Each worker may hold one verdict.
 ghost use Rattle.std.specs.Prelude.{◌≡◌, ℕ, List, true, false, IfOk, IsErrOf, None, Some, option_map, ◌≤◌};
 ghost use Rattle.kfs_lease.specs.Rows.Rows.{kind_of};
 ghost use Rattle.kfs_plan.specs.Judging.{submission_of};

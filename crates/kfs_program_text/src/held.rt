@@ -1,4 +1,5 @@
-//! A writer in front of another one. It holds texts back, so that several are written at once.
+//! A writer in front of another one. It holds texts back, so that several are written at once. Writing
+//! whole texts.
 ghost use Rattle.std.specs.Prelude.{◌≡◌, ◌++◌, ℕ, List, [], IsFalse, IsTrue, OnOk, OnErr, ◌≤◌, length, take, IfOk};
 ghost use Rattle.std.specs.Io.KnownBytes.{Keeps, append_known, Appends, WriteAppends};
 ghost use Rattle.kfs_program_text.specs.HeldOutput.{HasGrown, contents_with};

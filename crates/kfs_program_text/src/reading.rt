@@ -1,4 +1,4 @@
-//! Reading one chunk at a time.
+//! Reading one chunk at a time. Cutting bytes into lines.
 ghost use Rattle.std.specs.Prelude.{◌≡◌, ◌≤◌, ◌<◌, length, IfOk, IfSome, [], ◌∷◌, MatchOption};
 ghost use Rattle.std.specs.Io.KnownBytes.{IsAtEnd};
 ghost use Rattle.kfs_program_text.specs.Streams.{IsChunkRead};

@@ -1,4 +1,5 @@
-//! The words of a command line: names, decimal numbers, hexadecimal text.
+//! The words of a command line: names, decimal numbers, hexadecimal text. Where a byte stands. Bytes in
+//! hexadecimal.
 ghost use Rattle.std.specs.Prelude.{◌≡◌, ◌==◌, ◌≤◌, [], ◌∷◌, ◌++◌, Some, option_map, position, take, IfOk, ◌*◌, ℕ, length, Ok, IsErr, IsTrue, IsFalse, MatchOption};
 ghost use Rattle.std.specs.List.{list_all};
 ghost use Rattle.kfs_program_text.specs.Cut.{cut, space};

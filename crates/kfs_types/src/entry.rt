@@ -1,4 +1,5 @@
-//! Update logs and their entries ("Strata", SOSP 2017).
+//! Update logs and their entries ("Strata", SOSP 2017). The header of a node: all that it shows apart
+//! from its bytes.
 use crate::name::Name;
 use crate::rows::RowList;
 use std::alloc::Allocator;

@@ -1,4 +1,4 @@
-//! The limits of the file system, each named once.
+//! The limits of the file system, each named once. The sizes of the tiers.
 ghost use Rattle.std.specs.Prelude.{◌≡◌, ◌≤◌, IsSome, IfSome, ◌↔◌};
 ghost use Rattle.kfs_model.specs.Limits.{tier_limit};
 ghost use Rattle.kfs_model.specs.Placement.{tier_size};

@@ -1,4 +1,4 @@
-//! A log's pieces, laid over the bytes of a file.
+//! A log's pieces, laid over the bytes of a file. The bytes of one block after a log.
 ghost use Rattle.std.specs.Prelude.{◌≡◌, ◌+◌, ◌≤◌, ◌∷◌, [], drop, length, slice_get, slice_index, EachIndex, IfSome, IsTrue, IfOk, vec_len};
 ghost use Rattle.kfs_types.specs.Views.{piece_of, source_of};
 ghost use Rattle.kfs_model.specs.Limits.{block_size};

@@ -1,4 +1,5 @@
-//! The fill of a landing: the blocks that it writes and those that it clears.
+//! The fill of a landing: the blocks that it writes and those that it clears. The change of a landing,
+//! bytes included. The places at which a landing puts blocks.
 ghost use Rattle.std.specs.Prelude.{◌≡◌, ◌++◌, IfOk, map, OnErr, OnOk, take};
 ghost use Rattle.std.specs.List.{AllByRecursion};
 ghost use Rattle.kfs_types.specs.Views.{piece_of};

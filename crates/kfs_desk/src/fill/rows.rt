@@ -1,4 +1,5 @@
-//! The blocks that a landing writes, with their places and bytes.
+//! The blocks that a landing writes, with their places and bytes. The pieces that matter for one block,
+//! among all pieces of a log.
 ghost use Rattle.std.specs.Prelude.{◌≡◌, IfOk, length, map};
 ghost use Rattle.kfs_model.specs.Plan.{PiecesAscend};
 ghost use Rattle.kfs_model.specs.Device.ShownTree.{shown_tree};

@@ -1,4 +1,5 @@
-//! The docket: rows that contracts see, and their number.
+//! The docket: rows that contracts see, and their number. A docket row, visible to contracts only; it
+//! takes no memory.
 ghost use Rattle.std.specs.Prelude.{◌≡◌, ◌+◌, ◌<◌, ◌^◌, [], ◌∷◌, ◌++◌, length};
 ghost use Rattle.kfs_model.specs.Machine.{Row};
 ghost use Rattle.std.specs.Borrow.{ftrue};

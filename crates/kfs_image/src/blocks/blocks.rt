@@ -1,4 +1,5 @@
-//! The blocks of files.
+//! The blocks of files. A change of the tiers that waits to be made together with the change of the
+//! blocks' places.
 ghost use Rattle.std.specs.Prelude.{◌≡◌, ℕ, ◌+◌, ◌*◌, ◌≤◌, true, None, length, slice_index, IfSome, IfNone, IfOk, OnOk, OnErr, EachIndex};
 ghost use Rattle.kfs_model.specs.Limits.{block_size};
 ghost use Rattle.kfs_model.specs.Placement.{tier_size, IsLaid};

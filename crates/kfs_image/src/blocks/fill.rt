@@ -1,4 +1,5 @@
-//! The blocks that a landing unmaps, and the blocks that it maps and writes.
+//! The blocks that a landing unmaps, and the blocks that it maps and writes. The places that become
+//! free, and those that become used, when blocks change places.
 ghost use Rattle.std.specs.Prelude.{◌≡◌, ◌∷◌, [], ◌≤◌, ◌<◌, map, IfSome, IfNone, IfOk, OnOk, ◌++◌};
 ghost use Rattle.kfs_model.specs.Table.{pairs, numbers};
 ghost use Rattle.kfs_map_chunks.specs.Edits.{KeysAscend};

@@ -1,4 +1,4 @@
-//! Which places of a tier are free.
+//! Which places of a tier are free. A place: a block of a tier's device.
 ghost use Rattle.std.specs.Prelude.{◌≡◌, ◌<◌, true, false, IsTrue, IfSome, IfNone, IfOk, length, replicate, slice_set};
 ghost use Rattle.kfs_image.specs.Tier.Places.{is_free_in, free_count, IsNextFree, AreUsedFrom};
 

@@ -1,4 +1,4 @@
-//! The three tiers of an image.
+//! The three tiers of an image. A change of several places and blocks of the tiers.
 ghost use Rattle.std.specs.Prelude.{◌≡◌, ◌+◌, ◌≤◌, All, length, vec_len, slice_index, IfSome, IfNone, IfOk, OnOk, OnErr, EachIndex, true, false, not};
 ghost use Rattle.kfs_model.specs.Limits.{block_size};
 ghost use Rattle.kfs_model.specs.Placement.{tier_size, Place as ModelPlace};

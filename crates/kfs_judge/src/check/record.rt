@@ -1,4 +1,5 @@
-//! The reads that a judgement has made, with their answers.
+//! The reads that a judgement has made, with their answers. A read with its answer, which contracts
+//! alone see: it has no bytes.
 ghost use Rattle.std.specs.Prelude.{◌≡◌, true, false, List, [], ◌∷◌, ◌++◌, None, Some, OnErr, OnOk, IfSome, IfNone, is_some};
 ghost use Rattle.std.specs.Map.{lookup};
 ghost use Rattle.indexmap.specs.IndexMap.{insert_entry};

@@ -1,4 +1,5 @@
-//! What the entries of a log have changed so far, over the state that the log began with.
+//! What the entries of a log have changed so far, over the state that the log began with. The header of
+//! a node that gains or loses a name. The parents that the entries of a log have written.
 ghost use Rattle.std.specs.Prelude.{◌≡◌, ℕ, ◌+◌, ◌==◌, ◌||◌, pos, negsuc, ◌+ℤ◌, ◌≤ℤ◌, FitsSigned, unwrap_or, OnOk, IsTrue, false, List, [], Contains, ◌<◌, None, option_and_then};
 ghost use Rattle.std.specs.Option.{option_map, is_some};
 ghost use Rattle.std.specs.List.{list_any};

@@ -1,4 +1,4 @@
-//! The net change of a log.
+//! The net change of a log. The sizes of the files that a log changes or reaches, before and after it.
 ghost use Rattle.std.specs.Prelude.{◌≡◌, [], IfOk, ℕ};
 ghost use Rattle.std.specs.Option.{option_map};
 ghost use Rattle.kfs_types.specs.Views.{header_of};

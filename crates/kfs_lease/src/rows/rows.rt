@@ -1,4 +1,5 @@
-//! The rows of leases, kept by node and client, and their ends, kept in order.
+//! The rows of leases, kept by node and client, and their ends, kept in order. The ends of leases, in
+//! their order. Rows that are to go, listed before the first of them goes.
 ghost use Rattle.std.specs.Prelude.{◌≡◌, ◌==◌, ◌&&◌, ◌||◌, IfOk, IfErr, OnOk, OnErr, Some, None, option_map, is_some, false, cond, refl, []};
 ghost use Rattle.kfs_model.specs.Table.{empty, get, insert, remove};
 ghost use Rattle.kfs_model.specs.{Lease as model};
