@@ -172,7 +172,7 @@ fn list_blocks<A: Allocator>(
 }
 
 /// The blocks that the right pieces of one file write, ascending. `size` is the file's size after the
-/// log. `Err` where memory is refused.
+/// log. `Err` where memory runs out.
 pub fn written_in<A: Allocator>(
     alloc: A,
     pieces: &[Piece],
@@ -243,7 +243,7 @@ fn zeros_start(piece: &Piece) -> u64
 }
 
 /// The ranges of blocks that the right pieces of one file make all zero, ascending, none empty. `size`
-/// is the file's size after the log. `Err` where memory is refused.
+/// is the file's size after the log. `Err` where memory runs out.
 pub fn cleared_in<A: Allocator>(
     alloc: A,
     pieces: &[Piece],
