@@ -72,7 +72,7 @@ fn act_of(call: Call) -> (Act<'static>, Done) {
     }
 }
 
-/// Whether the call for leases is answered in row 1, rather than that memory is refused; none where the
+/// Whether the call for leases is answered in row 1, rather than that memory runs out; none where the
 =======
 /// Whether a call for a lease is answered in row 1, rather than that memory runs out; none where the
 >>>>>>> 50e92ecf118fdb3773a535d1e8e8acaeb93b8ef4

@@ -1,5 +1,5 @@
 <<<<<<< HEAD
-//! Batches of one worker with each growth of memory refused in turn: four creations by client 7, and a
+//! Batches of one worker with each allocation failing in turn: four creations by client 7, and a
 //! Write by client 8, which is answered No. The last creation and the Write go together.
 =======
 //! Batches of one worker with each allocation failing in turn.
@@ -46,7 +46,7 @@ fn is_submission<A: Allocator>(submission: &Submission<A>, number: usize) -> boo
     }
 }
 
-/// Whether the submission with this number is left for want of memory, as it was handed in.
+/// Whether the submission with this number is left for lack of memory, as it was handed in.
 =======
 /// Whether the submission with this number is left for lack of memory, as it was handed in.
 >>>>>>> 50e92ecf118fdb3773a535d1e8e8acaeb93b8ef4
@@ -126,7 +126,7 @@ fn are_all<A: Allocator>(submissions: &[Submission<A>]) -> bool {
     }
 }
 
-/// All that came back; none where it isn't as it was handed in, or came back with no growth refused.
+/// All that came back; none where it isn't as it was handed in, or came back with no allocation failing.
 =======
 /// All that came back; none where it isn't as it was handed in, or came back with no allocation failing.
 >>>>>>> 50e92ecf118fdb3773a535d1e8e8acaeb93b8ef4
@@ -162,7 +162,7 @@ fn all_five<A: Allocator + Copy>(alloc: A) -> Option<Vec<Submission<A>, A>> {
     Some(submissions)
 }
 
-/// How a batch of the five ends, with the growth of this index refused.
+/// How a batch of the five ends, with the allocation of this index failing.
 =======
 /// How a batch of the four creations ends, with the allocation of this index failing.
 >>>>>>> 50e92ecf118fdb3773a535d1e8e8acaeb93b8ef4

@@ -64,7 +64,7 @@ fn second_of(ending: &Ending<Global>, reason: Reason) -> Option<bool> {
     }
 }
 
-/// Whether the Write of this client is refused for the reason, and was judged again. None also where the
+/// Whether the Write of this client is refused for the reason, and was revalidated. None also where the
 /// gate wasn't called for 0 and then for 1.
 fn is_judged_again<R: Threads + Wait + Sync>(
     rt: &R,
