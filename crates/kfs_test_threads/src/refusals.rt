@@ -55,7 +55,6 @@ fn viewed<A: Allocator + Copy, R: Wait>(
     }
 }
 
-<<<<<<< HEAD
 /// The call for a lease, or the tick, and what it has done then.
 fn act_of(call: Call) -> (Act<'static>, Done) {
     match call {
@@ -73,9 +72,6 @@ fn act_of(call: Call) -> (Act<'static>, Done) {
 }
 
 /// Whether the call for leases is answered in row 1, rather than that memory runs out; none where the
-=======
-/// Whether a call for a lease is answered in row 1, rather than that memory runs out; none where the
->>>>>>> 50e92ecf118fdb3773a535d1e8e8acaeb93b8ef4
 /// answer is another one.
 fn acted<A: Allocator + Copy, R: Wait>(
     rt: &R,
