@@ -1,9 +1,5 @@
-<<<<<<< HEAD
 //! Batches of one worker with each allocation failing in turn: four creations by client 7, and a
 //! Write by client 8, which is answered No. The last creation and the Write go together.
-=======
-//! Batches of one worker with each allocation failing in turn.
->>>>>>> 50e92ecf118fdb3773a535d1e8e8acaeb93b8ef4
 
 use crate::batch::{Ending, are_creates, batch, creates, is_create};
 use crate::files::{FILES_P, WRITE_LOG_OF_8, WRITE_PLAN};
@@ -26,7 +22,6 @@ const MANY: u64 = 1_000;
 /// A desk, and the submissions that it hasn't answered.
 type Rest<A> = (Desk<A>, Vec<Submission<A>, A>);
 
-<<<<<<< HEAD
 /// The number of the Write.
 const WRITE: usize = FILES_P.len();
 
@@ -47,9 +42,6 @@ fn is_submission<A: Allocator>(submission: &Submission<A>, number: usize) -> boo
 }
 
 /// Whether the submission with this number is left for lack of memory, as it was handed in.
-=======
-/// Whether the submission with this number is left for lack of memory, as it was handed in.
->>>>>>> 50e92ecf118fdb3773a535d1e8e8acaeb93b8ef4
 fn is_left<A: Allocator>(left: &[Left<A>], number: usize) -> bool {
     match left {
         [one] => {
@@ -117,7 +109,6 @@ fn rest_of_end<A: Allocator + Copy>(
     Some((desk, submissions))
 }
 
-<<<<<<< HEAD
 /// Whether these are all five, as they were handed in.
 fn are_all<A: Allocator>(submissions: &[Submission<A>]) -> bool {
     match submissions.split_last() {
@@ -127,9 +118,6 @@ fn are_all<A: Allocator>(submissions: &[Submission<A>]) -> bool {
 }
 
 /// All that came back; none where it isn't as it was handed in, or came back with no allocation failing.
-=======
-/// All that came back; none where it isn't as it was handed in, or came back with no allocation failing.
->>>>>>> 50e92ecf118fdb3773a535d1e8e8acaeb93b8ef4
 fn rest_of_back<A: Allocator + Copy>(
     desk: Desk<A>,
     submissions: Vec<Submission<A>, A>,
@@ -153,7 +141,6 @@ fn rest_of<A: Allocator + Copy>(alloc: A, ending: Ending<A>, has_refused: bool) 
     }
 }
 
-<<<<<<< HEAD
 /// The four creations and the Write.
 fn all_five<A: Allocator + Copy>(alloc: A) -> Option<Vec<Submission<A>, A>> {
     let mut submissions = creates(alloc, &FILES_P)?;
@@ -163,9 +150,6 @@ fn all_five<A: Allocator + Copy>(alloc: A) -> Option<Vec<Submission<A>, A>> {
 }
 
 /// How a batch of the five ends, with the allocation of this index failing.
-=======
-/// How a batch of the four creations ends, with the allocation of this index failing.
->>>>>>> 50e92ecf118fdb3773a535d1e8e8acaeb93b8ef4
 fn ended<'a, R: Threads + Wait + Sync>(
     rt: &R,
     heap: &'a Refusing<Global>,
