@@ -1,7 +1,7 @@
 //! A sorted map in chunks that copies share. The image keeps names and the places of blocks in such
 //! maps.
 //!
-//! It stands on `kfs_map_pages`; `kfs_image_nodes`, `kfs_image` and `kfs_lease` stand on it. Begin with
+//! It stands on `kfs_types`; `kfs_image_nodes`, `kfs_image` and `kfs_lease` stand on it. Begin with
 //! `chunks.rt`: a map is a list of parts, a part a list of 1 to 64 chunks, a chunk a list of 1 to 256
 //! sorted entries.
 #![tactic(auto)]

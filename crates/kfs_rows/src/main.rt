@@ -2,8 +2,7 @@
 //! exit status with what is expected, byte by byte; some of them in little memory, too, and with reads and
 //! writes that fail.
 //!
-//! It stands on `kfs_program` and `kfs_rows`. docs/EXAMPLES.md lists the scripts. Begin with
-//! `main`.
+//! It stands on `kfs_program`. docs/EXAMPLES.md tells what the scripts try. Begin with `main`.
 #![tactic(auto)]
 
 mod memory;
