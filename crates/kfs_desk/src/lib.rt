@@ -10,16 +10,21 @@ mod desk;
 mod docket;
 mod fill;
 mod first_fault;
+#[doc(hidden)]
 pub mod history;
 mod state_change;
 mod verdict;
 
 pub use back::BeginBack;
 pub use desk::Desk;
+pub use history::Docket;
+#[doc(hidden)]
+pub use history::OneRow;
 pub use history::answers::{
     Act, ActFault, ActReply, BeginFault, Done, Reply, SubmissionsBack, Unanswered,
 };
-pub use history::{Docket, OneRow};
 pub use kfs_migrate::{Move, MoveFault};
 pub use kfs_plan::{Back, Why};
-pub use verdict::{DeskView, WORKERS, none_of};
+#[doc(hidden)]
+pub use verdict::none_of;
+pub use verdict::{DeskView, WORKERS};

@@ -4,11 +4,13 @@
 //! `decode_log` and `encode_log`; `codec` has the fields and rows. docs/FORMATS.md has the formats.
 #![tactic(auto)]
 
+#[doc(hidden)]
 pub mod codec;
 mod decoding;
 mod encoding;
 mod fault;
 
+#[doc(hidden)]
 pub use codec::{RowsFault, SpelledRow, read_rows};
 pub use decoding::{decode_log, decode_plan};
 pub use encoding::{encode_log, encode_plan};

@@ -7,6 +7,7 @@
 #![tactic(auto)]
 
 mod blocks;
+#[doc(hidden)]
 pub mod codec;
 mod edit;
 mod encode;
@@ -14,6 +15,7 @@ mod image;
 mod net;
 mod raw;
 mod read;
+#[doc(hidden)]
 pub mod tier;
 
 pub use blocks::{BlockRow, BlockRun, Place};
@@ -31,6 +33,7 @@ pub use kfs_types::{
 #[doc(hidden)]
 pub use net::net_apply_moving;
 pub use net::{Fill, net_apply};
+#[doc(hidden)]
 pub use raw::raw_headers;
 pub use read::{ReadFault, read_file};
 pub use tier::Places;

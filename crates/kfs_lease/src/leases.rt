@@ -185,6 +185,7 @@ impl<A: Allocator + Copy> Leases<A> {
     /// Ends all leases on nodes that are removed, together with another change, or makes neither. All
     /// memory is taken first; then comes the other change, then the leases end. `Err` where memory is
     /// refused.
+    #[doc(hidden)]
     pub fn remove_nodes<T: Change>(
         &mut self,
         numbers: &[u32],

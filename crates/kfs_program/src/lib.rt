@@ -6,6 +6,7 @@
 #![tactic(auto)]
 
 mod answer;
+#[doc(hidden)]
 pub mod engine;
 mod images;
 mod input;

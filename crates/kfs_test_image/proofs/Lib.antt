@@ -1,3 +1,4 @@
 mod EachEdit
 mod LandedNets
 mod OneEdit
+mod TwoBlocks

@@ -101,11 +101,11 @@ fn of_each_kind<A: Allocator>(
     Ok(edits)
 }
 
-/// A block's bytes: each is one more than the one before it, and every hundredth is 128 again.
-fn block_bytes<A: Allocator>(alloc: A) -> Option<Vec<u8, A>> {
+/// A block's bytes: each is one more than the one before it, and every hundredth is the first again.
+pub fn block_bytes<A: Allocator>(alloc: A, first: u8) -> Option<Vec<u8, A>> {
     let mut bytes = Vec::new(alloc);
     for k in 0..4_096u16 {
-        bytes.push(128u8.wrapping_add((k % 100) as u8)).ok()?;
+        bytes.push(first.wrapping_add((k % 100) as u8)).ok()?;
     }
     Some(bytes)
 }
@@ -120,7 +120,7 @@ pub fn edits_of_each_kind<A: Allocator + Copy>(
     let place = Place { tier: 0, place: 2 };
     // Tells the prover that the image is lawful.
     let _shape = image.shape();
-    let bytes = block_bytes(alloc)?;
+    let bytes = block_bytes(alloc, 128)?;
     let is_free = is_place_free(image, place);
     if !is_free || block_count(header(image, 5)) <= 1 || bytes.len() != BLOCK_LEN {
         return None;
@@ -145,7 +145,7 @@ pub fn lay<A: Allocator + Copy>(
 
 /// Writes bytes that aren't zero at a place, a block's.
 pub fn write<A: Allocator + Copy>(alloc: A, image: &mut Image<A>, place: Place) -> Option<()> {
-    let edit = writing(image, place.tier, place.place, block_bytes(alloc)?)?;
+    let edit = writing(image, place.tier, place.place, block_bytes(alloc, 128)?)?;
     make(alloc, image, edit)
 }
 

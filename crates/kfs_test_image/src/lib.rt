@@ -17,6 +17,8 @@ mod encode;
 #[cfg(test)]
 mod encoded;
 #[cfg(test)]
+mod filled;
+#[cfg(test)]
 mod fits;
 #[cfg(test)]
 mod landed;

@@ -11,6 +11,7 @@ impl<A: Allocator + Copy> Leases<A> {
     /// The leases of one client alone, at moment 0: one for writing on each of these nodes, which ends
     /// at moment 1. A number may stand there twice, and needn't be a node's. `Err` where memory is
     /// refused.
+    #[doc(hidden)]
     pub fn of_writer(alloc: A, client: u32, numbers: &[u32]) -> Result<Leases<A>, AllocError>
         ensures { IfOk result (λ leases. leases ≡ leases_of_writer client numbers.now) }
     {
