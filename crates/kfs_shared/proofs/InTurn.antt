@@ -5,7 +5,7 @@ use Rattle.kfs_model.specs.Machine.{Row}
 use Rattle.kfs_desk.specs.Beginning.{Beginning}
 use Rattle.kfs_desk.specs.Docket.{position_of}
 use Rattle.kfs_plan.specs.Judged.{Judged}
-use Rattle.kfs_plan.specs.declared.answers.Reply.{Reply}
+use Rattle.kfs_desk.specs.declared.history.answers.Reply.{Reply}
 use Rattle.kfs_shared.specs.Calls.{HasAdded, IsLanding, IsUnanswered}
 use Rattle.kfs_shared.specs.Landings.{IsAnswered, HasLanded, HaveLanded}
 use Rattle.kfs_shared.specs.declared.want.SharedBack.{SharedBack}

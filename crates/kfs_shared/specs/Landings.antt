@@ -2,7 +2,7 @@
 use Rattle.std.specs.Prelude.{◌≡◌, ℕ, Bool, true, false, List, [], ◌∷◌, Option, Some, None, Result, Ok, Err}
 use Rattle.kfs_model.specs.Machine.{Row}
 use Rattle.kfs_plan.specs.Judged.{Judged}
-use Rattle.kfs_plan.specs.declared.answers.Reply.{Reply}
+use Rattle.kfs_desk.specs.declared.history.answers.Reply.{Reply}
 use Rattle.kfs_desk.specs.Beginning.{Beginning, beginning_of}
 use Rattle.kfs_desk.specs.Docket.{position_of}
 use Rattle.kfs_desk.specs.Machine.{Desk}

@@ -20,7 +20,7 @@ use std::sync::Wait;
 /// the same shared desk in one of them would wait for ever.
 pub trait Landing<Verdict, Back> {
     ghost use Rattle.std.specs.Prelude.{◌≡◌, ℕ, Option, Result, IfNone};
-    ghost use Rattle.kfs_plan.specs.declared.answers.Reply.{Reply};
+    ghost use Rattle.kfs_desk.specs.declared.history.answers.Reply.{Reply};
 
     /// The number by which its caller knows it.
     ghost number: { Self → ℕ };
