@@ -1,18 +1,18 @@
 pub mod BlockBytes
 pub mod BlockRows
 pub mod Chosen
-mod ChosenPlaces
-mod FileBlocks
-mod FilledLogs
+pub mod ChosenPlaces
+pub mod FileBlocks
+pub mod FilledLogs
 pub mod FreePlaces
-mod LandedBytes
+pub mod LandedBytes
 pub mod LandedImages
-mod LandedPlacement
-mod ListedBlocks
+pub mod LandedPlacement
+pub mod ListedBlocks
 pub mod Narrowed
-mod OldMarks
+pub mod OldMarks
 pub mod PartSteps
-mod Pushed
-mod PutRows
+pub mod Pushed
+pub mod PutRows
 pub mod PutPieces
-mod TreesOver
+pub mod TreesOver

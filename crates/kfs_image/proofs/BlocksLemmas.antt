@@ -1,6 +1,6 @@
-mod BlockWalks
-mod EditedPlaces
-mod FilledBlocks
-mod HeldBlocks
-mod ReadAcross
-mod ReadBytes
+pub mod BlockWalks
+pub mod EditedPlaces
+pub mod FilledBlocks
+pub mod HeldBlocks
+pub mod ReadAcross
+pub mod ReadBytes

@@ -1,7 +1,7 @@
 -- Lemmas on walks over tables, on runs and extents, and on what is written.
-mod Walks
-mod NodeWalks
-mod NameWalks
-mod Spelled
-mod Sizes
-mod RunExtents
+pub mod Walks
+pub mod NodeWalks
+pub mod NameWalks
+pub mod Spelled
+pub mod Sizes
+pub mod RunExtents

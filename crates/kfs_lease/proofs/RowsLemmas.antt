@@ -1,8 +1,8 @@
-mod Conflicts
-mod Edits
-mod Endings
-mod KeyOrder
-mod Least
-mod RowSteps
+pub mod Conflicts
+pub mod Edits
+pub mod Endings
+pub mod KeyOrder
+pub mod Least
+pub mod RowSteps
 pub mod RowTables
-mod Walks
+pub mod Walks
