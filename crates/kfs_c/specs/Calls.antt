@@ -22,7 +22,7 @@ use Rattle.kfs_c.specs.declared.numbers.ActNumbers.{ActNumbers}
 use Rattle.kfs_c.specs.declared.numbers.MoveRow.{MoveRow}
 use Rattle.kfs_c.specs.Told.{act_told}
 
--- some answer of the desk to the verdict's submission, as it is told; it was judged again exactly where
+-- some answer of the desk to the verdict's submission, as it is told; it was revalidated exactly where
 -- the verdict isn't current
 abbrev pub IsLanded : Judged Global → ReplyNumbers → (old new : Desk) → Type 0
 IsLanded judged told old new =

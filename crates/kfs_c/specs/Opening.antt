@@ -50,18 +50,18 @@ sizes_of first second third = record { first = first; second = second; third = t
 abbrev pub IsOpenedWith : TierSizes → (groups : List ℕ) → List ClientRow → (limit : ℕ) → Desk → Type 0
 IsOpenedWith sizes groups rows limit desk = IsBegunWith (fresh_image sizes) groups rows limit desk
 
--- with the image that the bytes spell, which breaks no rule
+-- with the image that the bytes decode to, which breaks no rule
 abbrev pub IsLoadedWith : (bytes groups : List ℕ) → List ClientRow → (limit : ℕ) → Desk → Type 0
 IsLoadedWith bytes groups rows limit desk =
     (raw : RawImage) × ImageAnswer bytes (Ok raw) × IsWellFormed raw × IsBegunWith (image_of raw) groups rows limit desk
 
--- the bytes spell an image that breaks no rule, and this is it
+-- the bytes decode to an image that breaks no rule, and this is it
 abbrev pub IsLoaded : (bytes : List ℕ) → DeviceImage → Type 0
 IsLoaded bytes image = (raw : RawImage) × ImageAnswer bytes (Ok raw) × IsWellFormed raw × (image ≡ image_of raw)
 
 -- ---- why no desk is opened
 
--- this is said of the fault, unless memory was refused
+-- this is said of the fault, unless memory ran out
 abbrev pub IsRefusedAs : (FaultNumbers → Type 0) → Unopened → Type 0
 IsRefusedAs Says NoMemory = Unit {0}
 IsRefusedAs Says (Refused told) = Says told
@@ -128,7 +128,7 @@ IsOpeningRefused groups rows told = AreRowsRefused groups rows told ⊎ AreClien
 abbrev pub IsNoImage : (bytes : List ℕ) → FaultNumbers → Type 0
 IsNoImage bytes told = (why : ImageFault) × OnImageRefusal (ImageAnswer bytes) why × (unread_as why ≡ Refused told)
 
--- they spell an image that breaks a rule: the least one, at the least number
+-- they decode to an image that breaks a rule: the least one, at the least number
 abbrev pub BreaksRule : (bytes : List ℕ) → FaultNumbers → Type 0
 BreaksRule bytes told =
     (raw : RawImage) × ImageAnswer bytes (Ok raw)

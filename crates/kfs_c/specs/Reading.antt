@@ -43,7 +43,7 @@ abbrev pub IsRead : (number start : ℕ) (old new : List ℕ) (count : ℕ) → 
 IsRead number start old new count desk =
     BeginsWith (take (length old) (drop start (content_of (get desk.state.tree.nodes number)))) old new count
 
--- the bytes of the desk's image, in their one spelling
+-- the bytes of the desk's image, in their one encoding
 abbrev pub saved_bytes : Desk → List ℕ
 saved_bytes desk = canonical_bytes desk.state.sizes desk.state.tree desk.state.placement
 

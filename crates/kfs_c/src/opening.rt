@@ -91,7 +91,7 @@ fn bad_sizes() -> FaultNumbers
     fault(OPEN_SIZES, 0, 0, 0)
 }
 
-/// Has the handle hold a desk with the image that the bytes spell, and these clients. As `kfs_open`
+/// Has the handle hold a desk with the image that the bytes decode to, and these clients. As `kfs_open`
 /// otherwise; `REFUSED` also with a fault of code `OPEN_IMAGE` for bytes that are no
 /// image, and of code `OPEN_RULE` for an image that breaks a rule.
 #[unsafe(no_mangle)]
@@ -133,7 +133,7 @@ fn tell(why: Unopened, fault: &mut FaultNumbers) -> u32
     }
 }
 
-/// The image that the bytes spell, if it breaks no rule.
+/// The image that the bytes decode to, if it breaks no rule.
 fn load(alloc: Global, bytes: &[u8]) -> Result<Image<Global>, Unopened>
     ensures loaded { IfOk result (IsLoaded bytes.now) }
     ensures refused { IfErr result (IsRefusedAs (IsImageRefused bytes.now)) }
@@ -145,7 +145,7 @@ fn load(alloc: Global, bytes: &[u8]) -> Result<Image<Global>, Unopened>
     }
 }
 
-/// The rows that the bytes spell.
+/// The rows that the bytes decode to.
 #[tactic(auto, using(crate::proofs::Refusals::unread))]
 fn read_rows(alloc: Global, bytes: &[u8]) -> Result<RawImage<Global>, Unopened>
     ensures read { IfOk result (λ raw. ImageAnswer bytes.now (Ok (raw_of raw))) }

@@ -114,7 +114,7 @@ few_moves sizes placement moves none = at (ltb move_limit (length moves)) refl n
     at true many is = cc
     at false few is = ltb-false move_limit (length moves) few
 
--- a refusal that was found is told, unless memory was refused
+-- a refusal that was found is told, unless memory ran out
 refused_told : (found : Option MoveFault) (fault : CodeMoveFault) → Refuses found fault → fault ≢ OutOfMemory → (refusal : MoveFault) × (call_fault_of (act_faults.Move fault) ≡ Some (MovesRefused refusal)) × (found ≡ Some refusal)
 refused_told found (NotMapped index) is other = (migration.NotMapped index, refl, is)
 refused_told found (OutOfRange index) is other = (migration.OutOfRange index, refl, is)

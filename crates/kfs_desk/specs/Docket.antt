@@ -9,7 +9,7 @@ position_of (Yes position rejudged need) = position
 position_of (No position rejudged fault) = position
 position_of (NoRoom position rejudged need free) = position
 
--- whether the answer says that the submission was judged again
+-- whether the answer says that the submission was revalidated
 abbrev pub is_rejudged : Reply → Bool
 is_rejudged (Yes position rejudged need) = rejudged
 is_rejudged (No position rejudged fault) = rejudged

@@ -107,7 +107,7 @@ pub record IsCurrent {A : Type 0} (s : State) (judged : Judged A) : Type 0 where
   pub row : row_of s.clients judged.submission.client ≡ judged.client
   pub agrees : Agrees judged.reads (client_sight_of s judged.submission.client)
 
--- the machine's reply for an answer of the code; none where the fault is that memory was refused
+-- the machine's reply for an answer of the code; none where the fault is that memory ran out
 abbrev pub reply_of : CodeReply → Option Reply
 reply_of (replies.Yes position rejudged need) = Some (Accepted need)
 reply_of (replies.No position rejudged fault) = option_map Refused (refusal_of fault)
@@ -136,7 +136,7 @@ AnswerMeans s submission (replies.Yes position rejudged need) t = IsDone s submi
 AnswerMeans s submission (replies.No position rejudged fault) t = t ≡ s
 AnswerMeans s submission (replies.NoRoom position rejudged need free) t = t ≡ s
 
--- the answer is such a step and means what it says; it says whether the submission was judged again;
+-- the answer is such a step and means what it says; it says whether the submission was revalidated;
 -- the docket has the step's row, at the answer's position
 pub record IsAnswered (old : Desk) (submission : Submission) (again : Bool) (answer : CodeReply) (new : Desk) : Type 0 where
   pub row : Row
@@ -148,7 +148,7 @@ pub record IsAnswered (old : Desk) (submission : Submission) (again : Bool) (ans
   pub opening : new.opening ≡ old.opening
   pub limit : new.limit ≡ old.limit
 
--- the reason why there is no answer is right: the docket is full, or it isn't and memory was refused
+-- the reason why there is no answer is right: the docket is full, or it isn't and memory ran out
 abbrev pub IsWhy : Desk → Why → Type 0
 IsWhy desk whys.DocketFull = length desk.docket ≡ desk.limit
 IsWhy desk whys.OutOfMemory = length desk.docket ≢ desk.limit
@@ -194,7 +194,7 @@ outcome_at table sight clients (acts.Lease client path kind end) = leases.grante
 outcome_at table sight clients (acts.Drop client number) = leases.dropped table clients client number
 outcome_at table sight clients (acts.Tick moment) = leases.ticked table moment
 
--- the machine's refusal; none where memory was refused
+-- the machine's refusal; none where memory ran out
 abbrev pub call_fault_of : ActFault → Option CallFault
 call_fault_of (act_faults.Lease fault) = option_map machine.LeaseRefused (lease_faults.fault_of fault)
 call_fault_of (act_faults.Move fault) = option_map machine.MovesRefused (move_faults.fault_of fault)

@@ -83,7 +83,7 @@ impl<A: Allocator + Copy> Desk<A> {
         ensures back { IfErr result (λ back. (back.image ≡ image) × (back.clients ≡ clients)) }
         ensures fit { OnOk result (begin_fault clients.items ≡ None) }
 
-        // The clients' fault; or memory was refused, which may be so with any clients.
+        // The clients' fault; or memory ran out, which may be so with any clients.
         ensures why { IfErr result (λ back. (back.why ≡ BeginFault.OutOfMemory) ⊎ (begin_fault clients.items ≡ Some back.why)) }
     {
         // Tells the prover that the image is lawful.
@@ -160,7 +160,7 @@ impl<A: Allocator + Copy> Desk<A> {
     }
 
     /// Gives the client a lease on the node at the path, up to the moment `end`. The answer, a grant or
-    /// a refusal, is a row of the docket. `Err` where the docket is full or memory is refused; nothing
+    /// a refusal, is a row of the docket. `Err` where the docket is full or memory runs out; nothing
     /// has changed then.
     pub fn lease(
         &mut self,
@@ -233,7 +233,7 @@ impl<A: Allocator + Copy> Desk<A> {
     /// Judges a submission against the state now and lands it: `view`, `judge` and `land` in one call.
     ///
     /// The tree changes only with the answer `Yes`. Every answer is a row of the docket. Where the
-    /// docket is full or memory is refused, the submission comes back, and nothing has changed.
+    /// docket is full or memory runs out, the submission comes back, and nothing has changed.
     pub fn submit(&mut self, submission: Submission<A>) -> Result<Reply, Back<A>>
         ensures full { IsBackFor result Why.DocketFull ↔ (length self.old.docket ≡ self.old.limit) }
         ensures answered { IfOk result (λ reply. IsAnswered self.old (submission_of submission) false reply self.new) }
@@ -290,7 +290,7 @@ impl<A: Allocator + Copy> Desk<A> {
     }
 
     /// A view of the state now, to be judged against. It shares the desk's tables and copies none of
-    /// them, and it doesn't change when the desk goes on. `Err` where memory is refused.
+    /// them, and it doesn't change when the desk goes on. `Err` where memory runs out.
     pub fn view(&self) -> Result<View<A>, AllocError>
         ensures { IfOk result (λ view. IsViewOf view self.now.state) }
     {
@@ -298,12 +298,12 @@ impl<A: Allocator + Copy> Desk<A> {
     }
 
     /// Lands a verdict, from whatever view it was made. If the client or a read that it rests on is
-    /// different now, the submission is judged again, and `rejudged` says so. Then comes the answer:
+    /// different now, the submission is revalidated, and `rejudged` says so. Then comes the answer:
     /// `No` where a fault was found, `NoRoom` where `need` exceeds the free places of tier 0, else
     /// `Yes`.
     ///
     /// The tree changes only with `Yes`, and leases on nodes that the log removes end then. Every
-    /// answer is a row of the docket. Where the docket is full or memory is refused, the submission
+    /// answer is a row of the docket. Where the docket is full or memory runs out, the submission
     /// comes back, and nothing has changed.
     pub fn land(&mut self, judged: Judged<A>) -> Result<Reply, Back<A>>
         ensures full { IsBackFor result Why.DocketFull ↔ (length self.old.docket ≡ self.old.limit) }
@@ -414,7 +414,7 @@ fn outcome<A: Allocator + Copy>(
     judge_bytes(alloc, &view, client, log, plan)
 }
 
-/// A verdict that holds in the state now, and whether it was judged again: the given one if it holds,
+/// A verdict that holds in the state now, and whether it was revalidated: the given one if it holds,
 /// else a new one. The view is dropped here, so that landing finds nothing shared.
 fn current<A: Allocator + Copy>(
     alloc: A,

@@ -15,7 +15,7 @@ use std::collections::BTreeSet;
 
 /// The fault of the first client that can't follow the earlier ones, if there is one. Instead of
 /// looking at these again, it keeps their numbers in a set, and the numbers that nobody is granted as
-/// free places. `Err` where memory is refused.
+/// free places. `Err` where memory runs out.
 pub(crate) fn first_fault<A: Allocator + Copy>(
     alloc: A,
     clients: &[Client],

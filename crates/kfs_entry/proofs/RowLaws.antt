@@ -5,7 +5,7 @@ use Rattle.std.proofs.lemmas.List.{length-map}
 use Rattle.std.specs.Prelude.{map}
 use Rattle.kfs_model.specs.Spelling.{AreRows, Begins, BeginsWithRows, LacksRow, LacksRowBy}
 
--- what is spelled of the values that the rows stand for
+-- what is encoded of the values that the rows stand for
 pub flat_map-map : {R V : Type 0} (view : R → V) (spelling : V → List ℕ) (rows : List R) → flat_map spelling (map view rows) ≡ flat_map (λ r. spelling (view r)) rows
 flat_map-map view spelling [] = refl
 flat_map-map view spelling (row ∷ rows) = ap (λ (l : List ℕ). spelling (view row) ++ l) (flat_map-map view spelling rows)

@@ -25,7 +25,7 @@ AreSpanned l = AllByRecursion IsSpanned l.entries
 abbrev pub plan_of : {A : Type 0} → CodePlan A → Plan
 plan_of p = record { version = p.version; names = map name_row_of p.names; nodes = map node_row_of p.nodes; pieces = map piece_of p.pieces }
 
--- P holds of the refusal, unless it is that memory was refused
+-- P holds of the refusal, unless it is that memory ran out
 abbrev pub OnRefusal : {M : Type 0} → (Result M SpellingFault → Type 0) → SpellFault → Type 0
 OnRefusal P faults.BadHeader = P (Err BadHeader)
 OnRefusal P (faults.BadEntry k) = P (Err (BadEntry k))
@@ -33,7 +33,7 @@ OnRefusal P faults.Trailing = P (Err Trailing)
 OnRefusal P (faults.BadRow part k) = P (Err (BadRow part k))
 OnRefusal P faults.OutOfMemory = Unit {0}
 
--- P holds of the answer, unless it is that memory was refused
+-- P holds of the answer, unless it is that memory ran out
 abbrev pub OnAnswer : {V M : Type 0} → (V → M) → (Result M SpellingFault → Type 0) → Result V SpellFault → Type 0
 OnAnswer view P (Ok v) = P (Ok (view v))
 OnAnswer view P (Err fault) = OnRefusal P fault

@@ -4,7 +4,7 @@ use Rattle.kfs_model.specs.Spelling.{LacksRowBy}
 use Rattle.kfs_entry.specs.declared.fault.SpellFault.{SpellFault}
 use Rattle.kfs_entry.specs.declared.fault.SpellFault.TheVariants as faults
 
--- the fault is right: the entries stop at the index that it names, or memory was refused
+-- the fault is right: the entries stop at the index that it names, or memory ran out
 abbrev pub EntryMissing : {R : Type 0} → (R → Type 0) → (R → List ℕ) → (List ℕ → Type 0) → ℕ → List ℕ → SpellFault → Type 0
 EntryMissing fits spelling begins count bytes (faults.BadEntry k) = LacksRowBy fits spelling begins count k bytes
 EntryMissing fits spelling begins count bytes faults.OutOfMemory = Unit {0}

@@ -77,11 +77,11 @@ fn log_in<A: Allocator>(alloc: A, source: &[u8]) -> Result<Log<A>, SpellFault>
 ///
 /// The entries hold spans of `source`: no payload byte is copied or looked at. The list of entries
 /// grows from `alloc` as entries are read. Refused with `BadHeader`, `BadEntry(k)` or `Trailing` where
-/// the bytes leave the format, and with `OutOfMemory` where memory is refused; nothing is kept then.
+/// the bytes leave the format, and with `OutOfMemory` where memory runs out; nothing is kept then.
 pub fn decode_log<A: Allocator>(alloc: A, source: &[u8]) -> Result<Log<A>, SpellFault>
     // Soundness: the answer is right for these bytes.
     ensures found { OnAnswer (log_of source.now) (LogAnswer source.now) result }
-    // Completeness: the right answer is given, unless memory is refused.
+    // Completeness: the right answer is given, unless memory runs out.
     ensures only { (answer : Result LogValue SpellingFault) → LogAnswer source.now answer → OnAnswer (log_of source.now) (λ given. given ≡ answer) result }
     ensures spans { IfOk result (SpansAreWithin (length source.now)) }
     // What calls over a log's entries ask for.
@@ -118,12 +118,12 @@ fn plan_in<A: Allocator + Clone>(alloc: A, source: &[u8]) -> Result<Plan<A>, Spe
 /// Reads a plan of version 1 or 2 from bytes. All of `source` must be the plan.
 ///
 /// The three lists grow from `alloc` as rows are read. Refused with `BadHeader`, `BadRow(part, k)` or
-/// `Trailing` where the bytes leave the format, and with `OutOfMemory` where memory is refused; nothing
+/// `Trailing` where the bytes leave the format, and with `OutOfMemory` where memory runs out; nothing
 /// is kept then.
 pub fn decode_plan<A: Allocator + Clone>(alloc: A, source: &[u8]) -> Result<Plan<A>, SpellFault>
     // Soundness: the answer is right for these bytes.
     ensures found { OnAnswer plan_of (PlanAnswer source.now) result }
-    // Completeness: the right answer is given, unless memory is refused.
+    // Completeness: the right answer is given, unless memory runs out.
     ensures only { (answer : Result PlanValue SpellingFault) → PlanAnswer source.now answer → OnAnswer plan_of (λ given. given ≡ answer) result }
 {
     plan_in(alloc, source)

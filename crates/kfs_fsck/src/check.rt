@@ -17,7 +17,7 @@ use std::thread::Threads;
 /// single nodes are tested in several threads.
 ///
 /// Refused with `Found`, the least rule that is broken and the least number at which it is, or with
-/// `OutOfMemory` where memory is refused; then the raw image comes back as it was.
+/// `OutOfMemory` where memory runs out; then the raw image comes back as it was.
 pub fn fsck<A: Allocator + Copy>(
     rt: &(impl Threads + Sync),
     alloc: A,

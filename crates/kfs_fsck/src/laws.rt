@@ -15,14 +15,14 @@ pub fn least_of_two_lists()
     ensures { (front back : List Test) → least_failed (front ++ back) ≡ merged (least_failed front) (least_failed back) }
 {}
 
-/// A saved image is let in again: the bytes of a lawful image are those of rows that break no rule, and
+/// A saved image is accepted again: the bytes of a lawful image are those of rows that break no rule, and
 /// that show an equal tree and placement on tiers of equal sizes.
 pub fn saved_image()
     ensures { (image : DeviceImage) → IsLawful image → IsReadAgain image }
 {}
 
-/// Bytes of an image of version 1 that breaks no rule: what it shows is let in again when it is saved.
-/// So an old image is let in, and written back as a new one.
+/// Bytes of an image of version 1 that breaks no rule: what it shows is accepted again when it is saved.
+/// So an old image is accepted, and written back as a new one.
 pub fn old_image()
     ensures { (bytes : List ℕ) (raw : RawImage) → ImageAnswer bytes (Ok raw) → raw.version ≡ 1 → IsWellFormed raw → IsReadAgain (image_of raw) }
 {}

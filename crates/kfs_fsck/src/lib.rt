@@ -1,4 +1,4 @@
-//! The checker that lets images in: it tests the ten rules of a raw image, the rules of single nodes in
+//! The checker that accepts images: it tests the ten rules of a raw image, the rules of single nodes in
 //! several threads, and makes the image of one that breaks none.
 //!
 //! It stands on `kfs_shape` (the tests) and `kfs_image`. Begin with `fsck`.

@@ -62,7 +62,7 @@ impl<A: Allocator> Model for Image<A> {
 
 impl<A: Allocator + Clone> Image<A> {
     /// An image with the root directory alone, with mode 0o777, uid 0 and gid 0, over empty tiers of
-    /// these sizes. Takes one bit of memory for each block of the tiers; `Err` where memory is refused.
+    /// these sizes. Takes one bit of memory for each block of the tiers; `Err` where memory runs out.
     pub fn fresh(alloc: A, sizes: TierSizes) -> Result<Image<A>, AllocError>
         ensures { IfOk result (λ image. image ≡ fresh_image sizes) }
     {
@@ -81,7 +81,7 @@ impl<A: Allocator + Clone> Image<A> {
     /// The image that the rows of a raw image make: their nodes, names and places of blocks, with the
     /// extents' bytes. Condition: the ten rules hold of the rows.
     ///
-    /// `Err` only where memory is refused; it gives back the raw image as it was. The bytes are copied
+    /// `Err` only where memory runs out; it gives back the raw image as it was. The bytes are copied
     /// once.
     pub fn from_raw(alloc: A, raw: RawImage<A>) -> Result<Image<A>, RawImage<A>>
         requires { IsWellFormed (raw_of raw) }
@@ -90,7 +90,7 @@ impl<A: Allocator + Clone> Image<A> {
     {
         match Image::of_rows(alloc, &raw) {
             Ok(image) => Ok(image),
-            // It can only be a want of memory.
+            // It can only be a lack of memory.
             Err(_refused) => Err(raw),
         }
     }

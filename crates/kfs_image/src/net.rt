@@ -33,7 +33,7 @@ impl<A: Allocator + Clone> Fill<A> {
 /// longer blocks of a file, are unmapped; the rows' blocks are mapped and written.
 ///
 /// Condition: the rows' places exist, their blocks have 4,096 bytes, and the image is lawful after the
-/// change. `Err` where memory is refused: all memory is taken before the first change, so the image
+/// change. `Err` where memory runs out: all memory is taken before the first change, so the image
 /// shows what it showed. Views that were taken before keep showing what they showed in any case.
 pub fn net_apply<A: Allocator + Clone>(
     alloc: A,

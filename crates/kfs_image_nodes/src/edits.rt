@@ -13,7 +13,7 @@ use kfs_types::{GREATEST_NUMBER, Header, NodeRow};
 use std::alloc::{AllocError, Allocator};
 
 /// The new headers that the rows make, row after row, ascending by number. Rows with numbers that no
-/// node can have are left out. `Err` where memory is refused.
+/// node can have are left out. `Err` where memory runs out.
 pub fn header_edits<A: Allocator + Clone>(
     alloc: &A,
     nodes: &[NodeRow],

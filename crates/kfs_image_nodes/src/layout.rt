@@ -132,7 +132,7 @@ impl<A: Allocator> Shape<A> {
 }
 
 impl<A: Allocator + Clone> Shape<A> {
-    /// The root directory alone, with mode 0o777, uid 0 and gid 0. `Err` where memory is refused.
+    /// The root directory alone, with mode 0o777, uid 0 and gid 0. `Err` where memory runs out.
     pub fn with_root(alloc: A) -> Result<Shape<A>, AllocError>
         ensures { IfOk result (λ shape. shape ≡ root_alone) }
     {
@@ -149,7 +149,7 @@ impl<A: Allocator + Clone> Shape<A> {
     }
 
     /// The nodes with these headers, and the names of rows that ascend. Conditions: each name is one, and
-    /// each directory's number is 1 to 65,536. Each name is written once. `Err` where memory is refused.
+    /// each directory's number is 1 to 65,536. Each name is written once. `Err` where memory runs out.
     #[doc(hidden)]
     pub fn of_rows(
         alloc: &A,

@@ -45,7 +45,7 @@ pub struct Walk<A: Allocator> {
 /// Judges the entries of a log against a view. Condition: the log's client is one of the view's, and
 /// there are at most 4,096 entries. The reads are kept, each once, in the order of the first look.
 ///
-/// A bad entry is an outcome, not an error. `Err` only where memory is refused; nothing is kept then.
+/// A bad entry is an outcome, not an error. `Err` only where memory runs out; nothing is kept then.
 pub fn judge_entries<A: Allocator + Copy>(
     alloc: A,
     view: &View<A>,

@@ -4,7 +4,7 @@ use Rattle.kfs_model.specs.Lease as model
 use Rattle.kfs_lease.specs.declared.leases.LeaseFault.{LeaseFault}
 use Rattle.kfs_lease.specs.declared.leases.LeaseFault.TheVariants.{UnknownClient, BadPath, NoSuchName, NotDirectory, NoSearch, Past, LeaseHeld, NoLeaseHeld, Backwards, OutOfMemory}
 
--- the refusal, or none where memory was refused
+-- the refusal, or none where memory ran out
 abbrev pub fault_of : LeaseFault → Option model.LeaseFault
 fault_of UnknownClient = Some model.UnknownClient
 fault_of BadPath = Some model.BadPath
@@ -17,6 +17,6 @@ fault_of NoLeaseHeld = Some model.NoLeaseHeld
 fault_of Backwards = Some model.Backwards
 fault_of OutOfMemory = None
 
--- the outcome is this refusal, unless memory was refused, with these leases
+-- the outcome is this refusal, unless memory ran out, with these leases
 abbrev pub Refuses : model.LeaseOutcome → LeaseFault → model.Leases → Type 0
 Refuses outcome fault leases = IfSome (fault_of fault) (λ refusal. outcome ≡ (Err refusal, leases))

@@ -143,7 +143,7 @@ impl<A: Allocator + Copy> Leases<A> {
     }
 
     /// Ends the client's lease on the node. Refused with `UnknownClient` or `NoLeaseHeld`; with
-    /// `OutOfMemory` where memory is refused for what a copy shares, or for rows that are laid out
+    /// `OutOfMemory` where memory runs out for what a copy shares, or for rows that are laid out
     /// anew. Condition: no two clients have the same number.
     pub fn drop_lease(
         &mut self,
@@ -167,7 +167,7 @@ impl<A: Allocator + Copy> Leases<A> {
     }
 
     /// Goes to a moment, the same or a later one, and ends the leases that are no longer live. Refused
-    /// with `Backwards`, or with `OutOfMemory` where leases end and memory is refused.
+    /// with `Backwards`, or with `OutOfMemory` where leases end and memory runs out.
     #[tactic(auto, unfolding(kfs_model::specs::Lease::ticked, kfs_model::specs::Lease::live_at))]
     pub fn tick(&mut self, moment: u64) -> Result<(), LeaseFault>
         ensures ok { OnOk result (ticked self.old moment ≡ (Ok moment, self.new)) }

@@ -38,7 +38,7 @@ impl<K: Key, V: Copy, A: Allocator + Clone> ChunkList<K, V, A> {
     }
 
     /// Adds a chunk of these entries behind those that are there. Condition: they are 1 to 256, and
-    /// their keys ascend. `Err` where memory is refused.
+    /// their keys ascend. `Err` where memory runs out.
     pub fn push(&mut self, entries: Vec<(K, V), A>) -> Result<(), AllocError>
         requires sorted { T (is_sorted K.order.compare entries.items) }
         requires sized { IsSized entries.items }

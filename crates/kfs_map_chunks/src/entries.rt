@@ -104,7 +104,7 @@ impl<K: Key, V: Copy, A: Allocator> Entries<K, V, A> {
         Some(value)
     }
 
-    /// Makes room for `more` entries. The entries stay as they are. `Err` where memory is refused.
+    /// Makes room for `more` entries. The entries stay as they are. `Err` where memory runs out.
     pub(crate) fn reserve(&mut self, more: usize) -> Result<(), AllocError>
         ensures room { OnOk result (more ≤ self.new.room) }
         ensures pairs { self.new.pairs ≡ self.old.pairs }
@@ -317,7 +317,7 @@ pub struct KeyEdit<K: Key, V: Copy> {
 }
 
 /// Adds an edit behind the others, where its key is above theirs, and answers whether it is. Condition:
-/// the keys of the others ascend. `Err` where memory is refused; the edits are as before then.
+/// the keys of the others ascend. `Err` where memory runs out; the edits are as before then.
 pub fn push_above<K: Key, V: Copy, A: Allocator>(
     edits: &mut Vec<KeyEdit<K, V>, A>,
     key: K,

@@ -46,7 +46,7 @@ impl<K: Ord + Drop, V: Copy, A: Allocator + Clone> Overlay<K, V, A> {
         Ok(before)
     }
 
-    /// Sets the key's value, or that it has none. `Err` where memory is refused.
+    /// Sets the key's value, or that it has none. `Err` where memory runs out.
     pub fn set(&mut self, key: K, now: Option<V>) -> Result<(), AllocError>
         ensures { OnOk result ((q : K) → get K.cmp self.new.latest q ≡ (if eq_by_cmp K.cmp q key then Some now else get K.cmp self.old.latest q)) }
     {
@@ -56,7 +56,7 @@ impl<K: Ord + Drop, V: Copy, A: Allocator + Clone> Overlay<K, V, A> {
     }
 }
 
-/// The overlay as edits of a map in chunks, ascending by key. `Err` where memory is refused.
+/// The overlay as edits of a map in chunks, ascending by key. `Err` where memory runs out.
 pub fn key_edits<K: Key, V: Copy, A: Allocator + Clone>(
     alloc: &A,
     overlay: &Overlay<K, V, A>,

@@ -107,7 +107,7 @@ impl<V: Copy, A: Allocator> Pages<V, A> {
 impl<V: Copy, A: Allocator + Clone> Pages<V, A> {
     /// Makes the edits and the other change, or neither. All memory is taken first; then comes the
     /// other change, then the edits. Copies show what they showed. Condition: the edits ascend. `Err`
-    /// where memory is refused.
+    /// where memory runs out.
     pub fn change_then<T: Change>(
         &mut self,
         edits: &[NumberEdit<V>],

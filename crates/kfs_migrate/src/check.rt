@@ -17,7 +17,7 @@ pub const MOVE_LIMIT: usize = 1024;
 /// first move that has a fault, with `NotMapped`, `OutOfRange`, `NotFree` or `Overlap`, in this order.
 ///
 /// Blocks and free places are those of the image as it is: a place that another move leaves isn't free.
-/// Any free place will do, also one on the block's own tier. `OutOfMemory` where memory is refused.
+/// Any free place will do, also one on the block's own tier. `OutOfMemory` where memory runs out.
 pub fn check_moves<A: Allocator + Clone>(
     alloc: A,
     image: &Image<A>,

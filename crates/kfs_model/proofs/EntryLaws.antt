@@ -1,5 +1,5 @@
 -- The laws of an entry in a log of one version: what is read is an entry that stands there, and what is
--- spelled is read.
+-- encoded is read.
 use Rattle.std.proofs.Common.{◌≡◌, ℕ, List, ◌∷◌, ◌++◌, Some, None, refl, inl, inr}
 use Rattle.std.proofs.lemmas.Bool.{leb-true}
 use Rattle.kfs_model.specs.Entry.{Entry, Create, Write, Truncate, Link, Unlink, Rename, Chmod, Regroup}

@@ -1,4 +1,4 @@
--- The laws of a field: what is read stands there, and what is spelled is read.
+-- The laws of a field: what is read stands there, and what is encoded is read.
 use Rattle.std.proofs.Common.{◌≡◌, ◌⊎◌, ℕ, suc, ◌+◌, ◌^◌, ◌<◌, ◌≤◌, Bool, true, false, cond, eqb, ltb, leb, List, [], ◌∷◌, ◌++◌, length, take, drop, Option, Some, None, refl, sym, ap, subst, ◌∙◌, append_assoc, arith, inl, inr}
 use Rattle.std.specs.Int.{Width, w16, w32, w64, byte_len, from_be_bytes, to_be_bytes}
 use Rattle.std.proofs.lemmas.Bool.{cases_lt, ltb-false, leb-true, le-leb, le-ltb, eqb-true}
@@ -44,7 +44,7 @@ done x = Some x
 pub some_is : {V : Type 0} (x y : V) → done x ≡ done y → x ≡ y
 some_is x y e = cc
 
--- ---- what a reader does, against a spelling and a range
+-- ---- what a reader does, against an encoding and a range
 
 -- the value stands at the front of the bytes, and the rest behind it
 pub record Stands {V : Type 0} (Fits : V → Type 0) (spelling : V → List ℕ) (bytes : List ℕ) (value : V) (rest : List ℕ) : Type 0 where
@@ -55,7 +55,7 @@ pub record Stands {V : Type 0} (Fits : V → Type 0) (spelling : V → List ℕ)
 pub record IsField {V : Type 0} (Fits : V → Type 0) (spelling : V → List ℕ) (read : List ℕ → Option (V × List ℕ)) : Type 0 where
   -- what is read stands there
   pub takes : (bytes : List ℕ) (x : V × List ℕ) → IsBytes bytes → read bytes ≡ Some x → Stands Fits spelling bytes x.0 x.1
-  -- what is spelled is read, whatever follows
+  -- what is encoded is read, whatever follows
   pub again : (value : V) (rest : List ℕ) → Fits value → read (spelling value ++ rest) ≡ Some (value, rest)
 
 -- one field after the other

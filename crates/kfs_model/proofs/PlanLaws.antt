@@ -1,4 +1,4 @@
--- The laws of a plan's rows: what is read is a row that stands there, and what is spelled is read.
+-- The laws of a plan's rows: what is read is a row that stands there, and what is encoded is read.
 use Rattle.std.proofs.Common.{◌≡◌, ℕ, ◌^◌, ◌<◌, cond, eqb, List, ◌∷◌, ◌++◌, Option, Some, None, refl, ap, subst, ◌∙◌, inl, inr}
 use Rattle.kfs_model.specs.Header.{Kind, File, Directory, Header}
 use Rattle.kfs_model.specs.PlanRow.{Source, Zero, Payload}

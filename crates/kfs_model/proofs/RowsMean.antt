@@ -40,7 +40,7 @@ unplaced_is (place ∷ places) outcome other is = cc
 -- ---- a Yes
 
 module _ (s : State) (submission : Submission) (reading : Reading) (read : IsReadAs submission reading) (after : Tree ℕ) (marks : Tree Mark) where
-  -- the run of the entries that the log spells ends at this tree
+  -- the run of the entries that the log encodes ends at this tree
   done : judged s submission.client reading.log reading.plan ≡ Yes after marks → (t : State) → t.tree ≡ after → HasEntriesDone s submission t
   done is t at =
       let yes = yes_means s submission.client reading.log reading.plan after marks is in

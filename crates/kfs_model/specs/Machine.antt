@@ -112,7 +112,7 @@ outcome_of s (Drop client number) places = leased s places (dropped s.leases s.c
 outcome_of s (Tick moment) places = leased s places (ticked s.leases moment)
 outcome_of s (Migrate moves) places = migrated s places moves (fault_of_moves s.sizes s.placement moves)
 
--- a row of the docket: a call and its answer; whether that says that a submission was judged again; and
+-- a row of the docket: a call and its answer; whether that says that a submission was revalidated; and
 -- for a Yes the places of the written blocks in tier 0, ascending by block
 pub record Row : Type 0 where
   pub call : Call

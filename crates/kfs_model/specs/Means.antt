@@ -8,7 +8,7 @@ use Rattle.kfs_model.specs.Machine.{Call, Submit, Lease, Drop, Tick, Migrate, Ca
 use Rattle.kfs_model.specs.Placement.{Placement}
 use Rattle.kfs_model.specs.Spelling.{LogAnswer}
 
--- the submission spells a log of a known client, and P holds of that client and of the log's entries
+-- the submission encodes a log of a known client, and P holds of that client and of the log's entries
 pub record OfItsLog (s : State) (submission : Submission) (P : Client → List Entry → Type 0) : Type 0 where
   pub client : Client
   pub row : row_of s.clients submission.client ≡ Some client

@@ -1,5 +1,5 @@
 -- How logs and plans are written as bytes, and what a decoder answers. Numbers are big-endian. There
--- are two versions. Each value has one spelling.
+-- are two versions. Each value has one encoding.
 use Rattle.std.specs.Prelude.{◌≡◌, ◌≢◌, ℕ, zero, suc, ◌^◌, ◌<◌, ◌≤◌, ◌==◌, ◌&&◌, not, nat_lt, nat_le, Bool, false, List, [], ◌∷◌, ◌++◌, length, get_or, All, Option, None, Some, Result, Ok, Err, if◌then◌else◌}
 use Rattle.std.specs.List.{list_all, flat_map, AllByRecursion}
 use Rattle.std.specs.Int.{w16, w32, w64, to_be_bytes}
@@ -51,11 +51,11 @@ is_dots (a ∷ b ∷ c ∷ bytes) = false
 unfoldable pub is_name : List ℕ → Bool
 is_name bytes = nat_lt 0 (length bytes) && nat_le (length bytes) name_limit && list_all (λ byte. not (byte == 0) && not (byte == slash)) bytes && not (is_dots bytes)
 
--- the spelling of a name: a byte of length, then the name
+-- the encoding of a name: a byte of length, then the name
 abbrev pub name_bytes : List ℕ → List ℕ
 name_bytes bytes = byte (length bytes) ++ bytes
 
--- the spelling of a payload: four bytes of length, then the payload
+-- the encoding of a payload: four bytes of length, then the payload
 abbrev pub payload_bytes : List ℕ → List ℕ
 payload_bytes bytes = number32 (length bytes) ++ bytes
 
@@ -83,19 +83,19 @@ IsGroup version group = (2 ≤ version) × (group < 2 ^ 32)
 
 -- ---- rows, one after another
 
--- the bytes begin with the spelling of such a value
+-- the bytes begin with the encoding of such a value
 abbrev pub Begins : {V : Type 0} → (V → Type 0) → (V → List ℕ) → List ℕ → Type 0
 Begins {V} Fits spelling bytes = (value : V) × (rest : List ℕ) × Fits value × (bytes ≡ spelling value ++ rest)
 
 abbrev pub BeginsWithNo : {V : Type 0} → (V → Type 0) → (V → List ℕ) → List ℕ → Type 0
 BeginsWithNo Fits spelling bytes = Begins Fits spelling bytes → ⊥
 
--- the bytes are the spellings of these rows, followed by the rest
+-- the bytes are the encodings of these rows, followed by the rest
 pub record AreRows {V : Type 0} (Fits : V → Type 0) (spelling : V → List ℕ) (rows : List V) (bytes rest : List ℕ) : Type 0 where
   pub fit : AllByRecursion Fits rows
   pub spelled : bytes ≡ flat_map spelling rows ++ rest
 
--- the bytes are the spellings of `count` rows, followed by the rest
+-- the bytes are the encodings of `count` rows, followed by the rest
 pub record BeginsWithRows {V : Type 0} (Fits : V → Type 0) (spelling : V → List ℕ) (count : ℕ) (bytes rest : List ℕ) : Type 0 where
   pub rows : List V
   pub number : length rows ≡ count
@@ -123,7 +123,7 @@ entry_bytes (Rename d m e k) = byte 6 ++ number32 d ++ name_bytes m ++ number32 
 entry_bytes (Chmod n mode) = byte 7 ++ number32 n ++ number16 mode
 entry_bytes (Regroup n group) = byte 8 ++ number32 n ++ number32 group
 
--- the entry has a spelling in a log of this version: the version has such entries, modes, names and
+-- the entry has an encoding in a log of this version: the version has such entries, modes, names and
 -- payload are in range, and other numbers fit their widths
 abbrev pub IsEntry : (version : ℕ) → Entry → Type 0
 IsEntry version (Create d m n k mode) = (d < 2 ^ 32) × IsName m × (n < 2 ^ 32) × IsMode version mode
@@ -141,7 +141,7 @@ pub record LogHeader : Type 0 where
   pub client : ℕ
   pub count : ℕ
 
--- the spelling of a log's header: "KLOG", the version, the client, the count
+-- the encoding of a log's header: "KLOG", the version, the client, the count
 abbrev pub log_header : LogHeader → List ℕ
 log_header h = 75 ∷ 76 ∷ 79 ∷ 71 ∷ h.version ∷ number32 h.client ++ number16 h.count
 
@@ -170,7 +170,7 @@ abbrev pub state_bytes : Kind → List ℕ
 state_bytes File = byte 1
 state_bytes Directory = byte 2
 
--- the spelling of a header in a plan: 0 where the node is gone, else the kind and the other fields
+-- the encoding of a header in a plan: 0 where the node is gone, else the kind and the other fields
 abbrev pub header_bytes : Option Header → List ℕ
 header_bytes None = byte 0
 header_bytes (Some h) = state_bytes h.kind ++ number16 h.mode ++ number32 h.uid ++ number32 h.gid ++ number16 h.links ++ number64 h.size
@@ -206,7 +206,7 @@ pub record PlanHeader : Type 0 where
   pub nodes : ℕ
   pub pieces : ℕ
 
--- the spelling of a plan's header: "KPLN", the version, the three counts
+-- the encoding of a plan's header: "KPLN", the version, the three counts
 abbrev pub plan_header : PlanHeader → List ℕ
 plan_header h = 75 ∷ 80 ∷ 76 ∷ 78 ∷ h.version ∷ number16 h.names ++ number16 h.nodes ++ number32 h.pieces
 

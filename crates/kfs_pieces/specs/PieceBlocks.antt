@@ -5,7 +5,7 @@ use Rattle.kfs_model.specs.PlanRow.{Piece, Source}
 use Rattle.kfs_model.specs.Plan.{end_of}
 use Rattle.kfs_pieces.specs.TouchedBlocks.{BlockInterval, block_of, counted}
 use Rattle.kfs_pieces.specs.declared.blocks.Count.{Count}
-use Rattle.kfs_pieces.specs.declared.blocks.Touched.{Touched}
+use Rattle.kfs_pieces.specs.declared.touched.Touched.{Touched}
 
 -- One piece of a file of this size. Zero bytes ended last at `until`, and they go on behind the piece
 -- or not.

@@ -1,6 +1,6 @@
 //! How many blocks of a file its right pieces write. The blocks of a file that its right pieces write,
 //! one by one, and the ranges of blocks that they make all zero. How many blocks right pieces write,
-//! over all files. Runs of blocks that a piece writes.
+//! over all files.
 ghost use Rattle.std.specs.Prelude.{◌≡◌, ◌+◌, ◌<◌, ◌≤◌, ◌^◌, ◌++◌, [], ◌∷◌, drop, map, if◌then◌else◌, IfOk};
 ghost use Rattle.std.specs.List.{AllByRecursion};
 ghost use Rattle.kfs_types.specs.Views.{piece_of};
@@ -14,6 +14,7 @@ ghost use Rattle.kfs_pieces.specs.Parts.{AreByNumber, IsNeedOf, front_len};
 ghost use Rattle.kfs_pieces.specs.Sizes.{SizesAscend};
 
 use crate::log::{FileSize, size_after};
+use crate::touched::Touched;
 use kfs_types::{BLOCK_SIZE, Piece, Source};
 use std::alloc::{AllocError, Allocator};
 
@@ -172,7 +173,7 @@ fn list_blocks<A: Allocator>(
 }
 
 /// The blocks that the right pieces of one file write, ascending. `size` is the file's size after the
-/// log. `Err` where memory is refused.
+/// log. `Err` where memory runs out.
 pub fn written_in<A: Allocator>(
     alloc: A,
     pieces: &[Piece],
@@ -243,7 +244,7 @@ fn zeros_start(piece: &Piece) -> u64
 }
 
 /// The ranges of blocks that the right pieces of one file make all zero, ascending, none empty. `size`
-/// is the file's size after the log. `Err` where memory is refused.
+/// is the file's size after the log. `Err` where memory runs out.
 pub fn cleared_in<A: Allocator>(
     alloc: A,
     pieces: &[Piece],
@@ -294,13 +295,4 @@ pub fn need_of(pieces: &[Piece], sizes: &[FileSize]) -> u64
         rest = behind;
     }
     total
-}
-
-/// Blocks of a file, from `first` to `last`, both included, as the definitions have them. None is empty.
-#[derive(Clone, Copy)]
-pub(crate) struct Touched {
-    pub first: u64,
-    pub last: u64,
-    ghost order: { first ≤ last },
-    ghost small: { last ≤ 2 ^ 20 },
 }

@@ -10,6 +10,7 @@ mod compare;
 pub mod laws;
 mod log;
 mod merge;
+mod touched;
 
 pub use blocks::{cleared_in, front_len, need_of, written_in};
 pub use compare::first_piece_apart;

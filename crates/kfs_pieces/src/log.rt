@@ -181,7 +181,7 @@ fn pieces_from<A: Allocator>(alloc: A, ranges: &[ByteRange]) -> Result<Vec<Piece
 }
 
 /// Right pieces of a log, from the ranges that it changed: first what each file grew by, then what each
-/// entry changes, in the log's order. `Err` where memory is refused.
+/// entry changes, in the log's order. `Err` where memory runs out.
 pub fn right_pieces<A: Allocator + Copy>(
     alloc: A,
     ranges: &[ByteRange],

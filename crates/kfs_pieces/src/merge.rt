@@ -121,7 +121,7 @@ pub fn laid_over<A: Allocator>(
 }
 
 /// For each byte, the last of the ranges that has it. Ranges may overlap and be empty; a later one
-/// hides an earlier one. `Err` where memory is refused.
+/// hides an earlier one. `Err` where memory runs out.
 pub fn last_of_all<A: Allocator + Copy>(
     alloc: A,
     ranges: &[ByteRange],

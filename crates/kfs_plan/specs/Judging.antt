@@ -64,7 +64,7 @@ refusal_of (faults.BadPlan fault) = option_map BadPlan (spelling_fault_of fault)
 refusal_of (faults.Entry fault) = Some (AtEntry (fault_of fault))
 refusal_of (faults.Row fault) = option_map AtRow (row_fault_of fault)
 
--- a refusal is by a fault of the submission, and never for want of memory
+-- a refusal is by a fault of the submission, and never for lack of memory
 abbrev pub RefusesByFault : {A : Type 0} → Outcome A → Type 0
 RefusesByFault (outcomes.No fault) = IsSome (refusal_of fault)
 RefusesByFault (outcomes.Yes log plan net told) = Unit {0}
@@ -118,7 +118,7 @@ abbrev pub stops_before : {A : Type 0} → Outcome A → Bool
 stops_before (outcomes.No fault) = is_before_entries fault
 stops_before (outcomes.Yes log plan net told) = false
 
--- the bytes spell a log of a known client, and each read is at a cell that the log looks at
+-- the bytes decode to a log of a known client, and each read is at a cell that the log looks at
 pub record AreOfLog {A : Type 0} (view : View A) (submission : Submission) (reads : List (Read × ReadAnswer)) : Type 0 where
   pub client : Client
   pub row : row_of (clients_of view) submission.client ≡ Some client
@@ -149,7 +149,7 @@ pub record YesParts (A : Type 0) : Type 0 where
   pub net : Net A
   pub told : ℕ
 
--- a Yes is right: the bytes spell its log and plan, the entries lead to its net, and `need` blocks are
+-- a Yes is right: the bytes decode to its log and plan, the entries lead to its net, and `need` blocks are
 -- written
 pub record TellsYes {A : Type 0} (s : State) (submission : Submission) (parts : YesParts A) (after : Tree ℕ) (marked_after : Tree Mark) : Type 0 where
   pub spelled : AreSpelled submission parts.log parts.plan

@@ -23,7 +23,7 @@ use std::alloc::{AllocError, Allocator};
 /// log's client, the plan's bytes, the entries, the plan's rows. It changes nothing but memory of its
 /// own, and takes no lock.
 ///
-/// A bad submission is a verdict, not an error. The submission comes back only where memory is refused; no verdict is a
+/// A bad submission is a verdict, not an error. The submission comes back only where memory runs out; no verdict is a
 /// No for that.
 pub fn judge<A: Allocator + Copy>(
     alloc: A,
@@ -217,7 +217,7 @@ pub fn read_submission<A: Allocator + Copy>(
     Ok(Spelled::Yes(log, plan))
 }
 
-/// The fault, unless it is that memory was refused.
+/// The fault, unless it is that memory ran out.
 fn unless_refused(fault: SpellFault) -> Result<SpellFault, Why>
     ensures fault { IfOk result (λ told. (told ≡ fault) × (told ≢ SpellFault.OutOfMemory)) }
     ensures refused { IfErr result (λ why. why ≡ Why.OutOfMemory) }

@@ -16,7 +16,7 @@ use std::alloc::{AllocError, Allocator};
 /// it.
 ///
 /// Condition: the walk is this log's own and has no bad entry, and the log is one that `decode_log`
-/// gives (at most 4,096 entries, payloads of at most 65,536 bytes). `Err` where memory is refused.
+/// gives (at most 4,096 entries, payloads of at most 65,536 bytes). `Err` where memory runs out.
 pub fn sweep<A: Allocator + Copy>(
     alloc: A,
     log: &Log<A>,

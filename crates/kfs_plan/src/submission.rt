@@ -63,7 +63,7 @@ pub enum Outcome<A: Allocator> {
 /// Why a submission comes back without a verdict or an answer. Nothing has changed.
 #[derive(Clone, Copy, Debug, PartialEq, Eq, Error)]
 pub enum Why {
-    /// 1: memory was refused.
+    /// 1: memory ran out.
     #[error("memory")]
     OutOfMemory,
     /// 2: the docket is full: it has as many rows as its limit allows. Only a desk answers so.

@@ -24,7 +24,7 @@ pub record IsPlanOf (client : Client) (t : Tree ℕ) (entries : List Entry) (pla
   -- whatever nodes it holds, a run without a fault leads to the same
   pub only : (held : ℕ → Bool) → IfOk (run over_marks client (client_sight t held) (marked t) entries) (λ end. end ≡ after)
 
--- the bytes spell a right plan, of the log's version, for the client's log
+-- the bytes decode to a right plan, of the log's version, for the client's log
 pub record IsPlanMade (client : Client) (t : Tree ℕ) (source bytes : List ℕ) : Type 0 where
   pub log : Log
   pub own : IsOwnLog client source log

@@ -1,4 +1,4 @@
--- Plans of the code that can be spelled.
+-- Plans of the code that can be encoded.
 use Rattle.std.specs.Prelude.{◌^◌, ◌<◌, All, length}
 use Rattle.kfs_model.specs.Spelling.{IsNameRow, IsNodeRow, IsPiece}
 use Rattle.kfs_types.specs.Views.{name_row_of, node_row_of, piece_of}

@@ -20,7 +20,7 @@ use Rattle.kfs_pieces.specs.RangeCounts.{grown_count}
 use Rattle.kfs_plan_maker.specs.AskedLeases.{HoldsNamed}
 
 module _ {A : Type 0} where
-  -- the bytes spell the log, which has this client's number
+  -- the bytes decode to the log, which has this client's number
   pub record IsLogFrom (number : ℕ) (source : List ℕ) (log : CodeLog A) : Type 0 where
     pub owner : log.client ≡ number
     pub spelled : LogAnswer source (Ok (log_of source log))
@@ -45,6 +45,6 @@ module _ {A : Type 0} where
     pub pieces : (client : Client) → IsWalkOf client log walk → ArePiecesOf client log walk (map piece_of plan.pieces)
     pub few : length plan.pieces ≤ 2 * (grown_count walk.sizes.items + length log.entries)
 
--- the bytes spell no log with this client's number
+-- the bytes decode to no log with this client's number
 abbrev pub HasNoLog : (number : ℕ) (source : List ℕ) → Type 0
 HasNoLog number source = (log : Log) → LogAnswer source (Ok log) → log.client ≢ number

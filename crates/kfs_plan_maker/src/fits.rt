@@ -8,7 +8,7 @@ ghost use Rattle.kfs_plan_maker.specs.Rows.{RowsFit};
 use kfs_entry::{Header, NameRow, NodeRow, Piece, Plan, Source};
 use std::alloc::Allocator;
 
-/// Tells the prover that each row of the plan can be spelled. It goes over the rows once and changes
+/// Tells the prover that each row of the plan can be encoded. It goes over the rows once and changes
 /// nothing. Takes no memory.
 ///
 /// The prover knows the range of a number once it is passed by value, and of a name once it is read. So

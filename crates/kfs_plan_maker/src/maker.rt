@@ -26,7 +26,7 @@ use std::sync::Arc;
 /// the client having all leases that the log may ask for. The desk will look for these itself.
 ///
 /// None where the bytes are no log, where the log is another client's, or where an entry has a fault.
-/// `Err` where memory is refused. No byte of a file is looked at.
+/// `Err` where memory runs out. No byte of a file is looked at.
 pub fn make_plan<A: Allocator + Copy>(
     alloc: A,
     image: &Image<A>,
@@ -49,7 +49,7 @@ pub fn make_plan<A: Allocator + Copy>(
     Ok(Some(bytes))
 }
 
-/// The log that the bytes spell, if they spell one with this client's number.
+/// The log that the bytes decode to, if they decode to one with this client's number.
 fn own_log<A: Allocator + Copy>(
     alloc: A,
     number: u32,
@@ -73,7 +73,7 @@ fn own_log<A: Allocator + Copy>(
     }
 }
 
-/// Passes over a fault, unless it is that memory was refused.
+/// Passes over a fault, unless it is that memory ran out.
 fn unless_refused(fault: SpellFault) -> Result<(), AllocError>
     ensures { IfOk result (λ _. fault ≢ SpellFault.OutOfMemory) }
 {

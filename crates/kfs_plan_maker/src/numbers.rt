@@ -10,7 +10,7 @@ use std::alloc::{AllocError, Allocator};
 
 /// The numbers that the entries name, and those to which the names lead that an Unlink or a Rename
 /// takes out, before the log. They stand in the order of the entries, some of them several times.
-/// `Err` where memory is refused.
+/// `Err` where memory runs out.
 pub fn numbers_named<A: Allocator + Copy>(
     alloc: A,
     shape: &Shape<A>,

@@ -25,7 +25,7 @@ Wants Fsck lines = lines ≡ []
 Wants Show lines = lines ≡ []
 Wants Plan lines = WantsForPlan lines
 
--- having taken these lines, the word wants no more, and says this; true where all of them are let in
+-- having taken these lines, the word wants no more, and says this; true where all of them are accepted
 abbrev pub Says : (A : Type 0) → LineWord → (lines : List (List ℕ)) → (is_done : Bool) → (text : List ℕ) → Type 0
 Says A Fsck lines is_done text = SaysOfImage Passes lines is_done text
 Says A Show lines is_done text = SaysOfImage (Shows A) lines is_done text

@@ -25,8 +25,8 @@ pub(crate) enum LineWord {
 }
 
 /// Takes the lines that the word wants, and writes what it says for them. Answers whether all of them
-/// are let in. Before that nothing is written, and no further line is read. The text is written as a
-/// whole: where memory is refused, none of it is.
+/// are accepted. Before that nothing is written, and no further line is read. The text is written as a
+/// whole: where memory runs out, none of it is.
 pub(crate) fn answer_lines<R, A, I, O>(
     rt: &R,
     alloc: A,
@@ -47,7 +47,7 @@ where
     Ok(is_done)
 }
 
-/// Appends what the word says for its lines. Answers whether all of them are let in.
+/// Appends what the word says for its lines. Answers whether all of them are accepted.
 fn tell<R, A, I>(
     rt: &R,
     alloc: A,
@@ -69,7 +69,7 @@ where
     }
 }
 
-/// Whether the image that a line says is let in: `ok`, or why it isn't.
+/// Whether the image that a line says is accepted: `ok`, or why it isn't.
 fn tell_check<R, A, I>(
     rt: &R,
     alloc: A,

@@ -37,7 +37,7 @@ const CHUNK: usize = 65_536;
 ///
 /// Stops early with `ReadFault`, `WriteFault`, `LongLine`, or `OutOfMemory` for a line's memory. The
 /// lines before were answered then; after `WriteFault` only a first part of the replies is written. A
-/// command for which memory is refused is answered `memory`, and the engine goes on.
+/// command for which memory runs out is answered `memory`, and the engine goes on.
 pub fn engine<R, A, I, O>(
     rt: &R,
     alloc: A,

@@ -65,7 +65,7 @@ fn image_in<A: Allocator + Copy>(
     load_alone(rt, alloc, bytes.as_slice(), text)
 }
 
-/// The image that the bytes spell. Where there is none, the text says why.
+/// The image that the bytes decode to. Where there is none, the text says why.
 #[tactic(auto, using(crate::proofs::Planned::loaded, crate::proofs::Planned::unloaded))]
 fn load_alone<A: Allocator + Copy>(
     rt: &(impl Threads + Sync),

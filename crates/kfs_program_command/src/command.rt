@@ -27,7 +27,7 @@ const LAST_TIER: u64 = 255;
 pub enum Command<'a, A: Allocator> {
     /// It comes before the desk is begun.
     Opening(OpeningCommand),
-    /// `image HEX`: the image that these bytes spell. It comes before the desk is begun.
+    /// `image HEX`: the image that these bytes decode to. It comes before the desk is begun.
     Image(Vec<u8, A>),
     /// It is for the desk.
     Desk(DeskCommand<'a, A>),

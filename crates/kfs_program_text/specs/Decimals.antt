@@ -7,7 +7,7 @@ use Rattle.hex.specs.Hex.{decode_of}
 abbrev pub is_digit : ℕ → Bool
 is_digit byte = nat_le 48 byte && nat_le byte 57
 
--- the decimal number that the word spells, if it is at most `most`; the word is digits alone, at least
+-- the decimal number that the word encodes, if it is at most `most`; the word is digits alone, at least
 -- one, and may begin with zeros
 abbrev pub decimal_within : (most : ℕ) → List ℕ → Option ℕ
 decimal_within most word =
@@ -20,7 +20,7 @@ decimal32 = decimal_within (2 ^ 32 - 1)
 abbrev pub decimal64 : List ℕ → Option ℕ
 decimal64 = decimal_within (2 ^ 64 - 1)
 
--- the numbers that the words spell, none where one of them spells none
+-- the numbers that the words stand for, none where one of them is no number
 unfoldable pub decimals32 : List (List ℕ) → Option (List ℕ)
 decimals32 [] = Some []
 decimals32 (word ∷ words) = elim (decimal32 word) [
@@ -28,6 +28,6 @@ decimals32 (word ∷ words) = elim (decimal32 word) [
   | Some n ↦ option_map (λ ns. n ∷ ns) (decimals32 words)
 ]
 
--- the bytes that the word spells, two hexadecimal digits for each; a minus alone spells no bytes
+-- the bytes that the word encodes, two hexadecimal digits for each; a minus alone encodes no bytes
 abbrev pub hexadecimal : List ℕ → Option (List ℕ)
 hexadecimal word = if bytes_eq word (codes "-") then Some [] else elim (decode_of word) [ Ok bytes ↦ Some bytes | Err fault ↦ None ]

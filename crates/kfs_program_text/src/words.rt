@@ -233,7 +233,7 @@ fn pair(high: u8, low: u8) -> Option<u8>
     Some(digit_value(high)? * 16 + digit_value(low)?)
 }
 
-/// Puts the bytes that the digits spell into the slice. Answers whether all are digits. Condition: there
+/// Puts the bytes that the digits stand for into the slice. Answers whether all are digits. Condition: there
 /// are two digits for each byte.
 pub(crate) fn decode_into(digits: &[u8], out: &mut [u8]) -> bool
     requires { length digits.now ≡ 2 * length out.old }

@@ -168,7 +168,7 @@ finding_text rule number = codes "finding" ++ (field_text rule ++ field_text num
 
 -- ---- lines
 
--- the line is appended; where memory is refused nothing is; memory isn't refused where 128 bytes are
+-- the line is appended; where memory runs out nothing is; memory isn't refused where 128 bytes are
 -- spare
 pub record AddsLine {Z : Type 0} (old new : Vec ℕ Z) (line : List ℕ) (result : Result Unit AllocError) : Type 0 where
   pub room : 128 ≤ spare_of old → IsOk result

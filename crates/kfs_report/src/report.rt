@@ -1,6 +1,6 @@
 //! The line of each answer. Each function appends its line, with its end, to `out`.
 //!
-//! `Err` where memory is refused; `out` is as it was then. Where `out` has 128 bytes of spare room, no
+//! `Err` where memory runs out; `out` is as it was then. Where `out` has 128 bytes of spare room, no
 //! memory is taken.
 ghost use Rattle.std.specs.Prelude.{◌≡◌, ◌+◌, ◌≤◌, ◌++◌, length, codes};
 ghost use Rattle.kfs_report.specs.Text.{AddsLine, reply_text, fault_text, head_text, act_text, done_text, node_text, header_text, kind_text, counts_text, client_text, begin_text, finding_text, image_fault_text};

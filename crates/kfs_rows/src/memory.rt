@@ -1,4 +1,4 @@
-//! Scripts in little memory: with each growth of memory refused in turn, and with few bytes.
+//! Scripts in little memory: with each allocation failing in turn, and with few bytes.
 
 use crate::runs::{DONE, Outcome, run};
 use crate::scripts::{Case, ScriptFault};
@@ -6,16 +6,16 @@ use kfs_test_support::refusing::Refusing;
 use std::alloc::{AllocError, Global};
 use std::thread::Threads;
 
-/// More growths than any script asks for.
+/// More allocations than any script asks for.
 const AMPLE: u64 = 1 << 40;
 
-/// The most growths of a script that are refused in turn.
+/// The most allocations of a script that are refused in turn.
 const MANY: u64 = 1 << 20;
 
-/// The reply to a line for which memory is refused.
+/// The reply to a line for which memory runs out.
 const REFUSED: &[u8] = b"memory";
 
-/// The exit status where the engine ends because memory is refused.
+/// The exit status where the engine ends because memory runs out.
 const ENDED: u8 = 4;
 
 /// The line with this index, without its end.
@@ -24,7 +24,7 @@ fn line_at(text: &[u8], index: usize) -> Option<&[u8]> {
     lines.nth(index)
 }
 
-/// The index of the line that was answered that memory was refused.
+/// The index of the line that was answered that memory ran out.
 fn refused_line(written: &[u8]) -> Option<usize> {
     let mut lines = written.split(|byte| *byte == b'\n');
     lines.position(|line| line == REFUSED)
@@ -99,7 +99,7 @@ impl Transcript {
     }
 }
 
-/// Whether the other lines are answered as if the line with this index, for which memory was refused,
+/// Whether the other lines are answered as if the line with this index, for which memory ran out,
 /// weren't there. If it lands a verdict, they are answered as if that verdict had never been made.
 fn is_due_without<R: AllocGlobal + Threads + Sync>(
     rt: &R,
@@ -115,8 +115,8 @@ fn is_due_without<R: AllocGlobal + Threads + Sync>(
     Ok(left.is_due(rt, words))
 }
 
-/// Whether a run in which a growth was refused ended rightly: as with memory; or early, with the first
-/// replies; or with one line for which memory was refused.
+/// Whether a run in which an allocation failed ended rightly: as with memory; or early, with the first
+/// replies; or with one line for which memory ran out.
 fn is_due<R: AllocGlobal + Threads + Sync>(
     rt: &R,
     case: &Case,
@@ -134,7 +134,7 @@ fn is_due<R: AllocGlobal + Threads + Sync>(
     }
 }
 
-/// Whether the line for which memory was refused has its reply when it comes again. That of a verdict
+/// Whether the line for which memory ran out has its reply when it comes again. That of a verdict
 /// can't come again: the verdict is given up.
 fn is_due_again<R: AllocGlobal + Threads + Sync>(
     rt: &R,
@@ -161,7 +161,7 @@ fn is_due_again<R: AllocGlobal + Threads + Sync>(
     }
 }
 
-/// Refuses each growth of the script in turn, and answers how many there are.
+/// Refuses each allocation of the script in turn, and answers how many there are.
 fn growths<R: AllocGlobal + Threads + Sync>(
     rt: &R,
     case: &Case,

@@ -15,7 +15,7 @@ abbrev pub found_at : (rule : ℕ) → (least : Option ℕ) → Option Finding
 found_at rule None = None
 found_at rule (Some number) = Some (record { rule = rule; number = number })
 
--- the fault names this finding; where memory was refused it says nothing
+-- the fault names this finding; where memory ran out it says nothing
 abbrev pub Names : ShapeFault → Option Finding → Type 0
 Names (Found found) finding = finding ≡ Some (finding_shown found)
 Names OutOfMemory finding = Unit {0}

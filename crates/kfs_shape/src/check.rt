@@ -96,7 +96,7 @@ pub fn check_asking<A: Allocator + Copy, T: AskRows>(
 /// Checks whether an image is well formed. crates/kfs_model/specs/Device/Rules.antt has the ten rules.
 ///
 /// Refused with `Found`, the least rule that is broken and the least number at which it is, or with
-/// `OutOfMemory` where memory is refused. The image isn't changed.
+/// `OutOfMemory` where memory runs out. The image isn't changed.
 pub fn check_shape<A: Allocator + Copy>(alloc: A, raw: &RawImage<A>) -> Result<(), ShapeFault>
     ensures { FindsNoneWhere result (finding_of (raw_of raw.now)) }
 {

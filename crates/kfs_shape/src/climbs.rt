@@ -83,7 +83,7 @@ fn ancestor_from(ancestors: &[Option<u32>], number: Option<u32>) -> Option<u32>
     }
 }
 
-/// The list in which each number leads as far as two steps of this one. `Err` where memory is refused.
+/// The list in which each number leads as far as two steps of this one. `Err` where memory runs out.
 fn doubled<A: Allocator>(
     alloc: A,
     ancestors: &[Option<u32>],
@@ -98,7 +98,7 @@ fn doubled<A: Allocator>(
 }
 
 /// The list in which each number from which a climb reaches the root leads to the root. `Err` where
-/// memory is refused.
+/// memory runs out.
 fn tops<A: Allocator + Copy>(
     alloc: A,
     raw: &RawImage<A>,
@@ -124,7 +124,7 @@ pub(crate) fn is_below_root(tops: &[Option<u32>], row: &RawNode) -> bool
 }
 
 /// Rule 7: the least number of a directory from which a climb doesn't reach the root, if there is one.
-/// `Err` where memory is refused.
+/// `Err` where memory runs out.
 pub(crate) fn least_unrooted<A: Allocator + Copy, T: AskRows>(
     alloc: A,
     raw: &RawImage<A>,

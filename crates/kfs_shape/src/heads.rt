@@ -13,7 +13,7 @@ use kfs_types::{Header, Kind, ROOT};
 use std::alloc::{AllocError, Allocator};
 
 /// The header of each node row, by number. Condition: the rows ascend, and their numbers are 1 to
-/// 65,536. `Err` where memory is refused.
+/// 65,536. `Err` where memory runs out.
 pub(crate) fn headers<A: Allocator + Copy>(
     alloc: A,
     raw: &RawImage<A>,

@@ -79,7 +79,7 @@ pub(crate) fn least_lost_target<A: Allocator>(
     least
 }
 
-/// How many names lead to each number below `many`. `Err` where memory is refused.
+/// How many names lead to each number below `many`. `Err` where memory runs out.
 fn name_counts<A: Allocator + Copy>(
     alloc: A,
     many: usize,
@@ -137,7 +137,7 @@ pub(crate) fn has_right_names(counts: &[u64], row: &RawNode) -> bool
 
 /// Rule 6: the least number of a file that doesn't have 1 to 1,024 names, or not as many as its links,
 /// or of a directory other than 1 that doesn't have exactly one name. None if there is no such node.
-/// `Err` where memory is refused.
+/// `Err` where memory runs out.
 pub(crate) fn least_miscounted<A: Allocator + Copy, T: AskRows>(
     alloc: A,
     raw: &RawImage<A>,

@@ -39,7 +39,7 @@ fn count_places<A: Allocator + Clone>(
     Ok(())
 }
 
-/// How many extents have each place. `Err` where memory is refused.
+/// How many extents have each place. `Err` where memory runs out.
 fn place_counts<A: Allocator + Copy>(
     alloc: A,
     rows: &[ExtentRow<A>],
@@ -66,7 +66,7 @@ fn is_alone<A: Allocator>(uses: &BTreeMap<u64, u64, A>, row: &ExtentRow<A>) -> b
 }
 
 /// Rule 10: the least file number of an extent that shares a device block with another. None if there
-/// is no such extent. `Err` where memory is refused.
+/// is no such extent. `Err` where memory runs out.
 pub(crate) fn least_shared<A: Allocator + Copy>(
     alloc: A,
     raw: &RawImage<A>,

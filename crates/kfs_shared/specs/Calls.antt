@@ -52,7 +52,7 @@ pub record IsViewAfter {A : Type 0} (beginning : Beginning) (view : View A) (see
   pub shows : IsViewOf view state
   pub begins : StartsWith seen_then seen
 
--- The call has added no row, and all rows that had been seen are seen then: more may be, where memory was refused; a full
+-- The call has added no row, and all rows that had been seen are seen then: more may be, where memory ran out; a full
 -- docket has as many as its limit; and where no ticket is left, the pass has found so, and has seen what it had seen
 abbrev pub IsUnanswered : Beginning → SharedWant → (seen seen_then : List Row) → (ended : Bool) → Type 0
 IsUnanswered beginning OutOfMemory seen seen_then ended = StartsWith seen_then seen

@@ -15,7 +15,7 @@ use std::snapshot::Snapshot;
 impl<D: Docketed, A: Allocator + Copy> Shared<D, A> {
     /// Shares an object; of a desk, all its calls are then made through passes. The pass has seen the
     /// docket as it is, and no row is its own. The first turn has the number `first`, which is 0 in use.
-    /// Where memory is refused, the object comes back.
+    /// Where memory runs out, the object comes back.
     pub fn new(alloc: A, object: D, first: u64) -> Result<(Shared<D, A>, Pass<D>), D>
         ensures pass { IfOk result (λ r. IsPassOf r.0 r.1) }
         ensures opening { IfOk result (λ r. started D.opening r.0 ≡ D.opening object) }

@@ -7,7 +7,7 @@ use thiserror::Error;
 /// Why a call of a shared desk wasn't answered. It has no row in the docket, and the desk is as it was.
 #[derive(Clone, Copy, Debug, PartialEq, Eq, Error)]
 pub enum SharedWant {
-    /// 1: memory was refused.
+    /// 1: memory ran out.
     #[error("memory")]
     OutOfMemory,
     /// 2: the docket is full: it has as many rows as its limit allows.

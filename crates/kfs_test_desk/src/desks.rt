@@ -8,7 +8,7 @@ use kfs_plan::{Back, Submission, Why};
 use kfs_test_support::vectors::{CREATE_LOG, CREATE_PLAN};
 use std::alloc::{AllocError, Allocator};
 
-/// More growths than anything here asks for.
+/// More allocations than anything here asks for.
 pub const AMPLE: u64 = 1 << 40;
 
 /// A client of uid and gid 1000 with the numbers 2 to `last`.

@@ -215,7 +215,7 @@ fn a_copy_and_the_table_go_on_apart(rt: HostRuntime) {
     assert!(rt; counts == Some([6, 6, 7, 3]), "{counts:?}");
 }
 
-/// More growths than the calls of this module ask for.
+/// More allocations than the calls of this module ask for.
 const MANY: u64 = 400;
 
 const BEFORE_THE_GROWTHS: [LeaseCall<'static>; 8] = [
@@ -255,7 +255,7 @@ const ON_THE_COPY_HELD: [LeaseCall<'static>; 8] = [
     LeaseCall::Drop(7, 20, Ok(())),
 ];
 
-/// Makes the call, and once more where it was the one for which memory was refused.
+/// Makes the call, and once more where it was the one for which memory ran out.
 fn is_answered_at_last<'a>(
     heap: &'a Refusing<Global>,
     leases: &mut Leases<&'a Refusing<Global>>,
@@ -267,7 +267,7 @@ fn is_answered_at_last<'a>(
         || (!was_refused && heap.has_refused() && is_answered(leases, shape, call))
 }
 
-/// A copy of the table, asked for once more where memory was refused for it.
+/// A copy of the table, asked for once more where memory ran out for it.
 fn copied_at_last<'a>(
     heap: &'a Refusing<Global>,
     leases: &Leases<&'a Refusing<Global>>,
@@ -279,8 +279,8 @@ fn copied_at_last<'a>(
     }
 }
 
-/// Copies the table and makes the calls beside the copy, with only the growth of this index refused. Answers
-/// whether there was such a growth; none where the outcome is wrong.
+/// Copies the table and makes the calls beside the copy, with only the allocation of this index failing. Answers
+/// whether there was such an allocation; none where the outcome is wrong.
 fn calls_with_one_refused(heap: &Refusing<Global>, growth: u64) -> Option<bool> {
     let desk = tree(heap)?;
     let shape = desk.image().shape();
@@ -300,7 +300,7 @@ fn calls_with_one_refused(heap: &Refusing<Global>, growth: u64) -> Option<bool> 
     is_right.then_some(is_refused)
 }
 
-/// How many growths the calls ask for, each refused in turn; or as an error the index of one at which
+/// How many allocations the calls ask for, each refused in turn; or as an error the index of one at which
 /// the outcome is wrong.
 fn growths(alloc: Global) -> Result<u64, u64> {
     for growth in 0..MANY {

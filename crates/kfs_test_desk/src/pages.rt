@@ -1,5 +1,5 @@
 //! Views taken before a landing, in the first and the second page of nodes; and a view that is taken
-//! without a growth of memory.
+//! without an allocation.
 
 use crate::desks::{AMPLE, Shown, is_accepted, opening, shows, submission};
 use kfs_desk::Desk;
@@ -73,7 +73,7 @@ fn a_view_from_before_a_page(rt: HostRuntime) -> Result<(), Fail> {
     Ok(())
 }
 
-/// Whether a view is taken although the next growth is refused.
+/// Whether a view is taken although the next allocation fails.
 fn is_viewed<A: Allocator + Copy>(heap: &Refusing<Global>, desk: &Desk<A>) -> bool {
     heap.refuse_after(0);
     let is_viewed = desk.view().is_ok();

@@ -1,5 +1,5 @@
 //! Scripts of workers: steps at their place and out of place, with calls between them, and scripts with
-//! each growth of memory refused in turn.
+//! each allocation failing in turn.
 
 use crate::desks::{AMPLE, FILE, NO_FILE, Shown, opening, shows, submission, yes};
 use kfs_desk::{Act, Desk, Reply};
@@ -11,7 +11,7 @@ use kfs_test_support::vectors::{CREATE_LOG, CREATE_PLAN};
 use kfs_workers_script::{ScriptBack, ScriptEnd, Step, run_script};
 use std::alloc::{Allocator, Global};
 
-/// More growths than a script asks for.
+/// More allocations than a script asks for.
 const MANY: u64 = 400;
 
 /// This many submissions of the Create of file 5.
@@ -195,7 +195,7 @@ fn twice() -> [Step<'static>; 8] {
     ]
 }
 
-/// Runs the script with only the growth of this index refused. Answers whether there was such a growth;
+/// Runs the script with only the allocation of this index failing. Answers whether there was such an allocation;
 /// none where the outcome is wrong.
 fn script_from<A: Allocator + Copy>(
     alloc: A,
@@ -229,7 +229,7 @@ fn script_on_a_heap(alloc: Global, growth: u64) -> Option<bool> {
     script_with_one_refused(&heap, growth)
 }
 
-/// How many growths the script asks for, each refused in turn; or as an error the index of one at which
+/// How many allocations the script asks for, each refused in turn; or as an error the index of one at which
 /// the outcome is wrong.
 fn growths(alloc: Global) -> Result<u64, u64> {
     for growth in 0..MANY {

@@ -21,7 +21,7 @@ const HOLES: SmallImage = SmallImage {
     ],
 };
 
-/// The image of the rows, if they are let in.
+/// The image of the rows, if they are accepted.
 fn let_in<A: Allocator + Copy>(
     rt: &(impl Threads + Sync),
     alloc: A,

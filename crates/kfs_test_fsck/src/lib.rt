@@ -1,4 +1,4 @@
-//! Tests of the checker that lets images in, and of images made of raw ones. The expected values come
+//! Tests of the checker that accepts images, and of images made of raw ones. The expected values come
 //! from docs/FORMATS.md and from the examples of `kfs_model`, never from the program's own output.
 //!
 //! It stands on `kfs_image`, `kfs_shape`, `kfs_fsck`, `kfs_test_support`. Begin with

@@ -1,4 +1,4 @@
-//! Each growth of memory refused in turn: the raw image comes back as it was, and is then let in.
+//! Each allocation failing in turn: the raw image comes back as it was, and is then let in.
 ghost use Rattle.std.specs.Prelude.{IsTrue};
 ghost use Rattle.kfs_model.specs.Device.Finding.{IsWellFormed};
 ghost use Rattle.kfs_image.specs.Codec.RawImages.{raw_of};
@@ -14,10 +14,10 @@ use std::alloc::{Allocator, Global};
 use std::process::Abort;
 use std::thread::Threads;
 
-/// More growths than anything here asks for.
+/// More allocations than anything here asks for.
 const AMPLE: u64 = 1 << 40;
 
-/// More growths than a call asks for.
+/// More allocations than a call asks for.
 const MANY: u64 = 2_000;
 
 /// Whether the ten rules hold.
@@ -30,7 +30,7 @@ fn is_right<A: Allocator + Copy>(alloc: A, raw: &RawImage<A>) -> bool
     }
 }
 
-/// Whether a growth was refused, and the raw image is as it was. No further growth is refused then.
+/// Whether an allocation failed, and the raw image is as it was. No further allocation fails then.
 fn is_kept<'a>(heap: &'a Refusing<Global>, raw: &RawImage<&'a Refusing<Global>>) -> bool {
     let has_refused = heap.has_refused();
     heap.refuse_after(AMPLE);
@@ -40,7 +40,7 @@ fn is_kept<'a>(heap: &'a Refusing<Global>, raw: &RawImage<&'a Refusing<Global>>)
     }
 }
 
-/// Whether a growth was refused, where the image is to be this; none where the answer is wrong.
+/// Whether an allocation failed, where the image is to be this; none where the answer is wrong.
 fn made_with<A: Allocator>(heap: &Refusing<Global>, made: &Image<A>) -> Option<bool> {
     (!heap.has_refused() && shows_right(made)).then_some(false)
 }
@@ -60,7 +60,7 @@ fn is_made_again<'a>(
     shows_right(&made).then_some(true)
 }
 
-/// Whether a growth was refused as an image was made of the rows; none where the answer is wrong.
+/// Whether an allocation failed as an image was made of the rows; none where the answer is wrong.
 fn is_made_refused<'a>(
     heap: &'a Refusing<Global>,
     raw: RawImage<&'a Refusing<Global>>,
@@ -73,7 +73,7 @@ fn is_made_refused<'a>(
     }
 }
 
-/// The same, with the growth of this index refused.
+/// The same, with the allocation of this index failing.
 fn is_making_refused(alloc: Global, growth: u64) -> Option<bool> {
     let heap = Refusing::new(alloc, AMPLE);
     let raw = image(&heap, &[RIGHT])?;
@@ -97,7 +97,7 @@ fn is_let_in_again<'a>(
     shows_right(&made).then_some(true)
 }
 
-/// Whether a growth was refused as the rows were checked and let in, with the growth of this index
+/// Whether an allocation failed as the rows were checked and accepted, with the allocation of this index
 /// refused; none where the answer is wrong.
 fn is_check_refused(rt: &(impl Threads + AllocGlobal + Sync), growth: u64) -> Option<bool> {
     let heap = Refusing::new(rt.alloc(), AMPLE);
@@ -110,7 +110,7 @@ fn is_check_refused(rt: &(impl Threads + AllocGlobal + Sync), growth: u64) -> Op
     }
 }
 
-/// How many growths an image of the rows asks for, each refused in turn; or as an error the index of one
+/// How many allocations an image of the rows asks for, each refused in turn; or as an error the index of one
 /// at which the answer is wrong.
 fn growths_of_making(alloc: Global) -> Result<u64, u64> {
     for growth in 0..MANY {

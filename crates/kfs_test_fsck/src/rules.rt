@@ -7,7 +7,7 @@ use std::alloc::Allocator;
 use std::process::Abort;
 use std::thread::Threads;
 
-/// The rule and the number found in the image; an inner none where it is let in.
+/// The rule and the number found in the image; an inner none where it is accepted.
 pub fn found_in<A: Allocator + Copy>(
     rt: &(impl Threads + Sync),
     alloc: A,

@@ -1,4 +1,4 @@
-//! Edits of an image: a tier with all its blocks in use, and edits in which each growth of memory is
+//! Edits of an image: a tier with all its blocks in use, and edits in which each allocation is
 //! refused in turn.
 ghost use Rattle.std.specs.Prelude.{◌≡◌, [], ◌∷◌, IfOk, IfSome};
 ghost use Rattle.kfs_image.specs.Edit.{CanEdit};

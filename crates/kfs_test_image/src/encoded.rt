@@ -40,7 +40,7 @@ fn zeros(bytes: &mut Vec<u8>, count: usize) -> Result<(), AllocError> {
     Ok(())
 }
 
-/// What the image is spelled as: the first two blocks are one extent, and of the fourth block two bytes
+/// What the image is encoded as: the first two blocks are one extent, and of the fourth block two bytes
 /// are the file's.
 fn due(alloc: Global) -> Result<Vec<u8>, AllocError> {
     let mut bytes = Vec::from_slice(

@@ -1,4 +1,4 @@
-//! Tests of edits of an image: a tier that is full, each growth refused in turn, the bytes after edits,
+//! Tests of edits of an image: a tier that is full, each allocation failing in turn, the bytes after edits,
 //! and the memory that is kept of blocks that are written over. The expected values come from
 //! docs/DEFINITIONS.md and docs/DECISIONS.md, never from the program's own output. The scripts of
 //! `kfs_rows` show what a landing does to blocks.

@@ -1,4 +1,4 @@
-//! Edits, and the change of a landing, with each growth of memory refused in turn: the image shows what it
+//! Edits, and the change of a landing, with each allocation failing in turn: the image shows what it
 //! showed, and then the same is done.
 ghost use Rattle.kfs_image.specs.Edit.{CanEdit};
 ghost use Rattle.kfs_image.specs.Net.{CanApply};
@@ -13,10 +13,10 @@ use kfs_test_support::refusing::Refusing;
 use std::alloc::{Allocator, Global};
 use std::process::Abort;
 
-/// More growths than anything here asks for.
+/// More allocations than anything here asks for.
 const AMPLE: u64 = 1 << 40;
 
-/// More growths than the edits ask for.
+/// More allocations than the edits ask for.
 const MANY: u64 = 400;
 
 /// File 5 of two blocks at `/a`.
@@ -79,14 +79,14 @@ fn shows<A: Allocator>(image: &Image<A>, wanted: &Shown) -> bool {
     }
 }
 
-/// Whether a growth was refused, and the image shows what it showed. No further growth is refused then.
+/// Whether an allocation failed, and the image shows what it showed. No further allocation fails then.
 fn is_kept<A: Allocator>(heap: &Refusing<Global>, image: &Image<A>) -> bool {
     let has_refused = heap.has_refused();
     heap.refuse_after(AMPLE);
     has_refused && shows(image, &BEFORE)
 }
 
-/// Whether a growth was refused in these edits; none where the answer is wrong.
+/// Whether an allocation failed in these edits; none where the answer is wrong.
 fn is_edit_refused<A: Allocator + Clone>(
     heap: &Refusing<Global>,
     image: &mut Image<A>,
@@ -105,7 +105,7 @@ fn is_edit_refused<A: Allocator + Clone>(
     shows(image, &EDITED).then_some(true)
 }
 
-/// The same for the edits of each kind, with the growth of this index refused.
+/// The same for the edits of each kind, with the allocation of this index failing.
 fn are_edits_refused<'a>(
     heap: &'a Refusing<Global>,
     image: &mut Image<&'a Refusing<Global>>,
@@ -135,7 +135,7 @@ fn are_refused(alloc: Global, is_shared: bool, growth: u64) -> Option<bool> {
     has_node(&view, 5).then_some(has_refused)
 }
 
-/// Whether a growth was refused in the change of a landing, the one with this index; none where the answer
+/// Whether an allocation failed in the change of a landing, the one with this index; none where the answer
 /// is wrong.
 fn is_change_refused(alloc: Global, growth: u64) -> Option<bool> {
     let heap = Refusing::new(alloc, AMPLE);
@@ -191,7 +191,7 @@ fn is_landing_refused(alloc: Global, growth: u64) -> Option<bool> {
     is_fill_refused(&heap, &mut image, &net, &fill)
 }
 
-/// What is done with each growth refused in turn.
+/// What is done with each allocation failing in turn.
 #[derive(Clone, Copy)]
 enum Change {
     Edits,
@@ -200,7 +200,7 @@ enum Change {
     LandingWithBlocks,
 }
 
-/// Whether a growth was refused in the change, the one with this index; none where the answer is wrong.
+/// Whether an allocation failed in the change, the one with this index; none where the answer is wrong.
 fn is_refused(alloc: Global, change: Change, growth: u64) -> Option<bool> {
     match change {
         Change::Edits => are_refused(alloc, false, growth),
@@ -210,7 +210,7 @@ fn is_refused(alloc: Global, change: Change, growth: u64) -> Option<bool> {
     }
 }
 
-/// How many growths the change asks for, each refused in turn; or as an error the index of one at which
+/// How many allocations the change asks for, each refused in turn; or as an error the index of one at which
 /// the answer is wrong.
 fn growths(alloc: Global, change: Change) -> Result<u64, u64> {
     for growth in 0..MANY {

@@ -7,10 +7,10 @@ use kfs_test_support::refusing::Refusing;
 use kfs_test_support::vectors::{CREATE_LOG, CREATE_PLAN, LETTERS_LOG};
 use std::alloc::Global;
 
-/// More growths than anything here asks for.
+/// More allocations than anything here asks for.
 const AMPLE: u64 = 1 << 40;
 
-/// More growths than one call asks for.
+/// More allocations than one call asks for.
 const MANY: u64 = 200;
 
 fn client_8() -> Option<Client> {
@@ -46,8 +46,8 @@ fn an_entry_with_a_fault(rt: HostRuntime) {
     assert!(rt; has_no_plan(rt.alloc(), client(), LETTERS_LOG));
 }
 
-/// The length of the plan that is made where the growth with this index is refused; none where memory is wanting. The
-/// second part says whether that growth was asked for.
+/// The length of the plan that is made where the allocation with this index is refused; none where memory is lacking. The
+/// second part says whether that allocation was asked for.
 fn made_without(alloc: Global, growth: u64) -> Option<(Option<usize>, bool)> {
     let heap = Refusing::new(alloc, AMPLE);
     let steps = [
@@ -67,7 +67,7 @@ fn made_without(alloc: Global, growth: u64) -> Option<(Option<usize>, bool)> {
     }
 }
 
-/// How many growths the call asks for, each refused in turn; none where an answer is wrong.
+/// How many allocations the call asks for, each refused in turn; none where an answer is wrong.
 fn growths(alloc: Global) -> Option<u64> {
     let (ample, _refused) = made_without(alloc, AMPLE)?;
     for growth in 0..MANY {

@@ -1,4 +1,4 @@
-//! What a plan maker calls: right pieces of a log, and the check of a plan. Each with its answer, and with each growth of
+//! What a plan maker calls: right pieces of a log, and the check of a plan. Each with its answer, and with each allocation of
 //! memory refused.
 
 use crate::examples::{opened, submission, submit};
@@ -13,10 +13,10 @@ use kfs_test_support::vectors::{
 };
 use std::alloc::{Allocator, Global};
 
-/// More growths than anything here asks for.
+/// More allocations than anything here asks for.
 const AMPLE: u64 = 1 << 40;
 
-/// More growths than one call asks for.
+/// More allocations than one call asks for.
 const MANY: u64 = 100;
 
 /// Whether client 7 has a Yes to this log and plan.
@@ -55,7 +55,7 @@ enum Call {
     CheckOther(Result<u64, RowFault>),
 }
 
-/// Whether the answer is the expected one; none where memory was refused.
+/// Whether the answer is the expected one; none where memory ran out.
 fn is_checked(answer: Result<u64, RowFault>, wanted: Result<u64, RowFault>) -> Option<bool> {
     match answer {
         Err(RowFault::OutOfMemory) => None,
@@ -71,7 +71,7 @@ fn plan<A: Allocator + Copy>(alloc: A, call: Call) -> Option<Plan<A>> {
     }
 }
 
-/// Makes the call with the growth of this index refused. Answers whether there was no such growth; none where the answer
+/// Makes the call with the allocation of this index failing. Answers whether there was no such allocation; none where the answer
 /// is wrong.
 fn called<A: Allocator + Copy>(
     alloc: A,
@@ -118,7 +118,7 @@ fn called_on_a_desk(heap: &Refusing<Global>, call: Call, growth: u64) -> Option<
     called(heap, heap, &view, call, growth)
 }
 
-/// How many growths the call asks for, each refused in turn; none where an answer is wrong.
+/// How many allocations the call asks for, each refused in turn; none where an answer is wrong.
 fn growths(alloc: Global, call: Call) -> Option<u64> {
     for growth in 0..MANY {
         let heap = Refusing::new(alloc, AMPLE);

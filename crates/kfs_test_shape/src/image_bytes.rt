@@ -7,7 +7,7 @@ use kfs_test_support::vectors::ROOT_IMAGE;
 use std::alloc::{AllocError, Allocator, Global};
 use std::process::Abort;
 
-/// More growths than any of these calls asks for.
+/// More allocations than any of these calls asks for.
 const MANY: u64 = 100;
 
 /// The length of the header in bytes.
@@ -162,12 +162,12 @@ fn other_bytes_are_refused(rt: HostRuntime) -> Result<(), AllocError> {
     Ok(())
 }
 
-/// Whether the answer is an image; or, if a growth was refused, that memory was refused.
+/// Whether the answer is an image; or, if an allocation failed, that memory ran out.
 fn is_as_due(fault: Option<ImageFault>, has_refused: bool) -> bool {
     fault.is_none() || (has_refused && fault == Some(ImageFault::OutOfMemory))
 }
 
-/// How many growths a decoder of these bytes asks for, each refused in turn; none where an answer is
+/// How many allocations a decoder of these bytes asks for, each refused in turn; none where an answer is
 /// wrong.
 fn growths(alloc: Global, bytes: &[u8]) -> Option<u64> {
     for growth in 0..MANY {

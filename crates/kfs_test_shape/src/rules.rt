@@ -1,5 +1,5 @@
 //! Each rule of an image broken alone, and together with each later rule; the least is found. And the
-//! check with one growth of memory refused.
+//! check with one allocation failing.
 
 use kfs_shape::{Finding, ShapeFault, check_shape};
 use kfs_test_support::images::broken::{RIGHT, RULES, broken, due};
@@ -8,7 +8,7 @@ use kfs_test_support::refusing::Refusing;
 use std::alloc::Allocator;
 use std::process::Abort;
 
-/// More growths than a check asks for.
+/// More allocations than a check asks for.
 const MANY: u64 = 2000;
 
 /// The finding where the rules of both indexes are broken.
@@ -29,7 +29,7 @@ fn the_least_broken_rule_is_found(rt: HostRuntime) {
     }
 }
 
-/// The answer of the check of these rows with one growth refused.
+/// The answer of the check of these rows with one allocation failing.
 fn told<B: Allocator>(
     heap: &Refusing<B>,
     parts: &[SmallImage],
@@ -40,7 +40,7 @@ fn told<B: Allocator>(
     Some(check_shape(heap, &raw))
 }
 
-/// Whether the answer is this, or, if a growth was refused, that memory was refused.
+/// Whether the answer is this, or, if an allocation failed, that memory ran out.
 fn is_as_due(
     answer: Option<Result<(), ShapeFault>>,
     due: Result<(), ShapeFault>,
@@ -49,7 +49,7 @@ fn is_as_due(
     answer == Some(due) || (has_refused && answer == Some(Err(ShapeFault::OutOfMemory)))
 }
 
-/// How many growths the check of the rows asks for, each refused in turn.
+/// How many allocations the check of the rows asks for, each refused in turn.
 fn growths(
     rt: &(impl Abort + AllocGlobal),
     parts: &[SmallImage],

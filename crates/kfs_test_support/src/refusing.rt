@@ -1,5 +1,5 @@
-//! An allocator that refuses one growth, or growths for which no bytes are left, for tests of calls
-//! without memory. Threads may share it. A growth is one request for memory.
+//! An allocator that refuses one allocation, or allocations for which no bytes are left, for tests of calls
+//! without memory. Threads may share it. An allocation is one request for memory.
 
 use std::alloc::{AllocError, Allocator};
 use std::sync::atomic::{AtomicU64, Ordering};
@@ -10,13 +10,13 @@ const ANY: u64 = u64::MAX / 2;
 /// What may still be granted.
 #[derive(Drop)]
 struct Allowed {
-    /// How many growths come before the one that is refused.
+    /// How many allocations come before the one that is refused.
     growths: AtomicU64,
     /// How many bytes may be held beyond those that are.
     bytes: AtomicU64,
 }
 
-/// Passes each growth on to another allocator, except for one, and for growths of more bytes than are
+/// Passes each allocation on to another allocator, except for one, and for allocations of more bytes than are
 /// left. Use a `&` to it as the allocator.
 pub struct Refusing<B: Allocator> {
     inner: B,
@@ -24,7 +24,7 @@ pub struct Refusing<B: Allocator> {
 }
 
 impl<B: Allocator> Refusing<B> {
-    /// Grants `left` growths, refuses the next one, and grants all others, of any number of bytes.
+    /// Grants `left` allocations, refuses the next one, and grants all others, of any number of bytes.
     pub fn new(inner: B, left: u64) -> Refusing<B> {
         Refusing {
             inner,
@@ -35,18 +35,18 @@ impl<B: Allocator> Refusing<B> {
         }
     }
 
-    /// The same from now on: grants `left` growths, refuses the next one, and grants all others.
+    /// The same from now on: grants `left` allocations, refuses the next one, and grants all others.
     pub fn refuse_after(&self, left: u64) {
         self.allowed.growths.store(left, Ordering::SeqCst);
     }
 
-    /// From now on grants only growths with which at most `bytes` more bytes are held at one time. A
-    /// growth that the inner allocator refuses counts as held, and so does one that is being refused.
+    /// From now on grants only allocations with which at most `bytes` more bytes are held at one time. A
+    /// allocation that the inner allocator refuses counts as held, and so does one that is being refused.
     pub fn leave(&self, bytes: u64) {
         self.allowed.bytes.store(bytes, Ordering::SeqCst);
     }
 
-    /// Whether the growth that is refused has been asked for.
+    /// Whether the allocation that is refused has been asked for.
     pub fn has_refused(&self) -> bool {
         self.allowed.growths.load(Ordering::SeqCst) > u64::MAX / 2
     }
@@ -61,7 +61,7 @@ impl<B: Allocator> Drop for Refusing<B> {
     }
 }
 
-/// Whether the next growth, of this many bytes, is refused. If not, they are held.
+/// Whether the next allocation, of this many bytes, is refused. If not, they are held.
 fn refuses(allowed: &Allowed, size: usize) -> bool {
     let growths = allowed.growths.fetch_sub(1, Ordering::SeqCst);
     let bytes = allowed.bytes.fetch_sub(size as u64, Ordering::SeqCst);

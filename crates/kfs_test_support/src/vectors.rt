@@ -1,4 +1,4 @@
-//! Logs and plans beside the bytes that spell them, from the description of the formats.
+//! Logs and plans beside the bytes that encode them, from the description of the formats.
 
 /// Client 7 creates file 5 named "a" in the root, with mode 0o644.
 pub const CREATE_LOG: &[u8] = b"KLOG\x01\0\0\0\x07\0\x01\x01\0\0\0\x01\x01a\0\0\0\x05\0\x01\xa4";

@@ -30,7 +30,7 @@ pub mod shape {
     };
 }
 
-/// The checker that lets images in.
+/// The checker that accepts images.
 pub mod fsck {
     pub use kfs_fsck::laws::{least_of_two_lists, old_image, saved_image};
     pub use kfs_fsck::{Finding, FsckFault, Image, RawImage, fsck};

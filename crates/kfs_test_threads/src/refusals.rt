@@ -1,4 +1,4 @@
-//! Calls of a shared desk with each growth of memory refused in turn.
+//! Calls of a shared desk with each allocation failing in turn.
 ghost use Rattle.kfs_shared.specs.Passes.{IsPassOf};
 
 use crate::calls::{Sharing, act, closed, has_node, land, shared, shared_from, view};
@@ -12,13 +12,13 @@ use kfs_test_support::vectors::{CREATE_LOG, CREATE_PLAN};
 use std::alloc::{Allocator, Global};
 use std::sync::Wait;
 
-/// More growths than anything here asks for.
+/// More allocations than anything here asks for.
 const AMPLE: u64 = 1 << 40;
 
-/// More growths than one call asks for.
+/// More allocations than one call asks for.
 const MANY: u64 = 200;
 
-/// A call, with each of its growths refused in turn.
+/// A call, with each of its allocations refused in turn.
 #[derive(Clone, Copy)]
 enum Call {
     View,
@@ -35,7 +35,7 @@ enum Answer<A: Allocator> {
     Refused(Submission<A>),
 }
 
-/// Whether a view shows the desk as it was opened, rather than that memory is refused; none where the
+/// Whether a view shows the desk as it was opened, rather than that memory runs out; none where the
 /// answer is another one.
 fn viewed<A: Allocator + Copy, R: Wait>(
     rt: &R,
@@ -52,7 +52,7 @@ fn viewed<A: Allocator + Copy, R: Wait>(
     }
 }
 
-/// Whether a call for a lease is answered in row 1, rather than that memory is refused; none where the
+/// Whether a call for a lease is answered in row 1, rather than that memory runs out; none where the
 /// answer is another one.
 fn acted<A: Allocator + Copy, R: Wait>(
     rt: &R,
@@ -94,7 +94,7 @@ fn verdict<A: Allocator + Copy, R: Wait>(
     judge(alloc, &view, submission).ok()
 }
 
-/// Whether the submission is answered Yes in row 1, or comes back because memory is refused; none where
+/// Whether the submission is answered Yes in row 1, or comes back because memory runs out; none where
 /// the answer is another one.
 fn landed<A: Allocator + Copy, R: Wait>(
     rt: &R,
@@ -117,7 +117,7 @@ fn landed<A: Allocator + Copy, R: Wait>(
     }
 }
 
-/// Makes the call with the growth of this index refused. A verdict is made with ample memory.
+/// Makes the call with the allocation of this index failing. A verdict is made with ample memory.
 fn called<A: Allocator + Copy, R: Wait>(
     rt: &R,
     alloc: A,
@@ -163,8 +163,8 @@ fn is_create<A: Allocator>(submission: &Submission<A>) -> bool {
         && submission.plan.as_slice() == CREATE_PLAN
 }
 
-/// Makes the call with the growth of this index refused, and once more, with ample memory and with what
-/// came back, where it was refused. Whether that growth was asked for; none where an answer is wrong, or
+/// Makes the call with the allocation of this index failing, and once more, with ample memory and with what
+/// came back, where it was refused. Whether that allocation was asked for; none where an answer is wrong, or
 /// the docket at the end.
 fn called_until_answered<A: Allocator + Copy, R: Wait>(
     rt: &R,
@@ -209,7 +209,7 @@ fn called_with_one_refused<R: Wait>(
     called_until_answered(rt, heap, heap, sharing, call, growth)
 }
 
-/// How many growths the call asks for, each refused in turn; or as an error the index of one at which
+/// How many allocations the call asks for, each refused in turn; or as an error the index of one at which
 /// an answer is wrong.
 fn growths<R: Wait>(rt: &R, alloc: Global, call: Call) -> Result<u64, u64> {
     for growth in 0..MANY {
@@ -241,7 +241,7 @@ fn each_growth_of_a_call_for_leases_refused(rt: HostRuntime) {
     assert!(rt; matches!(count, Ok(1..)), "{count:?}");
 }
 
-/// Shares a desk with the growth of this index refused, and again where it was. Whether that growth was
+/// Shares a desk with the allocation of this index failing, and again where it was. Whether that allocation was
 /// asked for; none where the desk doesn't come back as it was.
 fn shared_with_one_refused(heap: &Refusing<Global>, growth: u64) -> Option<bool> {
     let desk = opened(heap)?;
@@ -255,7 +255,7 @@ fn shared_with_one_refused(heap: &Refusing<Global>, growth: u64) -> Option<bool>
     }
 }
 
-/// Whether a growth was refused; none where the docket hasn't the one row of the setting.
+/// Whether an allocation failed; none where the docket hasn't the one row of the setting.
 fn rows_of<A: Allocator + Copy>(
     shared: Shared<Desk<A>, A>,
     pass: Pass<Desk<A>>,
@@ -271,7 +271,7 @@ fn rows_of<A: Allocator + Copy>(
     }
 }
 
-/// How many growths the sharing of a desk asks for, each refused in turn.
+/// How many allocations the sharing of a desk asks for, each refused in turn.
 fn growths_of_sharing(alloc: Global) -> Option<u64> {
     for growth in 0..MANY {
         let heap = Refusing::new(alloc, AMPLE);

@@ -161,7 +161,7 @@ fn no_ticket_is_left(rt: HostRuntime) {
     assert!(rt; spent(&rt, rt.alloc()) == Some(([why, why, why], 1, 1)));
 }
 
-// ---- a verdict that is judged again
+// ---- a verdict that is revalidated
 
 const DROPPED: Act<'static> = Act::Drop {
     client: 7,

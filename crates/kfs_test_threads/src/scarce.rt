@@ -1,4 +1,4 @@
-//! Batches of one worker with each growth of memory refused in turn.
+//! Batches of one worker with each allocation failing in turn.
 
 use crate::batch::{Ending, are_creates, batch, creates, is_create};
 use crate::files::FILES_P;
@@ -12,16 +12,16 @@ use std::alloc::{Allocator, Global};
 use std::sync::Wait;
 use std::thread::Threads;
 
-/// More growths than anything here asks for.
+/// More allocations than anything here asks for.
 const AMPLE: u64 = 1 << 40;
 
-/// More growths than one batch asks for.
+/// More allocations than one batch asks for.
 const MANY: u64 = 1_000;
 
 /// A desk, and the submissions that it hasn't answered.
 type Rest<A> = (Desk<A>, Vec<Submission<A>, A>);
 
-/// Whether the submission with this number is left for want of memory, as it was handed in.
+/// Whether the submission with this number is left for lack of memory, as it was handed in.
 fn is_left<A: Allocator>(left: &[Left<A>], number: usize) -> bool {
     match left {
         [one] => {
@@ -62,7 +62,7 @@ fn submissions_of<A: Allocator + Copy>(
 }
 
 /// What isn't answered at the end of a batch; none where a creation is neither answered nor left, or is
-/// left with no growth refused.
+/// left with no allocation failing.
 fn rest_of_end<A: Allocator + Copy>(
     alloc: A,
     end: BatchEnd<A>,
@@ -80,7 +80,7 @@ fn rest_of_end<A: Allocator + Copy>(
     Some((desk, submissions))
 }
 
-/// All that came back; none where it isn't as it was handed in, or came back with no growth refused.
+/// All that came back; none where it isn't as it was handed in, or came back with no allocation failing.
 fn rest_of_back<A: Allocator + Copy>(
     desk: Desk<A>,
     submissions: Vec<Submission<A>, A>,
@@ -104,7 +104,7 @@ fn rest_of<A: Allocator + Copy>(alloc: A, ending: Ending<A>, has_refused: bool) 
     }
 }
 
-/// How a batch of the four creations ends, with the growth of this index refused.
+/// How a batch of the four creations ends, with the allocation of this index failing.
 fn ended<'a, R: Threads + Wait + Sync>(
     rt: &R,
     heap: &'a Refusing<Global>,
@@ -134,8 +134,8 @@ fn is_finished<'a, R: Threads + Wait + Sync>(
     }
 }
 
-/// A batch with the growth of this index refused, and another one with ample memory of what isn't
-/// answered then. Whether that growth was asked for; none where an ending is wrong.
+/// A batch with the allocation of this index failing, and another one with ample memory of what isn't
+/// answered then. Whether that allocation was asked for; none where an ending is wrong.
 fn batch_with_one_refused<R: Threads + Wait + Sync>(
     rt: &R,
     heap: &Refusing<Global>,
@@ -152,7 +152,7 @@ fn batch_with_one_refused<R: Threads + Wait + Sync>(
     }
 }
 
-/// How many growths the batch asks for, each refused in turn; or as an error the index of one at which
+/// How many allocations the batch asks for, each refused in turn; or as an error the index of one at which
 /// an ending is wrong.
 fn growths<R: Threads + Wait + Sync>(rt: &R, alloc: Global) -> Result<u64, u64> {
     for growth in 0..MANY {

@@ -29,7 +29,7 @@ fn lease<A: Allocator + Copy>(desk: &mut Desk<A>, path: &[u8]) {
 
 /// A desk whose docket takes so many rows. Client 7 holds the root, which is row 0.
 ///
-/// It is given back without a look at the answer: that a desk may be dropped on the way makes the proofs
+/// It is freed without a look at the answer: that a desk may be dropped on the way makes the proofs
 /// of these functions long.
 pub fn opened_with<A: Allocator + Copy>(alloc: A, limit: u32) -> Option<Desk<A>> {
     let mut desk = begun(alloc, limit)?;

@@ -62,7 +62,7 @@ fn second_of(ending: &Ending<Global>, reason: Reason) -> Option<bool> {
     }
 }
 
-/// Whether the Write of this client is refused for the reason, and was judged again.
+/// Whether the Write of this client is refused for the reason, and was revalidated.
 fn is_judged_again<R: Threads + Wait + Sync>(
     rt: &R,
     alloc: Global,

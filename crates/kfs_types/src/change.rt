@@ -8,7 +8,7 @@ use std::alloc::AllocError;
 ///
 /// Changes are nested: `make` prepares its own change, calls `make` of the next, and then writes its own
 /// values. On the way in all memory is taken, and nothing that anyone sees changes. On the way out values
-/// are written, for which the memory is there, so that nothing can fail any more. Where memory is refused
+/// are written, for which the memory is there, so that nothing can fail any more. Where memory runs out
 /// on the way in, no value is written.
 pub trait Change {
     /// What must hold before a call.
@@ -20,7 +20,7 @@ pub trait Change {
     /// What holds of the states before and after a call that returned `Err`.
     ghost kept: { Self → Self → Type 0 };
 
-    /// Makes the change. `Err` only where memory is refused, before the first value is written.
+    /// Makes the change. `Err` only where memory runs out, before the first value is written.
     fn make(&mut self) -> Result<(), AllocError>
         requires { can_make self.old }
         ensures made { OnOk result (made self.old self.new) }

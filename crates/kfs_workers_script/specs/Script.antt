@@ -43,7 +43,7 @@ abbrev pub taken : ScriptState → (worker ticket : ℕ) → Submission → Scri
 taken state worker ticket submission =
     record state { waiting = set state.waiting ticket None; hands = set state.hands worker (Some (Taken ticket submission state.desk.state)) }
 
--- a Look: a worker who holds nothing takes a submission that waits, unless memory is refused; else
+-- a Look: a worker who holds nothing takes a submission that waits, unless memory runs out; else
 -- nothing changes
 abbrev pub DoesLook : ScriptState → (worker ticket : ℕ) → (hand : Option (Option Holding)) → (waits : Option Submission) → ScriptState → Type 0
 DoesLook state worker ticket (Some None) (Some submission) next = (next ≡ taken state worker ticket submission) ⊎ (next ≡ state)
@@ -62,7 +62,7 @@ pub record VerdictIsLanded (state : ScriptState) (worker ticket : ℕ) (verdict 
   pub landed : LandsVerdict state.desk verdict answer next.desk
   pub is : next ≡ record { desk = next.desk; waiting = state.waiting; hands = set state.hands worker None; replies = set state.replies ticket (Some answer) }
 
--- a Land: a verdict is landed, or its submission goes back where memory is refused or the docket is
+-- a Land: a verdict is landed, or its submission goes back where memory runs out or the docket is
 -- full; else nothing changes
 abbrev pub DoesLand : ScriptState → (worker : ℕ) → (hand : Option Holding) → ScriptState → Type 0
 DoesLand state worker (Some (Decided ticket verdict)) next = VerdictIsLanded state worker ticket verdict next ⊎ (next ≡ given_back state worker ticket verdict.submission)
@@ -75,7 +75,7 @@ pub record IsAsked (state : ScriptState) (call : Call) (words : ℕ → Done) (n
   pub acted : IsActed state.desk call words reply next.desk
   pub is : next ≡ record state { desk = next.desk }
 
--- a call that is no submission: it is answered, or nothing changes where memory is refused or the docket
+-- a call that is no submission: it is answered, or nothing changes where memory runs out or the docket
 -- is full
 abbrev pub DoesCall : ScriptState → Call → (words : ℕ → Done) → ScriptState → Type 0
 DoesCall state call words next = IsAsked state call words next ⊎ (next ≡ state)

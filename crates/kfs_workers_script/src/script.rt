@@ -41,7 +41,7 @@ pub struct ScriptEnd<A: Allocator> {
     pub left: Vec<Option<Submission<A>>, A>,
 }
 
-/// The desk and the submissions of a script that made no step, because memory was refused.
+/// The desk and the submissions of a script that made no step, because memory ran out.
 #[derive(Drop)]
 pub struct ScriptBack<A: Allocator> {
     /// As it was handed in.
@@ -58,7 +58,7 @@ pub struct ScriptBack<A: Allocator> {
 /// - a Judge or a Land of a worker that holds nothing;
 /// - a Judge of what is judged, and a Land of what isn't.
 ///
-/// Where memory is refused for a step, or the docket is full, the step changes only this: a submission
+/// Where memory runs out for a step, or the docket is full, the step changes only this: a submission
 /// that its worker holds goes back under its ticket. What workers hold at the end is left.
 ///
 /// Takes memory for its lists before the first step; `Err` where that is refused, with desk and

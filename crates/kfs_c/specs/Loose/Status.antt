@@ -5,7 +5,7 @@ use Rattle.std.specs.Prelude.{ℕ}
 abbrev pub done : ℕ
 done = 0
 
--- memory was refused
+-- memory ran out
 abbrev pub no_memory : ℕ
 no_memory = 1
 

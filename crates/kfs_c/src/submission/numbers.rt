@@ -22,7 +22,7 @@ pub struct ReplyNumbers {
     pub kind: u32,
     /// The row of the docket, from 0.
     pub position: u32,
-    /// Whether it was judged again.
+    /// Whether it was revalidated.
     pub rejudged: bool,
     /// How many free places of tier 0 the log needs. 0 where the answer is no.
     pub need: u64,

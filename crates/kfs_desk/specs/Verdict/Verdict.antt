@@ -56,7 +56,7 @@ pub record IsVerdictOn (s : State) (submission : Submission) (verdict : HeldVerd
   pub looked : (verdict.reads ≡ []) ⊎ AreLookedAt s submission verdict.reads
 
 -- the verdict's submission is answered at a desk whose docket has room, and the desk goes on to the next; it
--- is judged again exactly where the verdict isn't up to date
+-- is revalidated exactly where the verdict isn't up to date
 pub record LandsVerdict (desk : Desk) (verdict : HeldVerdict) (answer : Reply) (next : Desk) : Type 0 where
   pub room : length desk.docket ≢ desk.limit
   pub rejudged : IsFalse (is_rejudged answer) ↔ IsUpToDate desk.state verdict

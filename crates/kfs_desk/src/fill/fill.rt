@@ -114,7 +114,7 @@ fn file_blocks<A: Allocator + Copy>(
 /// have rows.
 ///
 /// `nodes` are the rows of the log's net. Condition: the pieces ascend, none is empty, and they and the
-/// payloads are in range. Bytes are put into memory from `spares` first. `Err` where memory is refused.
+/// payloads are in range. Bytes are put into memory from `spares` first. `Err` where memory runs out.
 pub(crate) fn fill_of<A: Allocator + Copy>(
     alloc: A,
     image: &Image<A>,
@@ -140,7 +140,7 @@ pub(crate) fn fill_of<A: Allocator + Copy>(
 
 /// Makes the change that a log makes: the names and headers of its net, and its bytes. Condition: that
 /// of `fill_of`, and the net can be applied with such a fill. Blocks are made in the memory of those that
-/// were written over, where the image keeps some. `Err` where memory is refused; the image shows what it
+/// were written over, where the image keeps some. `Err` where memory runs out; the image shows what it
 /// showed then.
 pub fn land_bytes<A: Allocator + Copy>(
     alloc: A,

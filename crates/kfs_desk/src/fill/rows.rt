@@ -14,7 +14,7 @@ use std::alloc::{AllocError, Allocator};
 
 /// A row for each of these blocks, with its place on tier 0 and its bytes after the log. Pieces and
 /// blocks ascend, so pieces that end before a block are skipped for good. Bytes are put into memory from
-/// `spares`, until there is none. `Err` where memory is refused.
+/// `spares`, until there is none. `Err` where memory runs out.
 pub(crate) fn block_rows<A: Allocator + Copy>(
     alloc: A,
     image: &Image<A>,

@@ -8,7 +8,7 @@ use std::alloc::{AllocError, Allocator};
 use thiserror::Error;
 
 /// The answer to a submission. `position` is its row in the docket, from 0. `rejudged` says whether it
-/// was judged again because something that the first verdict rested on had changed.
+/// was revalidated because something that the first verdict rested on had changed.
 #[derive(Clone, Copy, Debug, PartialEq, Eq)]
 pub enum Reply {
     /// The log was landed: the tree is what its entries make of it. `need` is the number of blocks that
@@ -70,7 +70,7 @@ pub struct ActReply {
 /// Why a call that is no submission wasn't answered. It has no row in the docket, and the desk is as it was.
 #[derive(Clone, Copy, Debug, PartialEq, Eq, Error)]
 pub enum Unanswered {
-    /// 1: memory was refused.
+    /// 1: memory ran out.
     #[error("memory")]
     OutOfMemory,
     /// 2: the docket is full: it has as many rows as its limit allows.

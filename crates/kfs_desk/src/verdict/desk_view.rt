@@ -31,7 +31,7 @@ impl<A: Allocator> Model for DeskView<A> {
 }
 
 impl<A: Allocator + Copy> DeskView<A> {
-    /// A view of the desk's state now. `Err` where memory is refused.
+    /// A view of the desk's state now. `Err` where memory runs out.
     pub fn at(desk: &Desk<A>) -> Result<DeskView<A>, AllocError>
         ensures { IfOk result (λ look. look ≡ desk.now.state) }
     {

@@ -6,7 +6,7 @@ use std::alloc::{AllocError, Allocator};
 /// How many workers a script and a session have.
 pub const WORKERS: usize = 8;
 
-/// A list of `count` empty places. `Err` where memory is refused.
+/// A list of `count` empty places. `Err` where memory runs out.
 pub fn none_of<T: Drop, A: Allocator>(
     alloc: A,
     count: usize,

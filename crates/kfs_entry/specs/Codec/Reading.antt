@@ -13,7 +13,7 @@ pub record IsChunk (source : List ℕ) (at count : ℕ) (bytes : List ℕ) (end 
   pub within : end ≤ length source
   pub enough : count ≤ length (drop at source)
 
--- the bytes of the source from position `at` to `end` are this spelling
+-- the bytes of the source from position `at` to `end` are this encoding
 pub record StandsIn (source : List ℕ) (at end : ℕ) (spelling : List ℕ) : Type 0 where
   pub within : end ≤ length source
   pub parts : drop at source ≡ spelling ++ drop end source

@@ -10,7 +10,7 @@ pub record AreRead {R : Type 0} (fits : R → Type 0) (spelling : R → List ℕ
   pub number : length rows ≡ count
   pub are : AreRows fits spelling rows (drop at source) (drop end source)
 
--- the fault is right: the rows stop at the index that it names, or memory was refused
+-- the fault is right: the rows stop at the index that it names, or memory ran out
 abbrev pub RowMissing : {R : Type 0} → (R → Type 0) → (R → List ℕ) → (List ℕ → Type 0) → ℕ → List ℕ → RowsFault → Type 0
 RowMissing fits spelling begins count bytes (BadRow k) = LacksRowBy fits spelling begins count k bytes
 RowMissing fits spelling begins count bytes OutOfMemory = Unit {0}

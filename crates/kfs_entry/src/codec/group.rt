@@ -24,7 +24,7 @@ pub fn read(version: u8, source: &[u8], at: usize) -> Option<(u32, usize)>
     number32::read(source, at)
 }
 
-/// Appends the bytes of the value. `Err` where memory is refused.
+/// Appends the bytes of the value. `Err` where memory runs out.
 pub fn write<A: Allocator>(
     out: &mut Vec<u8, A>,
     source: &[u8],

@@ -51,7 +51,7 @@ pub fn read(source: &[u8], at: usize) -> Option<(Option<Header>, usize)>
     Some((Some(header), at))
 }
 
-/// Appends the bytes of the value. `Err` where memory is refused.
+/// Appends the bytes of the value. `Err` where memory runs out.
 pub fn write<A: Allocator>(
     out: &mut Vec<u8, A>,
     source: &[u8],

@@ -137,7 +137,7 @@ pub fn read_plan(source: &[u8]) -> Option<(PlanHeader, usize)>
     header_of_plan(source)
 }
 
-/// Appends a log's header, 11 bytes. `Err` where memory is refused.
+/// Appends a log's header, 11 bytes. `Err` where memory runs out.
 pub fn write_log<A: Allocator>(out: &mut Vec<u8, A>, header: LogHeader) -> Result<(), AllocError>
     ensures { OnOk result (out.new.items ≡ out.old.items ++ log_header (log_header_of header)) }
 {
@@ -147,7 +147,7 @@ pub fn write_log<A: Allocator>(out: &mut Vec<u8, A>, header: LogHeader) -> Resul
     number16::write(out, &[], &header.entries)
 }
 
-/// Appends a plan's header, 13 bytes. `Err` where memory is refused.
+/// Appends a plan's header, 13 bytes. `Err` where memory runs out.
 pub fn write_plan<A: Allocator>(out: &mut Vec<u8, A>, header: PlanHeader) -> Result<(), AllocError>
     ensures { OnOk result (out.new.items ≡ out.old.items ++ plan_header (plan_header_of header)) }
 {

@@ -23,7 +23,7 @@ pub fn read(source: &[u8], at: usize) -> Option<(Kind, usize)>
     }
 }
 
-/// Appends the bytes of the value. `Err` where memory is refused.
+/// Appends the bytes of the value. `Err` where memory runs out.
 pub fn write<A: Allocator>(
     out: &mut Vec<u8, A>,
     _source: &[u8],
@@ -43,7 +43,7 @@ pub fn write<A: Allocator>(
 pub fn len(_source: &[u8], value: &Kind) -> usize
     ensures { result ≡ length (kind_bytes (kind_of value.now)) }
 {
-    // For the prover: whichever kind it is, its spelling is one byte.
+    // For the prover: whichever kind it is, its encoding is one byte.
     let _kind = *value;
     1
 }

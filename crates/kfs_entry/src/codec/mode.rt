@@ -35,7 +35,7 @@ pub fn read(version: u8, source: &[u8], at: usize) -> Option<(u16, usize)>
     Some((mode, at))
 }
 
-/// Appends the bytes of the value. `Err` where memory is refused.
+/// Appends the bytes of the value. `Err` where memory runs out.
 pub fn write<A: Allocator>(
     out: &mut Vec<u8, A>,
     source: &[u8],

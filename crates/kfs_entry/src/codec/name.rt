@@ -20,7 +20,7 @@ pub fn read(source: &[u8], at: usize) -> Option<(Name, usize)>
     Some((Name::new(bytes)?, at))
 }
 
-/// Appends the bytes of the value. `Err` where memory is refused.
+/// Appends the bytes of the value. `Err` where memory runs out.
 pub fn write<A: Allocator>(
     out: &mut Vec<u8, A>,
     _source: &[u8],

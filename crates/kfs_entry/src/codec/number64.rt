@@ -18,7 +18,7 @@ pub fn read(source: &[u8], at: usize) -> Option<(u64, usize)>
     Some((u64::from_be_bytes(*bytes), at))
 }
 
-/// Appends the bytes of the value. `Err` where memory is refused.
+/// Appends the bytes of the value. `Err` where memory runs out.
 #[tactic(auto, unfolding(kfs_model::specs::Spelling::number64))]
 pub fn write<A: Allocator>(
     out: &mut Vec<u8, A>,

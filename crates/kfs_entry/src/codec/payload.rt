@@ -25,7 +25,7 @@ pub fn read(source: &[u8], at: usize) -> Option<(Span, usize)>
     Some((Span { start, end }, end))
 }
 
-/// Appends the bytes of the value. `Err` where memory is refused.
+/// Appends the bytes of the value. `Err` where memory runs out.
 pub fn write<A: Allocator>(
     out: &mut Vec<u8, A>,
     source: &[u8],

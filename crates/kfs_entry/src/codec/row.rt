@@ -10,10 +10,10 @@ use std::alloc::{AllocError, AllocFailed, Allocator};
 pub trait SpelledRow: Drop {
     ghost use Rattle.std.specs.Prelude.{ℕ, List};
 
-    /// The bytes that spell the row.
+    /// The bytes that encode the row.
     ghost spelling: { List ℕ → Self → List ℕ };
 
-    /// The row has a spelling in this version of its format, and its spans lie in the source.
+    /// The row has an encoding in this version of its format, and its spans lie in the source.
     ghost fits: { ℕ → List ℕ → Self → Type 0 };
 
     /// What `write` requires of a row. It is nothing where any value of the fields' types can be
@@ -30,12 +30,12 @@ pub trait SpelledRow: Drop {
         ensures found { IfSome result (λ x. fits version source.now x.0 × StandsIn source.now at x.1 (spelling source.now x.0)) }
         ensures none { IfNone result (begins version (drop at source.now) → ⊥) };
 
-    /// Appends the row's bytes. `Err` where memory is refused.
+    /// Appends the row's bytes. `Err` where memory runs out.
     fn write<A: Allocator>(&self, out: &mut Vec<u8, A>, source: &[u8]) -> Result<(), AllocError>
         requires { can_write source.now self.now }
         ensures { OnOk result (out.new.items ≡ out.old.items ++ spelling source.now self.now) };
 
-    /// The length of the row's spelling in bytes.
+    /// The length of the row's encoding in bytes.
     fn len(&self, source: &[u8]) -> usize
         requires { can_write source.now self.now }
         ensures { result ≡ length (spelling source.now self.now) };
@@ -46,7 +46,7 @@ pub trait SpelledRow: Drop {
 pub enum RowsFault {
     /// This many rows were read, fewer than the count, and no row follows.
     BadRow(u32),
-    /// A growth was refused.
+    /// An allocation failed.
     OutOfMemory,
 }
 
@@ -103,7 +103,7 @@ pub fn read_rows<R: SpelledRow, A: Allocator>(
     Ok((rows, end))
 }
 
-/// Appends the bytes of the rows, one after another. `Err` where memory is refused; what was appended
+/// Appends the bytes of the rows, one after another. `Err` where memory runs out; what was appended
 /// until then stays.
 pub fn write_rows<R: SpelledRow, A: Allocator>(
     out: &mut Vec<u8, A>,
@@ -119,7 +119,7 @@ pub fn write_rows<R: SpelledRow, A: Allocator>(
     Ok(())
 }
 
-/// The length of all the spellings in bytes, or `usize::MAX` where it is greater.
+/// The length of all the encodings in bytes, or `usize::MAX` where it is greater.
 pub fn rows_len<R: SpelledRow>(source: &[u8], rows: &[R]) -> usize
     requires { All (R.can_write source.now) rows.now }
 {

@@ -1,4 +1,4 @@
--- What is written or counted of a walk, one row after another, and the parts of an image's spelling.
+-- What is written or counted of a walk, one row after another, and the parts of an image's encoding.
 use Rattle.std.proofs.Common.{◌≡◌, ℕ, ◌+◌, List, [], ◌∷◌, ◌++◌, length, map, refl, sym, ap, ◌∙◌, append_assoc, append-nil, arith}
 use Rattle.std.specs.List.{flat_map}
 use Rattle.kfs_model.specs.Limits.{latest_version}
@@ -41,7 +41,7 @@ module _ (image : DeviceImage) (lawful : IsLawful image) where
   extents : List ExtentRow
   extents = extents_of (shown_tree image) image.placement
 
-  -- the header of an image's spelling
+  -- the header of an image's encoding
   header_for : (nodes names extents : ℕ) → ImageHeader
   header_for nodes names extents = record { version = latest_version; sizes = image.sizes; nodes = nodes; names = names; extents = extents }
 

@@ -62,7 +62,7 @@ module _ (old new : Placement) (tiers : TiersShown) (given taken : List Place) (
       let below = before.in_tier left.block place left.before in
       (in_tier place below, holds.unused place below ∙ used_from old place left.block left.before)
 
-  -- which places are free once these are given back
+  -- which places are free once these are freed
   given_back : (place : Place) → is_free_at (with_places true given tiers.free) place ≡ cond (is_among given place) true (is_free_at tiers.free place)
   given_back place = is_free_at-with_places place true given tiers.free (can_turn true given tiers.free (λ k d inside. given_used _ (moves.each_left k d inside)) moves.given_once)
 

@@ -26,7 +26,7 @@ names_from directory names = entries_from (Included (directory, [])) names
 abbrev pub node_entry_of : RawNode → ℕ × Header
 node_entry_of row = (row.number, header_of row.header)
 
--- the spelling of a node's row, and of a name's
+-- the encoding of a node's row, and of a name's
 abbrev pub node_spelling : ℕ × Header → List ℕ
 node_spelling entry = raw_node_bytes (raw_node entry)
 

@@ -45,7 +45,7 @@ impl<A: Allocator> Model for FileBlocks<A> {
 
 impl<A: Allocator> FileBlocks<A> {
     /// Tiers of these sizes, with no block anywhere and none written. Takes one bit of memory for each
-    /// place; `Err` where memory is refused.
+    /// place; `Err` where memory runs out.
     pub fn new(alloc: A, sizes: TierSizes) -> Result<FileBlocks<A>, AllocError>
     where
         A: Clone,
@@ -124,7 +124,7 @@ impl<A: Allocator> FileBlocks<A> {
 
 impl<A: Allocator + Clone> FileBlocks<A> {
     /// Changes where blocks lie, and writes blocks, at any places of the tiers. A block that moves
-    /// leaves its bytes at the old place. `Err` where memory is refused; all is as before then.
+    /// leaves its bytes at the old place. `Err` where memory runs out; all is as before then.
     pub fn change(
         &mut self,
         edits: &[KeyEdit<(u32, u32), Place>],
@@ -145,7 +145,7 @@ impl<A: Allocator + Clone> FileBlocks<A> {
 
     /// Unmaps the blocks in the runs; then maps each row's block to its place and writes its bytes
     /// there, row after row. A block that is unmapped or moves leaves its bytes at the old place. A run
-    /// takes as many steps as it has mapped blocks. `Err` where memory is refused; all is as before
+    /// takes as many steps as it has mapped blocks. `Err` where memory runs out; all is as before
     /// then.
     pub fn fill(&mut self, released: &[BlockRun], rows: &[BlockRow<A>]) -> Result<(), AllocError>
         requires { CanFill self.old released.now rows.now }

@@ -76,7 +76,7 @@ fn image_in<A: Allocator + Clone>(alloc: A, source: &[u8]) -> Result<RawImage<A>
 ///
 /// The lists grow from `alloc` as rows are read, and no count of the header reserves anything. The bytes
 /// of extents are copied when all rows have been read. Refused with `BadImageHeader`, `BadImageRow(k)` or
-/// `ImageTrailing` where the bytes leave the format, and with `OutOfMemory` where memory is refused;
+/// `ImageTrailing` where the bytes leave the format, and with `OutOfMemory` where memory runs out;
 /// nothing is kept then.
 pub fn decode_image<A: Allocator + Clone>(
     alloc: A,
@@ -84,7 +84,7 @@ pub fn decode_image<A: Allocator + Clone>(
 ) -> Result<RawImage<A>, ImageFault>
     // Soundness: the answer is right for these bytes.
     ensures found { OnImageAnswer raw_of (ImageAnswer source.now) result }
-    // Completeness: the right answer is given, unless memory is refused.
+    // Completeness: the right answer is given, unless memory runs out.
     ensures only { (answer : Result RawImageValue ImageSpellingFault) → ImageAnswer source.now answer → OnImageAnswer raw_of (λ given. given ≡ answer) result }
 {
     image_in(alloc, source)

@@ -101,7 +101,7 @@ impl SpelledRow for SpannedExtent {
     }
 }
 
-/// The row with a copy of its bytes. `Err` where memory is refused.
+/// The row with a copy of its bytes. `Err` where memory runs out.
 fn copied<A: Allocator>(
     alloc: A,
     source: &[u8],
@@ -120,7 +120,7 @@ fn copied<A: Allocator>(
     })
 }
 
-/// The rows with copies of their bytes. `Err` where memory is refused.
+/// The rows with copies of their bytes. `Err` where memory runs out.
 pub fn copies<A: Allocator + Clone>(
     alloc: A,
     source: &[u8],

@@ -64,7 +64,7 @@ pub fn read(source: &[u8]) -> Option<(ImageHeader, usize)>
     header_of_image(source)
 }
 
-/// Appends an image's header, 29 bytes. `Err` where memory is refused.
+/// Appends an image's header, 29 bytes. `Err` where memory runs out.
 pub fn write<A: Allocator>(out: &mut Vec<u8, A>, header: ImageHeader) -> Result<(), AllocError>
     ensures { OnOk result (out.new.items ≡ out.old.items ++ image_header (image_header_of header)) }
 {

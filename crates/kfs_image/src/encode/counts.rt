@@ -3,7 +3,7 @@ ghost use Rattle.std.specs.Prelude.{◌≡◌, ◌+◌, IfOk};
 
 use std::alloc::AllocError;
 
-/// How many rows of a part there are, and how many bytes they are spelled in.
+/// How many rows of a part there are, and how many bytes they are encoded in.
 #[derive(Clone, Copy)]
 pub(crate) struct Rows {
     /// How many rows.

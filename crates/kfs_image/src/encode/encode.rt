@@ -1,4 +1,4 @@
-//! The spelling of an image.
+//! The encoding of an image.
 ghost use Rattle.std.specs.Prelude.{◌≡◌, IfOk};
 ghost use Rattle.kfs_model.specs.Device.ShownTree.{IsLawful};
 ghost use Rattle.kfs_model.specs.Device.Canonical.{image_bytes};

@@ -65,7 +65,7 @@ pub(crate) fn count_extents<A: Allocator>(image: &Image<A>) -> Result<Rows, Allo
     Ok(rows)
 }
 
-/// Appends the rows of the extents, ascending by file number and block. `Err` where memory is refused.
+/// Appends the rows of the extents, ascending by file number and block. `Err` where memory runs out.
 pub(crate) fn write_extents<A: Allocator, B: Allocator>(
     out: &mut Vec<u8, B>,
     image: &Image<A>,

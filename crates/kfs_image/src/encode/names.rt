@@ -11,7 +11,7 @@ use crate::{Image, Kind, Name, header};
 use kfs_entry::codec::{name, number32};
 use std::alloc::{AllocError, Allocator};
 
-/// The bytes of a name's row, apart from the name's spelling.
+/// The bytes of a name's row, apart from the name's encoding.
 const LEN: usize = 8;
 
 /// Whether the node is a directory.
@@ -59,7 +59,7 @@ fn count_names_of<A: Allocator>(
     Ok(rows)
 }
 
-/// Appends the rows of the names, ascending by directory and name. `Err` where memory is refused.
+/// Appends the rows of the names, ascending by directory and name. `Err` where memory runs out.
 pub(crate) fn write_names<A: Allocator, B: Allocator>(
     out: &mut Vec<u8, B>,
     image: &Image<A>,

@@ -37,7 +37,7 @@ pub(crate) fn count_nodes<A: Allocator>(image: &Image<A>) -> Result<Rows, AllocE
     Ok(rows)
 }
 
-/// Appends the rows of the nodes, ascending by number. `Err` where memory is refused.
+/// Appends the rows of the nodes, ascending by number. `Err` where memory runs out.
 pub(crate) fn write_nodes<A: Allocator, B: Allocator>(
     out: &mut Vec<u8, B>,
     image: &Image<A>,

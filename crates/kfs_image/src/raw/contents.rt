@@ -13,7 +13,7 @@ use kfs_map_pages::{NumberEdit, Pages};
 use kfs_types::Nothing;
 use std::alloc::{AllocError, Allocator};
 
-/// The nodes and names of a raw image's rows. `Err` where memory is refused.
+/// The nodes and names of a raw image's rows. `Err` where memory runs out.
 pub fn raw_shape<A: Allocator + Clone>(alloc: &A, raw: &RawImage<A>) -> Result<Shape<A>, AllocError>
     requires spelled { IsSpelled (raw_of raw.now) }
     requires well_formed { IsWellFormed (raw_of raw.now) }
@@ -25,7 +25,7 @@ pub fn raw_shape<A: Allocator + Clone>(alloc: &A, raw: &RawImage<A>) -> Result<S
 }
 
 /// The headers of a raw image's node rows, by number. Condition: the rows ascend, and their numbers are
-/// 1 to 65,536. `Err` where memory is refused.
+/// 1 to 65,536. `Err` where memory runs out.
 pub fn raw_headers<A: Allocator + Clone>(
     alloc: &A,
     raw: &RawImage<A>,

@@ -27,7 +27,7 @@ impl<A: Allocator> Model for Places<A> {
 }
 
 impl<A: Allocator> Places<A> {
-    /// `size` places, all free. Takes one bit of memory for each; `Err` where memory is refused.
+    /// `size` places, all free. Takes one bit of memory for each; `Err` where memory runs out.
     pub fn new(alloc: A, size: u32) -> Result<Places<A>, AllocError>
         ensures { IfOk result (λ places. places ≡ replicate size true) }
     {

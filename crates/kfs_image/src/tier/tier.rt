@@ -40,7 +40,7 @@ impl<A: Allocator> Drop for Tier<A> {
 }
 
 impl<A: Allocator> Tier<A> {
-    /// A tier of `size` places, all free, with no block written. `Err` where memory is refused.
+    /// A tier of `size` places, all free, with no block written. `Err` where memory runs out.
     pub fn new(alloc: A, size: u32) -> Result<Tier<A>, AllocError>
     where
         A: Clone,

@@ -53,7 +53,7 @@ impl<A: Allocator> Drop for Tiers<A> {
 
 impl<A: Allocator> Tiers<A> {
     /// Tiers of these sizes, all places free, no block written. Takes one bit of memory for each place;
-    /// `Err` where memory is refused.
+    /// `Err` where memory runs out.
     pub fn new(alloc: A, sizes: TierSizes) -> Result<Tiers<A>, AllocError>
     where
         A: Clone,
@@ -131,7 +131,7 @@ impl<A: Allocator> Tiers<A> {
     }
 
     /// Makes the places in `given` free and those in `taken` used, and writes blocks, at any places of
-    /// the tiers. A block keeps its bytes when its place is marked. `Err` where memory is refused; all
+    /// the tiers. A block keeps its bytes when its place is marked. `Err` where memory runs out; all
     /// is as before then.
     pub fn change(
         &mut self,

@@ -24,7 +24,7 @@ module _ {A : Type 0} where
     once = λ kept once. back.once (front.keeps ∙ kept) (front.once kept once);
   }
 
-  -- memory is refused
+  -- memory runs out
   module _ {X E : Type 0} {old new : Recorder A} (goes : GoesOn old new) where
     pub look_cut_short : (cells : List Cell) (says : X → ClientSight → Type 0) (result : Result X E) → IsErr result → AnswersLook old new result cells says
     look_cut_short cells says (Err error) is = record { goes = goes; known = tt; among = tt }

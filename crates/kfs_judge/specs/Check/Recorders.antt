@@ -28,7 +28,7 @@ module _ {A : Type 0} where
   ReadsAt old new cells = Within old.reads.entries new.reads.entries cells
 
   -- a look: its answer is true of each state that agrees with what was read, and only these cells were
-  -- read; or memory is refused
+  -- read; or memory runs out
   pub record AnswersLook {X E : Type 0} (old new : Recorder A) (result : Result X E) (cells : List Cell) (says : X → ClientSight → Type 0) : Type 0 where
     pub goes : GoesOn old new
     pub known : IfOk result (λ x. Known new (says x))

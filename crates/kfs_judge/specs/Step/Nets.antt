@@ -29,7 +29,7 @@ abbrev pub IsNetOver : {A B : Type 0} → Draft A → Sight → Net B → Type 0
 IsNetOver draft s net = IsNetOf s (over draft s) net
 
 -- a look at all that a draft has written: its answer is true of each state that agrees with what was
--- read, and only written cells were read; or memory is refused
+-- read, and only written cells were read; or memory runs out
 pub record LooksOver {A X E : Type 0} (draft : Draft A) (old new : Recorder A) (result : Result X E) (says : X → ClientSight → Type 0) : Type 0 where
   pub goes : GoesOn old new
   pub known : IfOk result (λ x. Known new (says x))

@@ -82,7 +82,7 @@ impl<A: Allocator + Copy> EntryJudge<'_, A> {
         Ok(may_want(self.client, header, want))
     }
 
-    /// The reason of the first check that fails, if one does. `Err` where memory is refused.
+    /// The reason of the first check that fails, if one does. `Err` where memory runs out.
     pub fn first_fault(
         &self,
         recorder: &mut Recorder<'_, A>,

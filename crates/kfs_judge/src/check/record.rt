@@ -111,7 +111,7 @@ impl<A: Allocator + Copy> Reads<A> {
     }
 }
 
-/// Records an answer. `Err` where memory is refused; nothing is recorded then.
+/// Records an answer. `Err` where memory runs out; nothing is recorded then.
 // A function's frame is cleared at each call, and reads are long. So a read that is recorded already is
 // answered without the frame of this function.
 #[inline(never)]

@@ -354,7 +354,7 @@ impl<A: Allocator + Copy> Parents<A> {
         }
     }
 
-    /// The directory's parent is this one, or none. `Err` where memory is refused; nothing is written then.
+    /// The directory's parent is this one, or none. `Err` where memory runs out; nothing is written then.
     pub fn set(&mut self, number: u32, parent: Option<u32>) -> Result<(), AllocError>
         ensures { OnOk result (PutsAt nat_cmp self.old.map self.new.map number parent) }
     {

@@ -82,7 +82,7 @@ impl<'a, A: Allocator + Copy> LogJudge<'a, A> {
         entry_table!(enter_case(self, entry))
     }
 
-    /// The net change of the entries so far. `Err` where memory is refused.
+    /// The net change of the entries so far. `Err` where memory runs out.
     pub fn net(&mut self, alloc: A) -> Result<Net<A>, AllocError>
         ensures draft { self.new.draft ≡ self.old.draft }
         ensures looks { LooksOver self.old.draft self.old.recorder self.new.recorder result (λ net before. IsNetOver self.old.draft before.sight net) }
@@ -93,7 +93,7 @@ impl<'a, A: Allocator + Copy> LogJudge<'a, A> {
     }
 
     /// The sizes, before the log and now, of the files that the entries so far changed or reached,
-    /// ascending by number. A directory's size is 0. `Err` where memory is refused.
+    /// ascending by number. A directory's size is 0. `Err` where memory runs out.
     pub fn sizes(&mut self, alloc: A) -> Result<Vec<FileSize, A>, AllocError>
         ensures draft { self.new.draft ≡ self.old.draft }
         ensures looks { LooksOver self.old.draft self.old.recorder self.new.recorder result (λ sizes before. AreSizesOver self.old.draft before.sight sizes.items) }

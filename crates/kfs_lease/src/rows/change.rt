@@ -47,7 +47,7 @@ impl<'a, 'b, A: Allocator + Clone, T: Change> Change for EditEnds<'a, 'b, A, T> 
 
 impl<A: Allocator + Copy> LeaseRows<A> {
     /// Makes edits of rows, those of their ends and another change, or none of these. All memory is
-    /// taken before the first change. `Err` where memory is refused.
+    /// taken before the first change. `Err` where memory runs out.
     fn change<T: Change>(
         &mut self,
         rows: &[RowEdit],

@@ -198,7 +198,7 @@ impl<A: Allocator + Copy> LeaseRows<A> {
         Ok(true)
     }
 
-    /// Removes the leases whose end isn't above the moment. `Err` where memory is refused; the rows are
+    /// Removes the leases whose end isn't above the moment. `Err` where memory runs out; the rows are
     /// as before then.
     pub fn end_until(&mut self, moment: u64) -> Result<(), AllocError>
         requires { EndsAreExact self.old }

@@ -1,4 +1,4 @@
--- The one spelling of an image's state: of tier sizes, a tree and a placement. So equal states have equal
+-- The canonical encoding of an image's state: of tier sizes, a tree and a placement. So equal states have equal
 -- bytes.
 use Rattle.std.specs.Prelude.{◌≡◌, ℕ, ◌+◌, ◌-◌, ◌*◌, ◌==◌, ◌&&◌, Bool, false, List, [], ◌∷◌, ◌++◌, length, map, take, drop, replicate, if◌then◌else◌}
 use Rattle.kfs_model.specs.Limits.{block_size, latest_version}
@@ -61,10 +61,10 @@ canonical_rows sizes tree placement = record {
   extents = extents_of tree placement;
 }
 
--- the spelling of a state
+-- the encoding of a state
 abbrev pub canonical_bytes : TierSizes → Tree ℕ → Placement → List ℕ
 canonical_bytes sizes tree placement = raw_image_bytes (canonical_rows sizes tree placement)
 
--- the spelling of what an image shows
+-- the encoding of what an image shows
 abbrev pub image_bytes : DeviceImage → List ℕ
 image_bytes image = canonical_bytes image.sizes (shown_tree image) image.placement

@@ -33,7 +33,7 @@ pub record RawImage : Type 0 where
   pub names : List NameRow
   pub extents : List ExtentRow
 
--- the sizes and rows can be spelled: no tier is larger than it may be, names are names, and uids and gids
+-- the sizes and rows can be encoded: no tier is larger than it may be, names are names, and uids and gids
 -- fit 32 bits
 pub record IsSpelled (raw : RawImage) : Type 0 where
   pub sizes : AreTierSizes raw.sizes

@@ -1,5 +1,5 @@
 -- How raw images are written as bytes, and what a decoder answers. Numbers are big-endian. There are
--- two versions. Each raw image has one spelling.
+-- two versions. Each raw image has one encoding.
 use Rattle.std.specs.Prelude.{◌≡◌, ◌≢◌, ℕ, zero, suc, ◌+◌, ◌*◌, ◌^◌, ◌<◌, ◌≤◌, List, [], ◌∷◌, ◌++◌, length, Some, Result, Ok, Err}
 use Rattle.std.specs.List.{flat_map, AllByRecursion}
 use Rattle.kfs_model.specs.Limits.{block_size, tier_limit}
@@ -9,7 +9,7 @@ use Rattle.kfs_model.specs.Device.RawImage.{RawNode, ExtentRow, RawImage}
 
 -- ---- rows
 
--- the spelling of a node: its number, kind, mode, uid, gid, links and size
+-- the encoding of a node: its number, kind, mode, uid, gid, links and size
 abbrev pub raw_node_bytes : RawNode → List ℕ
 raw_node_bytes row =
     number32 row.number ++ kind_bytes row.header.kind ++ number16 row.header.mode ++ number32 row.header.uid ++ number32 row.header.gid ++ number16 row.header.links ++ number64 row.header.size
@@ -22,7 +22,7 @@ IsRawNode row = (row.number < 2 ^ 32) × IsHeader (Some row.header)
 abbrev pub greatest_block : ℕ
 greatest_block = 1048575
 
--- the spelling of an extent: its file's number, its first block, its tier, its first place, the count of
+-- the encoding of an extent: its file's number, its first block, its tier, its first place, the count of
 -- its blocks, and their bytes
 abbrev pub extent_bytes : ExtentRow → List ℕ
 extent_bytes row = number32 row.number ++ number32 row.block ++ byte row.tier ++ number32 row.place ++ number32 row.count ++ row.bytes
@@ -43,7 +43,7 @@ pub record ImageHeader : Type 0 where
   pub names : ℕ
   pub extents : ℕ
 
--- the spelling of an image's header: "KIMG", the version, three sizes, three counts
+-- the encoding of an image's header: "KIMG", the version, three sizes, three counts
 abbrev pub image_header : ImageHeader → List ℕ
 image_header h =
     75 ∷ 73 ∷ 77 ∷ 71 ∷ h.version ∷ number32 h.sizes.first ++ number32 h.sizes.second ++ number32 h.sizes.third ++ number32 h.nodes ++ number32 h.names ++ number32 h.extents
@@ -54,7 +54,7 @@ IsImageHeader h = IsVersion h.version × AreTierSizes h.sizes × (h.nodes < 2 ^ 
 abbrev pub image_header_of : RawImage → ImageHeader
 image_header_of raw = record { version = raw.version; sizes = raw.sizes; nodes = length raw.nodes; names = length raw.names; extents = length raw.extents }
 
--- the spelling of a raw image: its header, nodes, names and extents
+-- the encoding of a raw image: its header, nodes, names and extents
 abbrev pub raw_image_bytes : RawImage → List ℕ
 raw_image_bytes raw = image_header (image_header_of raw) ++ flat_map raw_node_bytes raw.nodes ++ flat_map name_row_bytes raw.names ++ flat_map extent_bytes raw.extents
 

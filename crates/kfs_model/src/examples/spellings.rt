@@ -1,4 +1,4 @@
-//! Logs and plans with the bytes that spell them.
+//! Logs and plans with the bytes that encode them.
 
 ghost use Rattle.std.specs.Prelude.{[], ◌∷◌, ◌++◌, take, Ok, Err};
 ghost use Rattle.kfs_model.specs.Spelling.{BadEntry, BadHeader, BadRow, LogAnswer, PlanAnswer, Trailing};

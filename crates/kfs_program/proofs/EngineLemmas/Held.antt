@@ -63,7 +63,7 @@ taken_as fault (Some other) judged hand is shown =
     let same : other ≡ judged = cc in
     sym shown ∙ ap (λ it. Some (verdict_of it)) same
 
--- where memory is refused, the verdict is gone
+-- where memory runs out, the verdict is gone
 pub landing_undone : {T E : Type 0} (result : Result T E) (desk next : Desk) (old new : HeldVerdicts) (worker : ℕ) (fault other : E) → new ≡ with_held old worker None → IfErr result (λ why. (why ≡ fault) × (next ≡ desk)) → result ≡ Err other
     → After next new ≡ left_without_memory (Some worker) (After desk old)
 landing_undone result desk next old new worker fault other left undone out = ap (λ d. After d new) (undone_same result fault other next desk undone out) ∙ ap (After desk) left
@@ -102,7 +102,7 @@ saved_line image s before after is added = added ∙ ap (λ text. before ++ line
 pub replied_as : {A : Type 0} (desk : Desk) (hands : HeldVerdicts) (command known : DeskCommand A) (before after : List ℕ) (stage : Stage) → command ≡ known → IsReplied (DeskAnswers desk hands (asked_of_desk known)) before after stage → IsReplied (DeskAnswers desk hands (asked_of_desk command)) before after stage
 replied_as desk hands command known before after stage is = subst (λ it. IsReplied (DeskAnswers desk hands (asked_of_desk it)) before after stage) (sym is)
 
--- ---- what is given up where memory is refused
+-- ---- what is given up where memory runs out
 
 given_up_once : (landing : Option ℕ) (s : Stage) → left_without_memory landing (left_without_memory landing s) ≡ left_without_memory landing s
 given_up_once None s = refl
@@ -114,7 +114,7 @@ given_up_last : (asked : Option commands.Command) (before mid last : Stage) → 
 given_up_last asked before mid last (inl same) is = is ∙ ap (left_without_memory (landing_worker asked)) same
 given_up_last asked before mid last (inr gone) is = is ∙ ap (left_without_memory (landing_worker asked)) gone ∙ given_up_once (landing_worker asked) before
 
--- so the line is answered, as one for which memory is refused
+-- so the line is answered, as one for which memory runs out
 pub without_memory : (before mid last : Stage) (line : List ℕ) → IsUndone (asked_by line) before mid → last ≡ left_without_memory (landing_worker (asked_by line)) mid → AnswersLine before line (line_of (codes "memory"), last)
 without_memory before mid last line undone is = inr (inr (ap (λ s. (line_of (codes "memory"), s)) (given_up_last (asked_by line) before mid last undone is)))
 

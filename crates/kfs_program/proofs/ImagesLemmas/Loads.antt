@@ -17,7 +17,7 @@ use Rattle.kfs_report.specs.Text.{finding_text, image_fault_text}
 use Rattle.kfs_program.specs.Images.Loading.{AppendsLine, AreSound, LoadsWith, SaysWhyNot}
 use Rattle.kfs_program.specs.Images.Showing.{AnswersImage, AppendsAnswer, Passes, Shows, bytes_said, show_text}
 
--- the bytes spell none
+-- the bytes decode to none
 says_fault : (bytes : List ℕ) (fault : ImageFault) → (fault ≡ faults.OutOfMemory → ⊥) → OnImageRefusal {M = RawImage} (ImageAnswer bytes) fault → SaysWhyNot bytes (codes "image " ++ image_fault_text fault)
 says_fault bytes faults.BadImageHeader other refused = inl (BadImageHeader, refused, refl)
 says_fault bytes (faults.BadImageRow k) other refused = inl (BadImageRow k, refused, refl)

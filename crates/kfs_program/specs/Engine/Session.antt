@@ -213,14 +213,14 @@ abbrev pub Obeys : Stage → Option Command → LineOutcome → Type 0
 Obeys s None outcome = ⊥
 Obeys s (Some command) outcome = AnswersCommand s command outcome
 
--- what a line leaves for which memory is refused: the stage as it was, but that a worker whose verdict
+-- what a line leaves for which memory runs out: the stage as it was, but that a worker whose verdict
 -- was to be landed holds none
 abbrev pub left_without_memory : (landing : Option ℕ) → Stage → Stage
 left_without_memory None s = s
 left_without_memory (Some worker) (Before start) = Before start
 left_without_memory (Some worker) (After desk hands) = After desk (with_held hands worker None)
 
--- the outcome of a line: it is no command, or its command is carried out, or memory is refused, which
+-- the outcome of a line: it is no command, or its command is carried out, or memory runs out, which
 -- may be so at any line
 abbrev pub AnswersLine : Stage → (line : List ℕ) → LineOutcome → Type 0
 AnswersLine s line outcome =

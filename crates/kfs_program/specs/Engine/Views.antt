@@ -25,7 +25,7 @@ module _ {A : Type 0} where
   abbrev pub stage_of : Session A → Stage
   stage_of session = stage_in session.stage
 
--- where memory is refused, the stage is as it was, or the verdict that was to be landed is given up
+-- where memory runs out, the stage is as it was, or the verdict that was to be landed is given up
 abbrev pub IsUndone : (asked : Option commands.Command) → (before after : Stage) → Type 0
 IsUndone asked before after = (after ≡ before) ⊎ (after ≡ left_without_memory (commands.landing_worker asked) before)
 

@@ -1,4 +1,4 @@
--- An image from bytes: what they spell, and whether it breaks a rule.
+-- An image from bytes: what they decode to, and whether it breaks a rule.
 use Rattle.std.specs.Prelude.{◌≡◌, ◌⊎◌, ℕ, List, ◌++◌, codes, Option, Some, None, Ok, Err}
 use Rattle.kfs_model.specs.Device.ShownTree.{DeviceImage}
 use Rattle.kfs_model.specs.Device.RawImage.{RawImage, image_of}
@@ -9,26 +9,26 @@ use Rattle.kfs_image.specs.Codec.RawImages.{raw_of}
 use Rattle.kfs_program_text.specs.Parts.{line_of, numbered_text}
 use Rattle.kfs_report.specs.Text.{finding_text}
 
--- the bytes spell rows that break no rule, and this is their image
+-- the bytes decode to rows that break no rule, and this is their image
 pub record IsLoaded (bytes : List ℕ) (image : DeviceImage) : Type 0 where
   pub raw : RawImage
   pub read : ImageAnswer bytes (Ok raw)
   pub well_formed : IsWellFormed raw
   pub is : image ≡ image_of raw
 
--- the bytes spell rows with this finding
+-- the bytes decode to rows with this finding
 pub record IsBroken (bytes : List ℕ) (finding : Finding) : Type 0 where
   pub raw : RawImage
   pub read : ImageAnswer bytes (Ok raw)
   pub found : finding_of raw ≡ Some finding
 
--- why bytes spell no image
+-- why bytes decode to no image
 abbrev pub spelling_text : ImageSpellingFault → List ℕ
 spelling_text BadImageHeader = codes "BadImageHeader"
 spelling_text (BadImageRow row) = numbered_text (codes "BadImageRow") row
 spelling_text ImageTrailing = codes "ImageTrailing"
 
--- the line says why the bytes make no image: they spell none, or what they spell breaks a rule
+-- the line says why the bytes make no image: they decode to none, or what they decode to breaks a rule
 abbrev pub SaysWhyNot : (bytes line : List ℕ) → Type 0
 SaysWhyNot bytes line =
     ((fault : ImageSpellingFault) × ImageAnswer bytes (Err fault) × (line ≡ codes "image " ++ spelling_text fault))
@@ -44,7 +44,7 @@ abbrev pub AppendsLine : (before after : List ℕ) → (List ℕ → Type 0) →
 AppendsLine before after Holds = (line : List ℕ) × (after ≡ before ++ line_of line) × Holds line
 
 module _ {A : Type 0} where
-  -- these are the rows that the bytes spell, and nothing is appended; or there are none, and a line says why
+  -- these are the rows that the bytes decode to, and nothing is appended; or there are none, and a line says why
   abbrev pub AreRead : (bytes before after : List ℕ) → Option (CodeRawImage A) → Type 0
   AreRead bytes before after (Some raw) = ImageAnswer bytes (Ok (raw_of raw)) × (after ≡ before)
   AreRead bytes before after None = AppendsLine before after (SaysWhyNot bytes)

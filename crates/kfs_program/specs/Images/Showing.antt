@@ -33,11 +33,11 @@ name_row_line row = line_of (codes "name" ++ (field_text row.dir ++ (codes " " +
 abbrev pub show_text : {A : Type 0} → RawImage A → List ℕ
 show_text raw = flat_map node_row_line raw.nodes.items ++ flat_map name_row_line raw.names.items
 
--- the bytes spell rows that break no rule, and the text shows them
+-- the bytes decode to rows that break no rule, and the text shows them
 abbrev pub Shows : (A : Type 0) → (bytes text : List ℕ) → Type 0
 Shows A bytes text = (raw : RawImage A) × ImageAnswer bytes (Ok (raw_of raw)) × IsWellFormed (raw_of raw) × (text ≡ show_text raw)
 
--- the bytes spell rows that break no rule, and the text says so
+-- the bytes decode to rows that break no rule, and the text says so
 abbrev pub Passes : (bytes text : List ℕ) → Type 0
 Passes bytes text = (image : DeviceImage) × IsLoaded bytes image × (text ≡ line_of (codes "ok"))
 

@@ -8,7 +8,7 @@ use kfs_image::{Image, ReadFault, read_file};
 use std::alloc::{AllocError, Allocator};
 
 /// Appends `bytes HEX`, for at most `count` bytes of the file from position `start` on, or `read NAME`
-/// where the number isn't a file's. After `Err`, where memory is refused, part of the line may be
+/// where the number isn't a file's. After `Err`, where memory runs out, part of the line may be
 /// appended.
 pub fn bytes_line<A: Allocator + Copy>(
     alloc: A,

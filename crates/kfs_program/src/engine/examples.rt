@@ -48,7 +48,7 @@ pub fn verdict_at_a_full_docket()
     ensures { AnswersLines (After full_docket held_by_3) (codes "land 3" ∷ codes "land 3" ∷ []) (codes "full\nbad line\n") (After full_docket no_verdict) }
 {}
 
-/// Where memory is refused at the landing of a verdict, the worker holds none afterwards.
+/// Where memory runs out at the landing of a verdict, the worker holds none afterwards.
 pub fn verdict_without_memory()
     ensures { AnswersLines (After full_docket held_by_3) (codes "land 3" ∷ codes "land 3" ∷ []) (codes "memory\nbad line\n") (After full_docket no_verdict) }
 {}

@@ -10,7 +10,7 @@ use kfs_report::LONGEST_LINE;
 use std::alloc::{AllocError, Allocator};
 
 /// Appends `list N`, and then for each name of the directory, in order, a space and `HEXNAME:NUMBER`.
-/// After `Err`, where memory is refused, part of the line may be appended.
+/// After `Err`, where memory runs out, part of the line may be appended.
 pub fn list_line<A: Allocator + Copy>(
     alloc: A,
     out: &mut Vec<u8, A>,

@@ -70,7 +70,7 @@ impl<A: Allocator + Copy> Opening<A> {
         Ok(())
     }
 
-    /// Takes in the image that the bytes spell, in place of an image that was there. Where they make
+    /// Takes in the image that the bytes decode to, in place of an image that was there. Where they make
     /// none, nothing changes, and the reply says why.
     #[tactic(auto, using(crate::proofs::EngineLemmas::Held::image_answered))]
     pub fn load(
@@ -110,7 +110,7 @@ impl<A: Allocator + Copy> Opening<A> {
     }
 
     /// Begins the desk. If its clients are refused, the image stays and the clients are forgotten. If
-    /// memory is refused, both stay.
+    /// memory runs out, both stay.
     fn begin(&mut self, limit: u32, reply: &mut Vec<u8, A>) -> Result<Option<Desk<A>>, Refusal>
         requires { 128 ≤ spare_of reply.old }
         ensures ok { IfOk result (λ begun. IsOpened self.old (commands.Begin limit) reply.old.items reply.new.items begun self.new) }

@@ -10,7 +10,7 @@ use kfs_plan_maker::make_plan;
 use std::alloc::{AllocError, Allocator};
 
 /// Appends `plan HEX`, the plan of the client's log over the image as `make_plan` makes it, in lower
-/// case hexadecimal; or `plan none`, where there is none. After `Err`, where memory is refused, part of
+/// case hexadecimal; or `plan none`, where there is none. After `Err`, where memory runs out, part of
 /// the line may be appended.
 pub fn plan_line<A: Allocator + Copy>(
     alloc: A,

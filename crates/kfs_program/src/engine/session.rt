@@ -56,7 +56,7 @@ impl<A: Allocator + Copy> Session<A> {
 
     /// Answers a line: appends its reply. Condition: the reply has room for 128 bytes.
     ///
-    /// A refusal leaves the state as it was, with one exception: where memory is refused for a landing,
+    /// A refusal leaves the state as it was, with one exception: where memory runs out for a landing,
     /// the verdict may be given up already. `give_up` makes that sure.
     pub fn answer(
         &mut self,
@@ -112,7 +112,7 @@ impl<A: Allocator + Copy> Session<A> {
         }
     }
 
-    /// Takes in an image that bytes spell. Once the desk is begun it is a bad line.
+    /// Takes in an image that bytes decode to. Once the desk is begun it is a bad line.
     fn load(
         &mut self,
         rt: &(impl Threads + Sync),

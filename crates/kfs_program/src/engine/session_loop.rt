@@ -114,7 +114,7 @@ impl<A: Allocator + Copy> SessionLoop<A> {
         Ok(written?)
     }
 
-    /// Answers the line. Where memory is refused, the verdict that it asks to land is given up.
+    /// Answers the line. Where memory runs out, the verdict that it asks to land is given up.
     fn reply(&mut self, rt: &(impl Threads + Sync)) -> Result<(), Refusal>
         ensures session { AnswersLine (stage_of self.old.session) self.old.line.items (reply_written result self.new.reply.items, stage_of self.new.session) }
         ensures line { self.new.line ≡ self.old.line }

@@ -9,11 +9,11 @@ use kfs_shape::{ShapeFault, check_shape};
 use std::alloc::{AllocError, Allocator};
 use std::thread::Threads;
 
-/// The image that the bytes spell, if it breaks no rule. Appends `ok`, or `image NAME` or the line of a
+/// The image that the bytes decode to, if it breaks no rule. Appends `ok`, or `image NAME` or the line of a
 /// finding, which say why there is none.
 ///
 /// Until the image is made, its rows are held beside it. Where `out` has 128 bytes of spare room, the
-/// line takes no memory. After `Err`, where memory is refused, the line may be appended.
+/// line takes no memory. After `Err`, where memory runs out, the line may be appended.
 #[tactic(auto, using(crate::proofs::ImagesLemmas::Loads::broken, crate::proofs::ImagesLemmas::Loads::loaded))]
 pub fn load<A: Allocator + Copy>(
     rt: &(impl Threads + Sync),
@@ -39,7 +39,7 @@ pub fn load<A: Allocator + Copy>(
     }
 }
 
-/// The rows that the bytes spell, if they break no rule. Where there are none, the line that says why is
+/// The rows that the bytes decode to, if they break no rule. Where there are none, the line that says why is
 /// appended.
 #[tactic(auto, using(crate::proofs::ImagesLemmas::Loads::broken))]
 pub(crate) fn sound_rows<A: Allocator + Copy>(
@@ -62,7 +62,7 @@ pub(crate) fn sound_rows<A: Allocator + Copy>(
     }
 }
 
-/// The rows that the bytes spell. Where they spell none, the line that says why is appended.
+/// The rows that the bytes decode to. Where they decode to none, the line that says why is appended.
 #[tactic(auto, using(crate::proofs::ImagesLemmas::Loads::unspelled))]
 fn read_rows<A: Allocator + Copy>(
     alloc: A,

@@ -9,7 +9,7 @@ use kfs_image::{Image, encode_image};
 use std::alloc::{AllocError, Allocator};
 
 /// Appends `image HEX`: the image's bytes in lower case hexadecimal. Beside the image, its bytes and
-/// their text are held, once each. After `Err`, where memory is refused, part of the line may be
+/// their text are held, once each. After `Err`, where memory runs out, part of the line may be
 /// appended.
 pub fn save_line<A: Allocator, B: Allocator>(
     alloc: B,

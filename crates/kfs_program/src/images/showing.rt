@@ -14,7 +14,7 @@ use std::alloc::{AllocError, Allocator};
 use std::thread::Threads;
 
 /// Appends what `fsck` writes for a line: `ok`, or why the line's bytes make no image, or `bad line`
-/// where it says no bytes. Answers whether they make one. After `Err`, where memory is refused, part of
+/// where it says no bytes. Answers whether they make one. After `Err`, where memory runs out, part of
 /// it may be appended.
 pub fn push_check<A: Allocator + Copy>(
     rt: &(impl Threads + Sync),

@@ -32,7 +32,7 @@ impl<A: Allocator> Model for HeldVerdicts<A> {
 }
 
 impl<A: Allocator> HeldVerdicts<A> {
-    /// No worker holds a verdict. `Err` where memory is refused.
+    /// No worker holds a verdict. `Err` where memory runs out.
     pub fn new(alloc: A) -> Result<HeldVerdicts<A>, AllocError>
         ensures { IfOk result (λ hands. hands ≡ no_verdict) }
     {

@@ -13,7 +13,7 @@ use std::{fs, io};
 /// The exit status that is expected where no file says another.
 const DONE: u64 = 0;
 
-/// Scripts of at most this many bytes are also run with each growth of memory refused in turn, and with
+/// Scripts of at most this many bytes are also run with each allocation failing in turn, and with
 /// each read and each write failing in turn.
 const SMALL: usize = 3_000;
 
@@ -54,7 +54,7 @@ impl Case {
     /// - `.words`, the words after the program's name, one a line (else `run`);
     /// - `.status`, the exit status (else 0);
     /// - `.broken`: reading fails after the script's last byte;
-    /// - `.growths`, the least number of growths of memory that the script asks for;
+    /// - `.growths`, the least number of allocations that the script asks for;
     /// - `.room`, a number of bytes of memory that is enough for it.
     pub fn read<R: Files + AllocGlobal>(rt: &R, name: &str) -> Result<Case, ScriptFault> {
         let script = needed_file(rt, name, ".kfs")?;
@@ -119,7 +119,7 @@ impl Case {
         !self.is_broken && self.words.is_none() && self.script.len() <= SMALL
     }
 
-    /// The least number of growths of memory that the script asks for, if each is to be refused in
+    /// The least number of allocations that the script asks for, if each is to be refused in
     /// turn. That is so where `.growths` gives a number, and for each small session.
     pub fn growths(&self) -> Option<u64> {
         let is_small = self.is_small_session();

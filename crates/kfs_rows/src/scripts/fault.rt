@@ -16,10 +16,10 @@ pub enum ScriptFault {
     /// A file with this ending has the wrong content.
     #[error("its file {0} can't be read")]
     Unreadable(&'static str),
-    /// With the growth of this index refused, other lines are answered differently.
+    /// With the allocation of this index refused, other lines are answered differently.
     #[error("isn't as it is due with growth {0} refused")]
     Growth(u64),
-    /// The line with this index, for which memory was refused, isn't answered as it is due when it comes
+    /// The line with this index, for which memory ran out, isn't answered as it is due when it comes
     /// again.
     #[error("isn't as it is due with line {0} again, which found no memory")]
     Again(usize),

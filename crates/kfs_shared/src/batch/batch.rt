@@ -154,7 +154,7 @@ pub fn run_batch<A: Allocator + Copy + Send + Sync, G: Gate + Sync, R: Threads +
     ensures rows { IfOk result (λ end. AreTheRows (length desk.docket) (length end.desk.docket) end.replies.items) }
     ensures shares { IfOk result (λ end. AscendInShares workers (length desk.docket) (length end.desk.docket) end.replies.items) }
 
-    // All comes back for a wrong number of workers, and only then with this reason. For want of memory all comes back, too. Else
+    // All comes back for a wrong number of workers, and only then with this reason. For lack of memory all comes back, too. Else
     // the desk is lost: a turn wasn't passed on, or the docket has other rows than those of the replies.
     ensures workers { IsForWorkers result ↔ ((1 ≤ workers) × (workers ≤ 8) → ⊥) }
     ensures back { IfErr result (λ back. AreBack desk submissions back) }

@@ -35,7 +35,7 @@ pub enum BatchBack<A: Allocator> {
         desk: Desk<A>,
         submissions: Vec<Submission<A>, A>,
     },
-    /// 2: memory was refused before the first turn. Nothing was done; all comes back as it was handed in.
+    /// 2: memory ran out before the first turn. Nothing was done; all comes back as it was handed in.
     OutOfMemory {
         desk: Desk<A>,
         submissions: Vec<Submission<A>, A>,

@@ -54,7 +54,7 @@ fn wanting<A: Allocator>(submission: Submission<A>) -> SharedBack<A>
     SharedBack { submission, why }
 }
 
-/// The verdict on the submission, if there is a view. Else, or where memory is refused, the submission.
+/// The verdict on the submission, if there is a view. Else, or where memory runs out, the submission.
 fn verdict<A: Allocator + Copy>(
     alloc: A,
     view: &Result<View<A>, SharedWant>,

@@ -1,11 +1,11 @@
-//! Moves with each growth of memory refused in turn.
+//! Moves with each allocation failing in turn.
 
 use crate::moves::moving::{AMPLE, are_free, have_bytes, is_migrated, lie_at, to, two_files};
 use kfs_desk::{Desk, Move, Unanswered};
 use kfs_test_support::refusing::Refusing;
 use std::alloc::{Allocator, Global};
 
-/// More growths than moves ask for.
+/// More allocations than moves ask for.
 const MANY: u64 = 200;
 
 /// Whether nothing has changed, and no row was added.
@@ -34,8 +34,8 @@ fn find_no_memory<A: Allocator + Copy>(desk: &mut Desk<A>) -> bool {
     desk.migrate(&moves()) == Err(Unanswered::OutOfMemory)
 }
 
-/// Makes the moves beside a view, with only the growth of this index refused, and once more. Answers
-/// whether there was such a growth; none where the outcome is wrong.
+/// Makes the moves beside a view, with only the allocation of this index failing, and once more. Answers
+/// whether there was such an allocation; none where the outcome is wrong.
 fn moves_with_one_refused(heap: &Refusing<Global>, growth: u64) -> Option<bool> {
     let mut desk = two_files(heap, 8, 100)?;
     let _view = desk.view().ok()?;
@@ -49,7 +49,7 @@ fn moves_with_one_refused(heap: &Refusing<Global>, growth: u64) -> Option<bool> 
     is_right.then_some(was_refused)
 }
 
-/// How many growths the moves ask for, each refused in turn; or as an error the index of one at which
+/// How many allocations the moves ask for, each refused in turn; or as an error the index of one at which
 /// the outcome is wrong.
 fn growths(alloc: Global) -> Result<u64, u64> {
     for growth in 0..MANY {

@@ -7,7 +7,7 @@ use kfs_mode::Client;
 use kfs_plan::Submission;
 use std::alloc::{AllocError, Allocator};
 
-/// More growths than anything here asks for.
+/// More allocations than anything here asks for.
 pub const AMPLE: u64 = 1 << 40;
 
 /// Client 7 creates file 5 at `/a` with the bytes `one`, and file 6 at `/b` with the bytes `two`.

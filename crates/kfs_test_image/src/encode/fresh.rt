@@ -6,7 +6,7 @@ use kfs_test_support::vectors::ROOT_IMAGE;
 use std::alloc::{AllocError, Allocator, Global};
 use std::process::Abort;
 
-/// More growths than the bytes ask for.
+/// More allocations than the bytes ask for.
 const MANY: u64 = 100;
 
 /// The length of a new image in bytes.
@@ -42,7 +42,7 @@ fn is_whole<B: Allocator>(bytes: Option<Vec<u8, B>>) -> bool {
     }
 }
 
-/// How many growths the bytes ask for, each refused in turn; none where an answer is wrong.
+/// How many allocations the bytes ask for, each refused in turn; none where an answer is wrong.
 fn growths(alloc: Global) -> Option<u64> {
     let image = fresh(alloc)?;
     for growth in 0..MANY {

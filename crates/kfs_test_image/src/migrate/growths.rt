@@ -1,4 +1,4 @@
-//! Each growth of memory refused in turn: the image shows what it showed, and then the same moves are
+//! Each allocation failing in turn: the image shows what it showed, and then the same moves are
 //! made.
 
 use crate::migrate::images::{Shown, at, migrate, shown_by, side_by_side};
@@ -8,10 +8,10 @@ use kfs_test_support::refusing::Refusing;
 use std::alloc::{Allocator, Global};
 use std::process::Abort;
 
-/// More growths than anything here asks for.
+/// More allocations than anything here asks for.
 const AMPLE: u64 = 1 << 40;
 
-/// More growths than the moves ask for.
+/// More allocations than the moves ask for.
 const MANY: u64 = 400;
 
 const MOVES: [Move; 2] = [
@@ -42,7 +42,7 @@ fn shows<A: Allocator>(image: &Image<A>, due: &Shown) -> bool {
     shown == *due
 }
 
-/// Whether a growth was refused, the image shows what it showed, and the moves are then made; none where
+/// Whether an allocation failed, the image shows what it showed, and the moves are then made; none where
 /// not.
 fn is_kept<'a>(
     heap: &'a Refusing<Global>,
@@ -56,7 +56,7 @@ fn is_kept<'a>(
     shows(image, &after()).then_some(true)
 }
 
-/// Whether a growth was refused, with the growth of this index refused; none where the answer is wrong.
+/// Whether an allocation failed, with the allocation of this index failing; none where the answer is wrong.
 fn is_refused(alloc: Global, growth: u64) -> Option<bool> {
     let heap = Refusing::new(alloc, AMPLE);
     let mut image = side_by_side(&heap)?;
@@ -68,7 +68,7 @@ fn is_refused(alloc: Global, growth: u64) -> Option<bool> {
     }
 }
 
-/// How many growths the moves ask for, each refused in turn; or as an error the index of one at which
+/// How many allocations the moves ask for, each refused in turn; or as an error the index of one at which
 /// the answer is wrong.
 fn growths(alloc: Global) -> Result<u64, u64> {
     for growth in 0..MANY {

@@ -1,4 +1,4 @@
-//! Logs and plans with one growth of memory refused: the answer is that memory was refused, and the
+//! Logs and plans with one allocation failing: the answer is that memory ran out, and the
 //! same call then succeeds.
 
 use kfs_entry::{SpellFault, decode_log, decode_plan, encode_log, encode_plan};
@@ -6,7 +6,7 @@ use kfs_test_support::refusing::Refusing;
 use std::alloc::{AllocError, Allocator, Global};
 use std::process::Abort;
 
-/// More growths than any of these calls asks for.
+/// More allocations than any of these calls asks for.
 const MANY: u64 = 100;
 
 /// A log of 300 Truncates, whose list of entries grows several times.
@@ -60,12 +60,12 @@ pub fn is_same_again<A: Allocator + Copy>(alloc: A, bytes: &[u8]) -> Result<bool
     Ok(again.as_slice() == bytes)
 }
 
-/// Whether the bytes are the same; or, if a growth was refused, the answer is that memory was refused.
+/// Whether the bytes are the same; or, if an allocation failed, the answer is that memory ran out.
 fn is_as_due(answer: Result<bool, SpellFault>, has_refused: bool) -> bool {
     answer == Ok(true) || (has_refused && answer == Err(SpellFault::OutOfMemory))
 }
 
-/// How many growths are asked for in decoding and encoding the bytes, each refused in turn.
+/// How many allocations are asked for in decoding and encoding the bytes, each refused in turn.
 fn growths(rt: &(impl Abort + AllocGlobal), bytes: &[u8]) -> u64 {
     for growth in 0..MANY {
         let heap = Refusing::new(rt.alloc(), growth);
@@ -79,7 +79,7 @@ fn growths(rt: &(impl Abort + AllocGlobal), bytes: &[u8]) -> u64 {
     MANY
 }
 
-/// How many growths the long log and the long plan ask for, if there is memory for them.
+/// How many allocations the long log and the long plan ask for, if there is memory for them.
 fn growths_of_both(rt: &(impl Abort + AllocGlobal)) -> Result<(u64, u64), AllocError> {
     let of_the_log = growths(rt, &long_log(rt.alloc())?);
     let of_the_plan = growths(rt, &long_plan(rt.alloc())?);
@@ -93,7 +93,7 @@ fn each_growth_refused_in_turn(rt: HostRuntime) {
     assert!(rt; 6 < of_the_plan && of_the_plan < MANY, "{of_the_plan}");
 }
 
-/// The refusal of the bytes where no growth is granted, and whether one was asked for.
+/// The refusal of the bytes where no allocation is granted, and whether one was asked for.
 fn fault_without_memory(rt: &impl AllocGlobal, bytes: &[u8]) -> (Option<SpellFault>, bool) {
     let heap = Refusing::new(rt.alloc(), 0);
     let fault = if bytes.starts_with(b"KLOG") {

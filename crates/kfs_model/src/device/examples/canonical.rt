@@ -1,4 +1,4 @@
-//! The one spelling of states.
+//! The canonical encoding of states.
 
 ghost use Rattle.std.specs.Prelude.{◌≡◌, List, [], ◌∷◌, ◌++◌, replicate, true, false};
 ghost use Rattle.kfs_model.specs.Device.RawImage.{image_of, placement_of};
@@ -6,7 +6,7 @@ ghost use Rattle.kfs_model.specs.Device.ShownTree.{shown_tree};
 ghost use Rattle.kfs_model.specs.Device.Canonical.{block_of, joined_extents, AreJoined, extents_of, canonical_rows, image_bytes};
 ghost use Rattle.kfs_model.specs.Device.Example.{sizes, root_alone, in_version_1, extent, letters, root_bytes, short, block_at, in_two_extents, in_two_blocks, in_one_extent, names_across};
 
-/// An image of version 1 is spelled in version 2: one byte differs.
+/// An image of version 1 is encoded in version 2: one byte differs.
 #[tactic(auto, unfolding(crate::specs::Device::Example::computing))]
 pub fn always_version_2()
     ensures first { image_bytes (image_of (in_version_1 (root_alone 511))) ≡ root_bytes 2 1 255 }
@@ -33,7 +33,7 @@ pub fn extents_that_go_on()
     ensures apart { AreJoined (short 5 0 0 2 1 ∷ short 5 1 0 3 2 ∷ []) → ⊥ }
 {}
 
-/// An image whose extents go on is spelled with one extent, and bytes past the file's size are zero. Names ascend by directory and name, whatever they lead to.
+/// An image whose extents go on is encoded with one extent, and bytes past the file's size are zero. Names ascend by directory and name, whatever they lead to.
 #[tactic(auto, unfolding(crate::specs::Device::Example::computing))]
 pub fn rows_of_a_state()
     ensures joined { extents_of in_two_blocks (placement_of in_two_extents) ≡ in_one_extent.extents }

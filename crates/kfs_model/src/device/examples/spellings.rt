@@ -1,4 +1,4 @@
-//! Raw images with the bytes that spell them, and bytes that are no raw image.
+//! Raw images with the bytes that encode them, and bytes that are no raw image.
 
 ghost use Rattle.std.specs.Prelude.{[], ◌∷◌, ◌++◌, drop, take, Ok, Err};
 ghost use Rattle.kfs_model.specs.Device.Spelling.{BadImageHeader, BadImageRow, ImageAnswer, ImageTrailing};

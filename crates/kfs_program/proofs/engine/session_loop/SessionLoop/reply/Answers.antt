@@ -1,4 +1,4 @@
--- Where memory is refused, the verdict is given up, before or now.
+-- Where memory runs out, the verdict is given up, before or now.
 use Rattle.std.proofs.Common.{◌≡◌, Err, ap, subst, ◌∙◌}
 use Rattle.kfs_program_command.specs.Command.{asked_by, landing_worker}
 use Rattle.kfs_program.specs.Engine.Session.{left_without_memory}
