@@ -159,7 +159,7 @@ fn is_filled<A: Allocator>(image: &Image<A>) -> bool {
     has_node(image.shape(), 6) && shows(image, &FILLED)
 }
 
-/// Whether a growth was refused in a landing with blocks; none where the answer is wrong.
+/// Whether an allocation failed in a landing with blocks; none where the answer is wrong.
 fn is_fill_refused<'a>(
     heap: &'a Refusing<Global>,
     image: &mut Image<&'a Refusing<Global>>,
@@ -179,7 +179,7 @@ fn is_fill_refused<'a>(
     is_filled(image).then_some(true)
 }
 
-/// The same for the name `b` and two blocks of file 5, one of which has a place already, with the growth
+/// The same for the name `b` and two blocks of file 5, one of which has a place already, with the allocation
 /// of this index refused.
 fn is_landing_refused(alloc: Global, growth: u64) -> Option<bool> {
     let heap = Refusing::new(alloc, AMPLE);
