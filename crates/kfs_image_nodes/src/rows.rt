@@ -8,7 +8,7 @@ ghost use Rattle.kfs_model.specs.Table.{get, empty, changed};
 ghost use Rattle.kfs_model.specs.Tree.{entry_count, name_order, target};
 ghost use Rattle.kfs_model.specs.Sight.{holder};
 ghost use Rattle.kfs_map_pages.specs.Edits.{rewritten, AreEdits};
-ghost use Rattle.kfs_map_chunks.specs.{Edits as keyed};
+ghost use Rattle.kfs_map_chunks.specs.Edits as keyed;
 ghost use Rattle.kfs_map_chunks.specs.Starts.{is_from};
 ghost use Rattle.kfs_image_nodes.specs.Change.{led_to, renamed, reheaded};
 ghost use Rattle.kfs_image_nodes.specs.Indexes.{by_node};

@@ -2,7 +2,7 @@
 //! their order. Rows that are to go, listed before the first of them goes.
 ghost use Rattle.std.specs.Prelude.{◌≡◌, ◌==◌, ◌&&◌, ◌||◌, IfOk, IfErr, OnOk, OnErr, Some, None, option_map, is_some, false, cond, refl, []};
 ghost use Rattle.kfs_model.specs.Table.{empty, get, insert, remove};
-ghost use Rattle.kfs_model.specs.{Lease as model};
+ghost use Rattle.kfs_model.specs.Lease as model;
 ghost use Rattle.kfs_lease.specs.Rows.Rows.{kind_of, lease_of, bars, conflicting, row_end, row_table, table_in, without_nodes, EndsAreExact, by_end};
 ghost use Rattle.kfs_lease.specs.Rows.Ending.{AddsRow, AddsEnd};
 
