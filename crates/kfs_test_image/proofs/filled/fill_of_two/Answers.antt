@@ -17,7 +17,8 @@ returns g c =
     let heads = reheaded image.heads net.nodes.items in
     let many : c.block_count.result ≡ blocks_in (get heads 5) = c.block_count.ensures ∙ ap blocks_in (c.header_after.ensures ∙ ap (λ rows. get (reheaded image.heads rows) 5) c.as_slice.ensures.value) in
     let two : 1 < blocks_in (get heads 5) = subst (λ count. 1 < count) many (omega (arith, c.if-block_count-le1.false)) in
-    let block_0 : is_block heads (5, 0) ≡ true = lt-ltb _ _ (omega (arith, two)) in
+    let one : 0 < blocks_in (get heads 5) = omega (arith, two) in
+    let block_0 : is_block heads (5, 0) ≡ true = lt-ltb _ _ one in
     let block_1 : is_block heads (5, 1) ≡ true = lt-ltb _ _ two in
     let place : Place = record { tier = 0; place = 2 } in
     let other : Place = record { tier = 0; place = 1 } in
