@@ -4,7 +4,8 @@ use kfs_plan::Submission;
 use std::alloc::Allocator;
 use thiserror::Error;
 
-/// Why a call of a shared desk wasn't answered. It has no row in the docket, and the desk is as it was.
+/// Why a call of a shared desk wasn't answered. The pass has no row of it among its own. Rows of others may
+/// have come meanwhile.
 #[derive(Clone, Copy, Debug, PartialEq, Eq, Error)]
 pub enum SharedWant {
     /// 1: memory ran out.
