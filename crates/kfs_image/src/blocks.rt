@@ -3,6 +3,7 @@ mod blocks;
 mod fill;
 mod nested;
 mod read;
+mod staged;
 
 pub use self::blocks::FileBlocks;
 pub use self::fill::{BlockRow, BlockRun};

@@ -1,5 +1,4 @@
-//! The blocks of files. A change of the tiers that waits to be made together with the change of the
-//! blocks' places.
+//! The blocks of files.
 ghost use Rattle.std.specs.Prelude.{◌≡◌, ℕ, ◌+◌, ◌*◌, ◌≤◌, true, None, length, slice_index, IfSome, IfNone, IfOk, OnOk, OnErr, EachIndex};
 ghost use Rattle.kfs_model.specs.Limits.{block_size};
 ghost use Rattle.kfs_model.specs.Placement.{tier_size, IsLaid};
@@ -12,15 +11,14 @@ ghost use Rattle.kfs_map_chunks.specs.Starts.{is_from, IsNextEntry};
 ghost use Rattle.kfs_map_chunks.specs.Tables.{table_after};
 ghost use Rattle.kfs_image.specs.Blocks.Blocks.{CanChange, changed};
 ghost use Rattle.kfs_image.specs.Blocks.Fill.{CanFill, filled, placement_after};
-ghost use Rattle.std.proofs.Common.{rules};
 
 use crate::blocks::fill::{BlockRow, BlockRun, Moves, copies, fill_edits, moved};
+use crate::blocks::staged::{StagedTiers, TiersChange};
 use crate::tier::{NewBlock, Place, Tiers};
 use kfs_map_chunks::{Chunks, KeyEdit};
-use kfs_types::{Change, TierSizes};
+use kfs_types::TierSizes;
 use std::alloc::{AllocError, Allocator};
 use std::marker::Model;
-use std::mem;
 use std::ops::Bound;
 
 /// Where the blocks of files lie, and the three tiers. A place is marked free exactly where no block
@@ -28,7 +26,7 @@ use std::ops::Bound;
 #[derive(Drop)]
 pub struct FileBlocks<A: Allocator> {
     placement: Chunks<(u32, u32), Place, A>,
-    tiers: Tiers<A>,
+    tiers: StagedTiers<A>,
 }
 
 impl<A: Allocator> Model for FileBlocks<A> {
@@ -38,9 +36,9 @@ impl<A: Allocator> Model for FileBlocks<A> {
 
     ghost Value = { BlocksShown };
 
-    ghost view = { λ b. record { sizes = b.tiers.sizes; placement = table (pairs numbers numbers) b.placement; devices = b.tiers.devices } };
+    ghost view = { λ b. record { sizes = b.tiers.tiers.sizes; placement = table (pairs numbers numbers) b.placement; devices = b.tiers.tiers.devices } };
 
-    ghost invariant = { λ b. AreHeld (table (pairs numbers numbers) b.placement) b.tiers };
+    ghost invariant = { λ b. AreHeld (table (pairs numbers numbers) b.placement) b.tiers.tiers };
 }
 
 impl<A: Allocator> FileBlocks<A> {
@@ -54,7 +52,10 @@ impl<A: Allocator> FileBlocks<A> {
         let tiers = Tiers::new(alloc.clone()?, sizes)?;
         Ok(FileBlocks {
             placement: Chunks::new(alloc),
-            tiers,
+            tiers: StagedTiers {
+                tiers,
+                change: None,
+            },
         })
     }
 
@@ -64,14 +65,14 @@ impl<A: Allocator> FileBlocks<A> {
         ensures laid { IsLaid self.now.sizes self.now.placement }
         ensures blocks { AreBlocks self.now.sizes self.now.devices }
     {
-        self.tiers.size(tier)
+        self.tiers.tiers.size(tier)
     }
 
     /// How many places of the tier hold no block, 0 for a tier over 2. Takes no memory.
     pub fn free(&self, tier: u8) -> u32
         ensures { result ≡ length (unused_places self.now.sizes self.now.placement tier) }
     {
-        self.tiers.free(tier)
+        self.tiers.tiers.free(tier)
     }
 
     /// The tier's least place from `from` on that holds no block, or none. Takes no memory.
@@ -79,7 +80,7 @@ impl<A: Allocator> FileBlocks<A> {
         ensures found { IfSome result (λ place. IsNextUnused self.now.sizes self.now.placement tier from place) }
         ensures none { IfNone result (AreTakenFrom self.now.sizes self.now.placement tier from) }
     {
-        self.tiers.next_free(tier, from)
+        self.tiers.tiers.next_free(tier, from)
     }
 
     /// Where block `block` of the file `number` lies, or none where it isn't mapped. Takes no memory.
@@ -106,7 +107,7 @@ impl<A: Allocator> FileBlocks<A> {
         ensures { EachIndex buffer.new (λ k. slice_index buffer.new k ≡ file_byte self.now.placement self.now.devices number (block * block_size + (offset + k))) }
     {
         match self.place_of(number, block) {
-            Some(place) => self.tiers.read(place, offset, buffer),
+            Some(place) => self.tiers.tiers.read(place, offset, buffer),
             None => buffer.fill(0),
         }
     }
@@ -118,7 +119,7 @@ impl<A: Allocator> FileBlocks<A> {
     pub fn swap_spares(&mut self, spares: &mut Vec<Vec<u8, A>, A>)
         ensures { self.new ≡ self.old }
     {
-        self.tiers.swap_spares(spares);
+        self.tiers.tiers.swap_spares(spares);
     }
 }
 
@@ -135,12 +136,11 @@ impl<A: Allocator + Clone> FileBlocks<A> {
         ensures err { OnErr result (self.new ≡ self.old) }
     {
         let moves = Moves::of(written.allocator(), &self.placement, edits)?;
-        let mut then = TiersChange {
-            tiers: &mut self.tiers,
-            moves,
-            written,
-        };
-        self.placement.change_then(edits, &mut then)
+        // Passed through a field: a value that borrows the tiers and owns these lists has no simple end for the prover.
+        self.tiers.change = Some(TiersChange { moves, written });
+        let done = self.placement.change_then(edits, &mut self.tiers);
+        self.tiers.change = None;
+        done
     }
 
     /// Unmaps the blocks in the runs; then maps each row's block to its place and writes its bytes
@@ -182,41 +182,5 @@ impl<A: Allocator + Clone> FileBlocks<A> {
         ensures placed { IfOk result (λ edits. table_after self.now.placement edits.items ≡ placement_after released.now rows.now self.now.placement) }
     {
         fill_edits(&self.placement, released, rows)
-    }
-}
-
-/// A change of the tiers: places that become free, places that become used, and blocks to be written. The
-/// latter are taken out of the list.
-#[derive(Drop)]
-pub(crate) struct TiersChange<'a, A: Allocator> {
-    /// The tiers that are changed.
-    pub(crate) tiers: &'a mut Tiers<A>,
-    /// The places that become free or used.
-    pub(crate) moves: Moves<A>,
-    /// The blocks to be written.
-    pub(crate) written: Vec<NewBlock<A>, A>,
-}
-
-impl<'a, A: Allocator + Clone> Change for TiersChange<'a, A> {
-    ghost use Rattle.kfs_types.specs.Nested.{Becomes};
-    ghost use Rattle.kfs_image.specs.Tier.Tiers.{changed};
-    ghost use Rattle.kfs_image.specs.Blocks.Staged.{CanTurn};
-
-    ghost can_make = { λ before. CanTurn before.tiers.now before.moves.given.items before.moves.taken.items before.written.items };
-
-    ghost made = { λ before after. Becomes before.tiers after.tiers (changed before.moves.given.items before.moves.taken.items before.written.items before.tiers.now) };
-
-    ghost kept = { λ before after. Becomes before.tiers after.tiers before.tiers.now };
-
-    ghost not_tried = { λ before. Prim.search rules };
-
-    fn make(&mut self) -> Result<(), AllocError> {
-        let none = Vec::new(self.written.allocator().clone()?);
-        let written = mem::replace(&mut self.written, none);
-        self.tiers.change(
-            self.moves.given.as_slice(),
-            self.moves.taken.as_slice(),
-            written,
-        )
     }
 }

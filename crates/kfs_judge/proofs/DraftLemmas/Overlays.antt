@@ -18,7 +18,7 @@ use Rattle.kfs_model.proofs.Overlay as laid
 use Rattle.kfs_types.specs.Views.{header_of}
 use Rattle.kfs_types.specs.declared.entry.Header.{Header as CodeHeader}
 use Rattle.kfs_judge.specs.declared.draft.draft.Draft.{Draft}
-use Rattle.kfs_judge.specs.declared.draft.draft.Parents.{Parents}
+use Rattle.kfs_judge.specs.declared.draft.parents.Parents.{Parents}
 use Rattle.kfs_judge.specs.Draft.Overlay.{over, has_header, KeepsHeaders, shift_of, with_header, with_target, with_more_names, with_parent, PutsAt, ShiftsBy}
 
 number_tie : (a b : ℕ) → eq_by_cmp nat_cmp a b ≡ (b == a)

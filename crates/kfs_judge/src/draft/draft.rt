@@ -1,5 +1,5 @@
 //! What the entries of a log have changed so far, over the state that the log began with. The header of
-//! a node that gains or loses a name. The parents that the entries of a log have written.
+//! a node that gains or loses a name.
 ghost use Rattle.std.specs.Prelude.{◌≡◌, ℕ, ◌+◌, ◌==◌, ◌||◌, pos, negsuc, ◌+ℤ◌, ◌≤ℤ◌, FitsSigned, unwrap_or, OnOk, IsTrue, false, List, [], Contains, ◌<◌, None, option_and_then};
 ghost use Rattle.std.specs.Option.{option_map, is_some};
 ghost use Rattle.std.specs.List.{list_any};
@@ -12,6 +12,7 @@ ghost use Rattle.kfs_model.specs.Tree.{name_order};
 ghost use Rattle.kfs_judge.specs.Draft.Overlay.{has_created, has_header, over, KeepsCreated, KeepsHeaders, KeepsShifts, ShiftsBy, ShiftsFurther, HasRoom, PutsAt, ChangesAreAmong, WritesNameAndHeader, WritesTwoNames, shift_of, with_header, with_target, with_more_names, with_parent, with_directory_in, with_node, with_name, without_name, with_name_moved, IsLinked};
 ghost use Rattle.kfs_model.specs.SeenAfter as seen;
 
+use crate::draft::parents::Parents;
 use kfs_types::{Header, Kind, Name};
 use std::alloc::{AllocError, Allocator};
 use std::collections::{BTreeMap, BTreeSet};
@@ -329,56 +330,5 @@ fn with_link(header: Header) -> Header
     Header {
         links: header.links.saturating_add(1),
         ..header
-    }
-}
-
-/// The parent of each directory that was written, by number.
-#[derive(Drop)]
-pub struct Parents<A: Allocator> {
-    map: BTreeMap<u32, Option<u32>, A>,
-    /// The numbers in the map, in the order in which each was first written.
-    written: Vec<u32, A>,
-    ghost exact: { (n : ℕ) → list_any (λ m. m == n) written.items ≡ is_some (get nat_cmp map n) },
-}
-
-impl<A: Allocator + Copy> Parents<A> {
-    ghost use Rattle.kfs_judge.specs.Draft.Overlay.{PutsAt};
-
-    /// No parent is written. Takes no memory.
-    pub fn new(alloc: A) -> Parents<A>
-        ensures { IsEmpty result.map }
-    {
-        Parents {
-            map: BTreeMap::new(alloc),
-            written: Vec::new(alloc),
-        }
-    }
-
-    /// The directory's parent is this one, or none. `Err` where memory runs out; nothing is written then.
-    pub fn set(&mut self, number: u32, parent: Option<u32>) -> Result<(), AllocError>
-        ensures { OnOk result (PutsAt nat_cmp self.old.map self.new.map number parent) }
-    {
-        self.written.reserve(1)?;
-        let before = self.map.insert(number, parent)?;
-        if before.is_none() {
-            self.written.push(number)?;
-        }
-        Ok(())
-    }
-}
-
-impl<A: Allocator> Parents<A> {
-    /// The directory's parent, if it was written. An inner none means that it has none.
-    pub fn get(&self, number: u32) -> Option<Option<u32>>
-        ensures { result ≡ get nat_cmp self.now.map number }
-    {
-        self.map.get(&number).copied()
-    }
-
-    /// The numbers whose parent was written, in the order in which each was first written.
-    pub fn written(&self) -> &[u32]
-        ensures { (n : ℕ) → list_any (λ m. m == n) result.now ≡ is_some (get nat_cmp self.now.map n) }
-    {
-        self.written.as_slice()
     }
 }
