@@ -5,7 +5,7 @@ use Rattle.kfs_program_command.specs.Command.{Command, Setup, New, Begin, Reques
 use Rattle.kfs_program_command.specs.Reading.{begin_of, command_named, docket_of, land_of, listing_of, named_by, node_of, save_of, tick_of}
 use Rattle.kfs_program_command.specs.declared.command.Keyword.{Keyword}
 use Rattle.kfs_program_command.specs.declared.command.Keyword.TheVariants as names
-use Rattle.kfs_program_command.specs.declared.command.Worker.{Worker}
+use Rattle.kfs_program_command.specs.declared.worker.Worker.{Worker}
 use Rattle.kfs_program_text.specs.Cut.{cut, space}
 use Rattle.kfs_program_text.specs.Decimals.{decimal32, decimal64, decimals32}
 use Rattle.kfs_program_text.specs.Reading.{are_words, checked, ended, first_by}

@@ -1,4 +1,4 @@
-//! The commands of a session. The numbers of workers. Each worker may hold one verdict.
+//! The commands of a session.
 ghost use Rattle.std.specs.Prelude.{◌≡◌, ℕ, List, true, false, IfOk, IsErrOf, None, Some, option_map, ◌≤◌};
 ghost use Rattle.kfs_lease.specs.Rows.Rows.{kind_of};
 ghost use Rattle.kfs_plan.specs.Judging.{submission_of};
@@ -8,6 +8,7 @@ ghost use Rattle.kfs_program_command.specs.Views.{act_of, asked_of, asked_of_des
 ghost use Rattle.kfs_program_text.specs.Decimals.{decimal_within};
 ghost use Rattle.kfs_program_text.specs.Reading.{ReadsAs, ReadsExactly, checked, first_by, words_left};
 
+use crate::worker::{LAST_WORKER, Worker};
 use kfs_image_nodes::TierSizes;
 use kfs_lease::{Act, LeaseKind};
 use kfs_mode::{Client, ClientFault};
@@ -464,32 +465,4 @@ fn read_move(words: &mut Words<'_>) -> Result<Move, Refusal>
         tier,
         place,
     })
-}
-
-/// The greatest number of a worker.
-pub const LAST_WORKER: u64 = 7;
-
-/// The number of a worker, 0 to 7.
-#[derive(Clone, Copy)]
-pub struct Worker {
-    number: u8,
-    ghost within: { number ≤ 7 },
-}
-
-impl Worker {
-    /// The worker with this number.
-    pub(crate) fn of(number: u8) -> Worker
-        requires { number ≤ 7 }
-        ensures { result.number ≡ number }
-    {
-        Worker { number }
-    }
-
-    /// The number, 0 to 7.
-    pub fn number(self) -> usize
-        ensures value { result ≡ self.number }
-        ensures within { result ≤ 7 }
-    {
-        usize::from(self.number)
-    }
 }

@@ -6,5 +6,7 @@
 
 mod command;
 pub mod examples;
+mod worker;
 
-pub use command::{Command, DeskCommand, LAST_WORKER, OpeningCommand, Worker, worker_to_land};
+pub use command::{Command, DeskCommand, OpeningCommand, worker_to_land};
+pub use worker::{LAST_WORKER, Worker};
