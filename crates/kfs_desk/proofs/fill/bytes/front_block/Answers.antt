@@ -6,5 +6,5 @@ use Rattle.kfs_desk.proofs.fill.bytes.front_block.Goals as goal
 pub returns : goal.returns
 returns c =
     let bytes = c.args.bytes.now in
-    let long = length-take-le 4096 bytes c.if-bytes.false in
+    let long = length-take-le 4096 bytes c.if-bytes-lt-BLOCK_LEN.false in
     (long, λ k below. get_or-take 4096 bytes k 0 (omega (arith, below, long)) ∙ sym (unwrap_or-slice_get bytes k 0))
