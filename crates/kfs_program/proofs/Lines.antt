@@ -7,8 +7,8 @@ use Rattle.std.proofs.KnownBytes.{Consumes-trans}
 use Rattle.kfs_program_text.specs.Cut.{cut, line_end}
 use Rattle.kfs_program_text.proofs.Cuts.{cut-joined, cut-more}
 use Rattle.kfs_program.specs.Engine.Transcript.{LineIsShort}
-use Rattle.kfs_program.specs.declared.engine.fault.EngineFault.{EngineFault}
-use Rattle.kfs_program.specs.declared.engine.fault.EngineFault.TheVariants.{ReadFault, WriteFault, LongLine, OutOfMemory}
+use Rattle.kfs_program.specs.declared.sessions.fault.EngineFault.{EngineFault}
+use Rattle.kfs_program.specs.declared.sessions.fault.EngineFault.TheVariants.{ReadFault, WriteFault, LongLine, OutOfMemory}
 use Rattle.kfs_program.specs.Lines.{AreAllLines, AreTaken, AreTakenFrom, IsBegun, IsEmpty, IsKept, IsLineHeld, IsUnreadable, ReadsOn, TakesNext}
 use Rattle.kfs_program.specs.declared.input.Unread.{Unread}
 

@@ -7,8 +7,8 @@ use Rattle.kfs_program_text.specs.Cut.{cut, line_end}
 use Rattle.kfs_program_text.specs.Streams.{IsWritten, Writes}
 use Rattle.kfs_program_text.proofs.Cuts.{cut-some}
 use Rattle.kfs_program.specs.Images.Showing.{AnswersImage, AppendsAnswer, bytes_said}
-use Rattle.kfs_program.specs.declared.engine.fault.EngineFault.{EngineFault}
-use Rattle.kfs_program.specs.declared.engine.fault.EngineFault.TheVariants.{ReadFault, WriteFault, LongLine, OutOfMemory}
+use Rattle.kfs_program.specs.declared.sessions.fault.EngineFault.{EngineFault}
+use Rattle.kfs_program.specs.declared.sessions.fault.EngineFault.TheVariants.{ReadFault, WriteFault, LongLine, OutOfMemory}
 use Rattle.kfs_program.specs.Answer.{Answers, IsSaid, Says, Tells, Wants}
 use Rattle.kfs_program.specs.Lines.{AreFirstLines, AreTaken, AreTakenFrom, IsNextTaken}
 use Rattle.kfs_program.specs.declared.answer.LineWord.{LineWord}

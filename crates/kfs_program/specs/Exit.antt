@@ -9,8 +9,8 @@ use Rattle.kfs_program.specs.declared.answer.LineWord.{LineWord}
 use Rattle.kfs_program.specs.declared.answer.LineWord.TheVariants.{Fsck, Show, Plan}
 use Rattle.kfs_program.specs.declared.run.Subcommand.{Subcommand}
 use Rattle.kfs_program.specs.declared.run.Subcommand.TheVariants.{Run, Lines}
-use Rattle.kfs_program.specs.declared.engine.fault.EngineFault.{EngineFault}
-use Rattle.kfs_program.specs.declared.engine.fault.EngineFault.TheVariants.{ReadFault, WriteFault, LongLine, OutOfMemory}
+use Rattle.kfs_program.specs.declared.sessions.fault.EngineFault.{EngineFault}
+use Rattle.kfs_program.specs.declared.sessions.fault.EngineFault.TheVariants.{ReadFault, WriteFault, LongLine, OutOfMemory}
 
 abbrev pub fault_status_of : EngineFault → ℕ
 fault_status_of ReadFault = 3

@@ -4,8 +4,8 @@ use Rattle.std.specs.Io.KnownBytes.{Consumes, IsAtEnd}
 use Rattle.std.specs.List.{AllByRecursion}
 use Rattle.kfs_program_text.specs.Cut.{cut, line_end}
 use Rattle.kfs_program.specs.Engine.Transcript.{LineIsShort, longest_line}
-use Rattle.kfs_program.specs.declared.engine.fault.EngineFault.{EngineFault}
-use Rattle.kfs_program.specs.declared.engine.fault.EngineFault.TheVariants.{ReadFault, WriteFault, LongLine, OutOfMemory}
+use Rattle.kfs_program.specs.declared.sessions.fault.EngineFault.{EngineFault}
+use Rattle.kfs_program.specs.declared.sessions.fault.EngineFault.TheVariants.{ReadFault, WriteFault, LongLine, OutOfMemory}
 use Rattle.kfs_program.specs.declared.input.Unread.{Unread}
 
 -- ---- lines

@@ -4,10 +4,10 @@ ghost use Rattle.kfs_program_text.specs.Streams.{IsWritten, Writes};
 ghost use Rattle.kfs_program.specs.Answer.{Answers, Tells};
 ghost use Rattle.kfs_program.specs.declared.answer.LineWord.TheVariants.{Fsck, Plan, Show};
 
-use crate::engine::EngineFault;
 use crate::images::{push_check, push_rows};
 use crate::input::Unread;
 use crate::planning::tell_plan;
+use crate::sessions::EngineFault;
 use kfs_program_text::{flush, write_whole};
 use std::alloc::Allocator;
 use std::io::{Read, Write};

@@ -2,7 +2,7 @@
 ghost use Rattle.std.specs.Prelude.{◌≡◌, ◌<◌, [], ◌++◌, false, length, IfErr, IfOk};
 ghost use Rattle.kfs_program.specs.Lines.{IsBegun, IsKept, IsLineHeld, ReadsOn, TakesNext};
 
-use crate::engine::{EngineFault, LINE_LIMIT};
+use crate::sessions::{EngineFault, LINE_LIMIT};
 use kfs_program_text::{first_line, read_some};
 use std::alloc::Allocator;
 use std::io::Read;

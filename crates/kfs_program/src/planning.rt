@@ -8,9 +8,9 @@ ghost use Rattle.kfs_program.specs.Answer.{Tells};
 ghost use Rattle.kfs_program.specs.Planning.{RefusesClient, RefusesImage, SaysForLog, TakesClient, TakesImage, bad_line, log_said};
 ghost use Rattle.kfs_program.specs.declared.answer.LineWord.TheVariants.{Plan};
 
-use crate::engine::{EngineFault, plan_line};
 use crate::images::load;
 use crate::input::Unread;
+use crate::sessions::{EngineFault, plan_line};
 use kfs_image::Image;
 use kfs_mode::{Client, ClientFault};
 use kfs_program_command::{Command, OpeningCommand};

@@ -3,7 +3,7 @@ ghost use Rattle.std.specs.Prelude.{◌≡◌, IfOk, MatchOption, None, Some};
 ghost use Rattle.kfs_program.specs.Exit.{Exits, IsAskedFor, answer_status_of, fault_status_of, message_of, status_of};
 
 use crate::answer::{LineWord, answer_lines};
-use crate::engine::{EngineFault, engine};
+use crate::sessions::{EngineFault, engine};
 use clap::Command;
 use clap::error::ErrorKind;
 use std::alloc::{Allocator, Global};

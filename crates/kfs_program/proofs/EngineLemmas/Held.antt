@@ -17,9 +17,9 @@ use Rattle.kfs_program_command.specs.declared.command.DeskCommand.{DeskCommand}
 use Rattle.kfs_program.specs.Verdicts.HeldVerdicts.{HeldVerdicts, held_by, with_held}
 use Rattle.kfs_program.specs.Engine.Session.{After, Before, DeskOutcome, AnswersCommand, AnswersLine, IsCallAnswered, IsLandingAnswered, IsReplied, IsSaid, Start, AnswersJudge, AnswersLand, AnswersLoad, LineOutcome, DeskAnswers, Stage, WithHands, left_without_memory, opened, with_image}
 use Rattle.kfs_program.specs.Engine.Views.{IsUndone, stage_in, start_of}
-use Rattle.kfs_program.specs.declared.engine.opening.Opening.{Opening}
-use Rattle.kfs_program.specs.declared.engine.session.Stage.{Stage as CodeStage}
-use Rattle.kfs_program.specs.declared.engine.session.Stage.TheVariants as stages
+use Rattle.kfs_program.specs.declared.sessions.opening.Opening.{Opening}
+use Rattle.kfs_program.specs.declared.sessions.session.Stage.{Stage as CodeStage}
+use Rattle.kfs_program.specs.declared.sessions.session.Stage.TheVariants as stages
 use Rattle.kfs_program.specs.Images.Loading.{AppendsLine, LoadsWith}
 use Rattle.kfs_program.specs.Images.Saving.{save_text}
 use Rattle.kfs_program_text.specs.Parts.{line_of}

@@ -7,9 +7,9 @@ use Rattle.kfs_program_text.specs.Cut.{cut, line_end, lines_in, lines_of}
 use Rattle.kfs_program.specs.Engine.Progress.{IsStopped, IsTaken, HasAnswered}
 use Rattle.kfs_program.specs.Engine.Session.{AnswersLine, AnswersLines, Stage, fresh}
 use Rattle.kfs_program.specs.Engine.Views.{stage_of}
-use Rattle.kfs_program.specs.declared.engine.session_loop.SessionLoop.{SessionLoop}
-use Rattle.kfs_program.specs.declared.engine.fault.EngineFault.{EngineFault}
-use Rattle.kfs_program.specs.declared.engine.fault.EngineFault.TheVariants.{ReadFault, WriteFault, LongLine, OutOfMemory}
+use Rattle.kfs_program.specs.declared.sessions.session_loop.SessionLoop.{SessionLoop}
+use Rattle.kfs_program.specs.declared.sessions.fault.EngineFault.{EngineFault}
+use Rattle.kfs_program.specs.declared.sessions.fault.EngineFault.TheVariants.{ReadFault, WriteFault, LongLine, OutOfMemory}
 use Rattle.kfs_program_text.proofs.Cuts.{cut-joined, cut-more, cut-some}
 
 -- one more line

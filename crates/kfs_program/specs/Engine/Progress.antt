@@ -6,9 +6,9 @@ use Rattle.kfs_program_text.specs.Cut.{cut, line_end}
 use Rattle.kfs_program.specs.Engine.Session.{AnswersLine, AnswersLines, Stage, fresh}
 use Rattle.kfs_program_text.specs.Parts.{line_of}
 use Rattle.kfs_program.specs.Engine.Views.{stage_of}
-use Rattle.kfs_program.specs.declared.engine.session_loop.SessionLoop.{SessionLoop}
-use Rattle.kfs_program.specs.declared.engine.fault.EngineFault.{EngineFault}
-use Rattle.kfs_program.specs.declared.engine.fault.EngineFault.TheVariants.{ReadFault, WriteFault, LongLine, OutOfMemory}
+use Rattle.kfs_program.specs.declared.sessions.session_loop.SessionLoop.{SessionLoop}
+use Rattle.kfs_program.specs.declared.sessions.fault.EngineFault.{EngineFault}
+use Rattle.kfs_program.specs.declared.sessions.fault.EngineFault.TheVariants.{ReadFault, WriteFault, LongLine, OutOfMemory}
 use Rattle.kfs_program_text.specs.declared.words.Refusal.{Refusal}
 use Rattle.kfs_program_text.specs.declared.words.Refusal.TheVariants as refusal
 

@@ -5,10 +5,10 @@ use Rattle.kfs_program_command.specs.Command as commands
 use Rattle.kfs_program.specs.Verdicts.HeldVerdicts.{no_verdict}
 use Rattle.kfs_program.specs.Engine.Session.{AnswersCommand, IsReplied, LineOutcome, Stage, Start, Before, After, left_without_memory, opened}
 use Rattle.kfs_program_text.specs.Parts.{line_of}
-use Rattle.kfs_program.specs.declared.engine.opening.Opening.{Opening}
-use Rattle.kfs_program.specs.declared.engine.session.Session.{Session}
-use Rattle.kfs_program.specs.declared.engine.session.Stage.{Stage as CodeStage}
-use Rattle.kfs_program.specs.declared.engine.session.Stage.TheVariants as stages
+use Rattle.kfs_program.specs.declared.sessions.opening.Opening.{Opening}
+use Rattle.kfs_program.specs.declared.sessions.session.Session.{Session}
+use Rattle.kfs_program.specs.declared.sessions.session.Stage.{Stage as CodeStage}
+use Rattle.kfs_program.specs.declared.sessions.session.Stage.TheVariants as stages
 
 module _ {A : Type 0} where
   abbrev pub start_of : Opening A → Start

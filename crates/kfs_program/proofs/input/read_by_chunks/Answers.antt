@@ -1,7 +1,7 @@
 use Rattle.std.proofs.Common.{ℕ, ◌≡◌, List, [], ◌∷◌, ◌++◌, append_assoc, subst, ap, ◌∙◌, take}
 use Rattle.std.proofs.KnownBytes.{Consumes-kept, Consumes-trans}
 use Rattle.kfs_program_text.specs.Cut.{cut, line_end}
-use Rattle.kfs_program.specs.declared.engine.fault.EngineFault.TheVariants.{ReadFault}
+use Rattle.kfs_program.specs.declared.sessions.fault.EngineFault.TheVariants.{ReadFault}
 use Rattle.kfs_program.specs.Lines.{IsUnreadable}
 use Rattle.kfs_program.proofs.Lines.{reads_broken}
 use Rattle.kfs_program.proofs.input.read_by_chunks.Goals as goal

@@ -1,4 +1,4 @@
-use Rattle.std.proofs.Common.{◌++◌, false, rules, subst, sym}
+use Rattle.std.proofs.Common.{◌++◌, false, eqb-true, subst, sym}
 use Rattle.kfs_desk.specs.Beginning.{beginning_of}
 use Rattle.kfs_shared.specs.Landings.{HaveLanded, KeepsAnswer}
 use Rattle.kfs_shared.specs.Passes.{started, seen_in, own_in}
@@ -7,7 +7,7 @@ use Rattle.kfs_shared.proofs.landings.+land_in.Goals as goal
 
 pub returns-then-is_empty-clause-landed : goal.returns-then-is_empty-clause-landed
 returns-then-is_empty-clause-landed g t c =
-    none_landed (started beginning_of c.args.shared.now) (KeepsAnswer g.L.Landing.number g.L.Landing.keeps) false g.L.Landing.verdict (seen_in c.args.turn) (own_in c.args.turn) c.args.landings.now (search rules)
+    none_landed (started beginning_of c.args.shared.now) (KeepsAnswer g.L.Landing.number g.L.Landing.keeps) false g.L.Landing.verdict (seen_in c.args.turn) (own_in c.args.turn) c.args.landings.now (eqb-true _ _ (sym c.if-is_empty.ensures))
 
 pub returns-then-landings-eq1-clause-landed : goal.returns-then-landings-eq1-clause-landed
 returns-then-landings-eq1-clause-landed g t c =
