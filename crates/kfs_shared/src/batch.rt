@@ -9,6 +9,6 @@ mod job;
 mod settle;
 mod together;
 
-pub use self::batch::{MOST_WORKERS, run_batch};
+pub use self::batch::run_batch;
 pub use self::end::{BatchBack, BatchEnd, Left};
 pub use self::job::Gate;

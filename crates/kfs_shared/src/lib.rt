@@ -26,7 +26,7 @@ mod turns;
 mod view;
 mod want;
 
-pub use batch::{BatchBack, BatchEnd, Gate, Left, MOST_WORKERS, run_batch};
+pub use batch::{BatchBack, BatchEnd, Gate, Left, run_batch};
 pub use desk::{Begun, DocketRow};
 pub use docketed::Docketed;
 pub use landings::Landing;

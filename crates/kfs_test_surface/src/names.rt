@@ -75,9 +75,9 @@ pub mod desk {
 pub mod workers {
     pub use kfs_workers::laws::moves_leave_verdicts;
     pub use kfs_workers::{
-        BatchBack, BatchEnd, Begun, DeskView, DocketRow, Docketed, Gate, Landing, Left,
-        MOST_WORKERS, Pass, ScriptBack, ScriptEnd, Shared, SharedBack, SharedWant, Step,
-        Unreturned, WORKERS, run_batch, run_script,
+        BatchBack, BatchEnd, Begun, DeskView, DocketRow, Docketed, Gate, Landing, Left, Pass,
+        ScriptBack, ScriptEnd, Shared, SharedBack, SharedWant, Step, Unreturned, WORKERS,
+        run_batch, run_script,
     };
 }
 

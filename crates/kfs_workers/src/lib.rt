@@ -7,7 +7,7 @@
 
 pub use kfs_desk::DeskView;
 pub use kfs_shared::{
-    BatchBack, BatchEnd, Begun, DocketRow, Docketed, Gate, Landing, Left, MOST_WORKERS, Pass,
-    Shared, SharedBack, SharedWant, Unreturned, run_batch,
+    BatchBack, BatchEnd, Begun, DocketRow, Docketed, Gate, Landing, Left, Pass, Shared, SharedBack,
+    SharedWant, Unreturned, run_batch,
 };
 pub use kfs_workers_script::{ScriptBack, ScriptEnd, Step, WORKERS, laws, run_script};

@@ -3,7 +3,7 @@ ghost use Rattle.std.specs.Prelude.{◌≡◌, IfOk, None, replicate};
 
 use std::alloc::{AllocError, Allocator};
 
-/// How many workers a script and a session have.
+/// How many workers a script and a session have, and a batch at most.
 pub const WORKERS: usize = 8;
 
 /// A list of `count` empty places. `Err` where memory runs out.

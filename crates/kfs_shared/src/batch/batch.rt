@@ -10,14 +10,11 @@ use crate::batch::job::{Gate, Job};
 use crate::batch::settle::{jobs_of, settle};
 use crate::crew::Crew;
 use crate::{Docketed, Pass, Shared};
-use kfs_desk::{Desk, Reply};
+use kfs_desk::{Desk, Reply, WORKERS};
 use kfs_plan::Submission;
 use std::alloc::{AllocError, Allocator};
 use std::sync::Wait;
 use std::thread::Threads;
-
-/// The greatest number of workers.
-pub const MOST_WORKERS: usize = 8;
 
 /// The memory of a batch.
 #[derive(Drop)]
@@ -159,7 +156,7 @@ pub fn run_batch<A: Allocator + Copy + Send + Sync, G: Gate + Sync, R: Threads +
     ensures workers { IsForWorkers result ↔ ((1 ≤ workers) × (workers ≤ 8) → ⊥) }
     ensures back { IfErr result (λ back. AreBack desk submissions back) }
 {
-    if workers == 0 || workers > MOST_WORKERS {
+    if workers == 0 || workers > WORKERS {
         return Err(BatchBack::BadWorkers { desk, submissions });
     }
     let Ok(room) = make_room(alloc, workers, submissions.len()) else {
