@@ -11,23 +11,23 @@ use Rattle.std.specs.Ordering.{eq_by_cmp}
 use Rattle.kfs_model.specs.Table.{Order}
 use Rattle.kfs_model.proofs.Tables.{right_part, find_behind}
 use Rattle.kfs_map_chunks.specs.Buffer.{Buffer}
-use Rattle.kfs_map_chunks.specs.Joined.{joined, first_chunk_from, AreFilled, TellsAlone}
+use Rattle.kfs_map_chunks.specs.Joined.{joined, joined_by, first_chunk_from, first_run_from, EachBy, IsNotEmpty, AreFilled, TellsAlone}
 use Rattle.kfs_map_chunks.specs.Starts.{entry_from, reaches}
 use Rattle.kfs_map_chunks.proofs.Order.{un_not}
 use Rattle.kfs_map_chunks.proofs.FirstEntries.{entry-append, find_same}
-use Rattle.kfs_map_chunks.proofs.Parts.{parted_chunks, sorted_right, sorted_at, in_place, front_ends}
+use Rattle.kfs_map_chunks.proofs.Parts.{parted_runs, sorted_right, sorted_at, in_place, front_ends}
 
-module _ {K V A : Type 0} (R : Order K) (start : Bound K) where
-  -- a chunk with an entry from the start on, or the end, behind a chunk without, is the first with one
-  pub first_here : (cs : List (Arc (Buffer K V) A)) (i : ℕ) → T (is_sorted R.compare (joined cs)) → AreFilled cs → i ≤ length cs
-      → (i < length cs → (d : Arc (Buffer K V) A) → reaches R.compare start (get_or cs i d).value.pairs ≡ true)
-      → ((j : ℕ) → j + 1 ≡ i → (d : Arc (Buffer K V) A) → reaches R.compare start (get_or cs j d).value.pairs ≡ false) → first_chunk_from R.compare start cs ≡ i
+module _ {K V A B : Type 0} (R : Order K) (entries : B → List (K × V)) (start : Bound K) where
+  -- a run with an entry from the start on, or the end, behind a run without, is the first with one
+  pub first_here : (cs : List (Arc B A)) (i : ℕ) → T (is_sorted R.compare (joined_by entries cs)) → EachBy entries IsNotEmpty cs → i ≤ length cs
+      → (i < length cs → (d : Arc B A) → reaches R.compare start (entries (get_or cs i d).value) ≡ true)
+      → ((j : ℕ) → j + 1 ≡ i → (d : Arc B A) → reaches R.compare start (entries (get_or cs j d).value) ≡ false) → first_run_from R.compare entries start cs ≡ i
   first_here [] i sorted filled within here past = omega (arith, within)
-  first_here (c ∷ cs) zero sorted filled within here past = ap (λ b. cond b 0 (suc (first_chunk_from R.compare start cs))) (here (omega arith) c)
+  first_here (c ∷ cs) zero sorted filled within here past = ap (λ b. cond b 0 (suc (first_run_from R.compare entries start cs))) (here (omega arith) c)
   first_here (c ∷ cs) (suc i) sorted filled within here past =
-      let out : reaches R.compare start c.value.pairs ≡ false = un_not _ (parted_chunks R start (c ∷ cs) sorted filled zero i c (omega arith) (omega (arith, within)) (ap not (past i (omega arith) c))) in
-      ap (λ b. cond b 0 (suc (first_chunk_from R.compare start cs))) out
-      ∙ ap suc (first_here cs i (sorted_right R.compare c.value.pairs (joined cs) sorted) filled.1 (omega (arith, within)) (λ less. here (omega (arith, less))) (λ j next. past (suc j) (omega (arith, next))))
+      let out : reaches R.compare start (entries c.value) ≡ false = un_not _ (parted_runs R entries start (c ∷ cs) sorted filled zero i c (omega arith) (omega (arith, within)) (ap not (past i (omega arith) c))) in
+      ap (λ b. cond b 0 (suc (first_run_from R.compare entries start cs))) out
+      ∙ ap suc (first_here cs i (sorted_right R.compare (entries c.value) (joined_by entries cs) sorted) filled.1 (omega (arith, within)) (λ less. here (omega (arith, less))) (λ j next. past (suc j) (omega (arith, next))))
 
 module _ {K V A : Type 0} (R : Order K) where
   -- a chunk with an entry from the key on, behind one without, tells what is found at the key
@@ -40,10 +40,10 @@ module _ {K V A : Type 0} (R : Order K) where
   inner_tells q (c ∷ cs) (suc i) d e sorted filled some within here past xs ys all =
       let start = Included q in
       let first : first_chunk_from R.compare start (c ∷ cs) ≡ suc i =
-      first_here R start (c ∷ cs) (suc i) sorted filled (omega (arith, within))
+      first_here R (λ (chunk : Buffer K V). chunk.pairs) start (c ∷ cs) (suc i) sorted filled (omega (arith, within))
       (λ less b. ap (λ chunk. reaches R.compare start chunk.value.pairs) (get_or_default (c ∷ cs) (suc i) b d within) ∙ here)
       (λ j next b. ap (λ chunk. reaches R.compare start chunk.value.pairs) (get_or_default (c ∷ cs) j b e (omega (arith, next, within))) ∙ past j next) in
-      let out : not (reaches R.compare start c.value.pairs) ≡ true = parted_chunks R start (c ∷ cs) sorted filled zero i e (omega arith) (omega (arith, within)) (ap not (past i (omega arith))) in
+      let out : not (reaches R.compare start c.value.pairs) ≡ true = parted_runs R (λ (chunk : Buffer K V). chunk.pairs) start (c ∷ cs) sorted filled zero i e (omega arith) (omega (arith, within)) (ap not (past i (omega arith))) in
       let own : entry_from R.compare start (joined (c ∷ cs)) ≡ entry_from R.compare start (get_or (c ∷ cs) (suc i) d).value.pairs =
       in_place R.compare start (c ∷ cs) d (omega (arith, first, within)) ∙ ap (λ k. entry_from R.compare start (get_or (c ∷ cs) k d).value.pairs) first in
       let reached : reaches R.compare start (joined (c ∷ cs)) ≡ true = ap is_some own ∙ here in

@@ -16,7 +16,7 @@ use Rattle.kfs_model.proofs.Tables.{left_part, right_part}
 use Rattle.kfs_map_chunks.specs.declared.entries.KeyEdit.{KeyEdit}
 use Rattle.kfs_map_chunks.specs.Edits.{KeysAscend}
 use Rattle.kfs_map_chunks.specs.Buffer.{Buffer}
-use Rattle.kfs_map_chunks.specs.Joined.{joined, first_chunk_from, Each, IsNotEmpty, AreSized, AreFilled}
+use Rattle.kfs_map_chunks.specs.Joined.{joined, joined_by, first_chunk_from, Each, EachBy, IsNotEmpty, AreSized, AreFilled}
 use Rattle.kfs_map_chunks.specs.Starts.{is_from, entry_from, reaches}
 use Rattle.kfs_map_chunks.proofs.Order.{true_or_false, un_not, flipped, not_below, not_earlier}
 use Rattle.kfs_map_chunks.proofs.Sorted.{earlier, as_less, less_from, below_lower, first_below, not_some}
@@ -181,17 +181,18 @@ module _ {K V : Type 0} (R : Order K) (start : Bound K) where
       at true past = absurd (true_or_false false past refl)
       at false past = refl
 
-module _ {K V A : Type 0} (R : Order K) (start : Bound K) where
-  -- chunks without an entry from the start on stand before those with one
-  pub parted_chunks : (cs : List (Arc (Buffer K V) A)) → T (is_sorted R.compare (joined cs)) → AreFilled cs → IsPartitionedBy (λ (c : Arc (Buffer K V) A). not (reaches R.compare start c.value.pairs)) cs
-  parted_chunks [] sorted filled i j d le below past = absurd (omega (arith, below))
-  parted_chunks (c ∷ cs) sorted filled zero zero d le below past = past
-  parted_chunks (c ∷ []) sorted filled zero (suc j) d le below past = absurd (omega (arith, below))
-  parted_chunks (c ∷ n ∷ ns) sorted filled zero (suc j) d le below past =
-      let next : not (reaches R.compare start n.value.pairs) ≡ true = parted_chunks (n ∷ ns) (sorted_right R.compare c.value.pairs (joined (n ∷ ns)) sorted) filled.1 zero j d (omega arith) (omega (arith, below)) past in
-      front_ends R start c.value.pairs n.value.pairs (joined ns) sorted filled.1.0 next
-  parted_chunks (c ∷ cs) sorted filled (suc i) zero d le below past = absurd (omega (arith, le))
-  parted_chunks (c ∷ cs) sorted filled (suc i) (suc j) d le below past = parted_chunks cs (sorted_right R.compare c.value.pairs (joined cs) sorted) filled.1 i j d (omega (arith, le)) (omega (arith, below)) past
+module _ {K V A B : Type 0} (R : Order K) (entries : B → List (K × V)) (start : Bound K) where
+  -- runs without an entry from the start on stand before those with one
+  pub parted_runs : (cs : List (Arc B A)) → T (is_sorted R.compare (joined_by entries cs)) → EachBy entries IsNotEmpty cs → IsPartitionedBy (λ (c : Arc B A). not (reaches R.compare start (entries c.value))) cs
+  parted_runs [] sorted filled i j d le below past = absurd (omega (arith, below))
+  parted_runs (c ∷ cs) sorted filled zero zero d le below past = past
+  parted_runs (c ∷ []) sorted filled zero (suc j) d le below past = absurd (omega (arith, below))
+  parted_runs (c ∷ n ∷ ns) sorted filled zero (suc j) d le below past =
+      let next : not (reaches R.compare start (entries n.value)) ≡ true =
+      parted_runs (n ∷ ns) (sorted_right R.compare (entries c.value) (joined_by entries (n ∷ ns)) sorted) filled.1 zero j d (omega arith) (omega (arith, below)) past in
+      front_ends R start (entries c.value) (entries n.value) (joined_by entries ns) sorted filled.1.0 next
+  parted_runs (c ∷ cs) sorted filled (suc i) zero d le below past = absurd (omega (arith, le))
+  parted_runs (c ∷ cs) sorted filled (suc i) (suc j) d le below past = parted_runs cs (sorted_right R.compare (entries c.value) (joined_by entries cs) sorted) filled.1 i j d (omega (arith, le)) (omega (arith, below)) past
 
 module _ {K V A : Type 0} (R : Order K) (start : Bound K) where
   -- chunks together reach as far as the last

@@ -1,17 +1,17 @@
 //! A change of a map within its present chunks: memory is taken while the calls go inwards, values are
 //! set while they return. A change of chunks that is made together with another one or not at all.
-//! Chunks after edits, as a new list. Parts after edits, as a new list.
-ghost use Rattle.std.specs.Prelude.{◌≡◌, ◌++◌, T, All, Ok, None, true, false, OnErr, ◌≤◌, [], IfOk, OnOk};
-ghost use Rattle.std.specs.FinMap.Entries.{is_sorted, below_all};
+//! Entries that are cut into chunks, and chunks into parts.
+ghost use Rattle.std.specs.Prelude.{◌≡◌, ◌++◌, T, Ok, true, false, OnErr, ◌≤◌, OnOk};
+ghost use Rattle.std.specs.FinMap.Entries.{is_sorted};
 ghost use Rattle.std.specs.declared.ops.Bound.TheVariants.{Included};
 ghost use Rattle.kfs_map_chunks.specs.Edits.{entered_all, KeysAscend};
 ghost use Rattle.kfs_map_chunks.specs.Joined.{joined, were_made, if_made, IsSized, IsNotEmpty, AreSized, AreFilled};
-ghost use Rattle.kfs_map_chunks.specs.Starts.{entry_from};
 ghost use Rattle.std.proofs.Common.{rules};
 
 use crate::chunks::Chunks;
 use crate::entries::{Entries, Key, KeyEdit};
-use crate::part::{MOST_CHUNKS, Part, place, place_part, run_of, run_of_part};
+use crate::part::{MOST_CHUNKS, Part};
+use crate::run::{edits_of, place};
 use kfs_types::Change;
 use std::alloc::{AllocError, Allocator};
 use std::ops::Bound;
@@ -44,12 +44,12 @@ pub(crate) fn change_parts<K: Key, V: Copy, A: Allocator + Clone, C: Change>(
         return Ok(true);
     };
     let last = parts.len().saturating_sub(1);
-    let index = place_part(parts, &Bound::Included(&edit.key)).min(last);
+    let index = place(parts, &Bound::Included(&edit.key)).min(last);
     let (_, rest) = parts.split_at_mut(index);
     let Some((part, rest)) = rest.split_first_mut() else {
         return Ok(false);
     };
-    let (mine, later) = edits.split_at(run_of_part(edits, part, rest));
+    let (mine, later) = edits.split_at(edits_of(edits, part, rest));
     change_from_part(part, rest, mine, later, then)
 }
 
@@ -117,7 +117,7 @@ fn change_chunks<K: Key, V: Copy, A: Allocator + Clone, C: Change>(
     let Some((chunk, rest)) = rest.split_first_mut() else {
         return Ok(false);
     };
-    let (mine, later) = edits.split_at(run_of(edits, chunk, rest));
+    let (mine, later) = edits.split_at(edits_of(edits, chunk, rest));
     change_from(chunk, rest, mine, later, parts, behind, then)
 }
 
@@ -192,67 +192,9 @@ impl<'a, K: Key, V: Copy, A: Allocator + Clone, T: Change> Change for EditChunks
     }
 }
 
-/// The chunks after the edits. Chunks without edits are shared; the others are cut anew.
-pub(crate) fn rebuilt<K: Key, V: Copy, A: Allocator + Clone>(
-    chunks: &Vec<Arc<Entries<K, V, A>, A>, A>,
-    edits: &[KeyEdit<K, V>],
-) -> Result<Vec<Arc<Entries<K, V, A>, A>, A>, AllocError>
-    requires ascend { KeysAscend K.cmp edits.now }
-    requires sorted { T (is_sorted K.cmp (joined chunks.now.items)) }
-    requires sized { AreSized chunks.now.items }
-    ensures joined { IfOk result (λ new. joined new.items ≡ entered_all K.cmp (joined chunks.now.items) edits.now) }
-    ensures sized { IfOk result (λ new. AreSized new.items) }
-{
-    let mut new = Vec::with_capacity(chunks.allocator().clone()?, chunks.len())?;
-    let mut left = chunks.as_slice();
-    let mut later = edits;
-    while let Some((chunk, rest)) = left.split_first() {
-        let (mine, others) = later.split_at(run_of(later, chunk, rest));
-        push(&mut new, chunk, mine)?;
-        left = rest;
-        later = others;
-    }
-    let last = Entries::new(chunks.allocator().clone()?).merged(later)?;
-    append(&mut new, last)?;
-    Ok(new)
-}
-
-/// The chunks that the edits make of a map without entries.
-pub(crate) fn fresh<K: Key, V: Copy, A: Allocator + Clone>(
-    alloc: &A,
-    edits: &[KeyEdit<K, V>],
-) -> Result<Vec<Arc<Entries<K, V, A>, A>, A>, AllocError>
-    requires { KeysAscend K.cmp edits.now }
-    ensures joined { IfOk result (λ new. joined new.items ≡ entered_all K.cmp [] edits.now) }
-    ensures sized { IfOk result (λ new. AreSized new.items) }
-{
-    let mut new = Vec::new(alloc.clone()?);
-    append(&mut new, Entries::new(alloc.clone()?).merged(edits)?)?;
-    Ok(new)
-}
-
-/// Appends the chunk after its edits; where there are none, the same chunk.
-fn push<K: Key, V: Copy, A: Allocator + Clone>(
-    new: &mut Vec<Arc<Entries<K, V, A>, A>, A>,
-    chunk: &Arc<Entries<K, V, A>, A>,
-    edits: &[KeyEdit<K, V>],
-) -> Result<(), AllocError>
-    requires ascend { KeysAscend K.cmp edits.now }
-    requires sized { AreSized new.old.items }
-    requires size { IsSized chunk.now.value.pairs }
-    ensures joined { OnOk result (joined new.new.items ≡ joined new.old.items ++ entered_all K.cmp chunk.now.value.pairs edits.now) }
-    ensures sized { OnOk result (AreSized new.new.items) }
-{
-    if edits.is_empty() {
-        new.push(chunk.clone()?)?;
-        return Ok(());
-    }
-    append(new, chunk.merged(edits)?)
-}
-
 /// Appends the entries: as a chunk if they fit in one and don't take twice the memory they need, else
 /// cut into chunks.
-fn append<K: Key, V: Copy, A: Allocator + Clone>(
+pub(crate) fn append<K: Key, V: Copy, A: Allocator + Clone>(
     new: &mut Vec<Arc<Entries<K, V, A>, A>, A>,
     entries: Entries<K, V, A>,
 ) -> Result<(), AllocError>
@@ -304,51 +246,6 @@ pub(crate) fn size_for(len: usize, most: usize) -> usize
     } else {
         most - most / 4
     }
-}
-
-/// The parts after the edits. Parts without edits are shared; the others are cut anew.
-pub(crate) fn rebuilt_parts<K: Key, V: Copy, A: Allocator + Clone>(
-    parts: &Vec<Arc<Part<K, V, A>, A>, A>,
-    edits: &[KeyEdit<K, V>],
-) -> Result<Vec<Arc<Part<K, V, A>, A>, A>, AllocError>
-    requires ascend { KeysAscend K.cmp edits.now }
-    requires sorted { T (is_sorted K.cmp (joined parts.now.items)) }
-    requires filled { AreFilled parts.now.items }
-    ensures joined { IfOk result (λ new. joined new.items ≡ entered_all K.cmp (joined parts.now.items) edits.now) }
-    ensures filled { IfOk result (λ new. AreFilled new.items) }
-{
-    let mut new = Vec::with_capacity(parts.allocator().clone()?, parts.len())?;
-    let mut left = parts.as_slice();
-    let mut later = edits;
-    while let Some((part, rest)) = left.split_first() {
-        let (mine, others) = later.split_at(run_of_part(later, part, rest));
-        push_part(&mut new, part, mine)?;
-        left = rest;
-        later = others;
-    }
-    let last = fresh(parts.allocator(), later)?;
-    cut_parts(&mut new, &last)?;
-    Ok(new)
-}
-
-/// Appends the part after its edits; where there are none, the same part.
-fn push_part<K: Key, V: Copy, A: Allocator + Clone>(
-    new: &mut Vec<Arc<Part<K, V, A>, A>, A>,
-    part: &Arc<Part<K, V, A>, A>,
-    edits: &[KeyEdit<K, V>],
-) -> Result<(), AllocError>
-    requires ascend { KeysAscend K.cmp edits.now }
-    requires sorted { T (is_sorted K.cmp part.now.value.pairs) }
-    requires filled { AreFilled new.old.items }
-    requires part { IsNotEmpty part.now.value.pairs }
-    ensures joined { OnOk result (joined new.new.items ≡ joined new.old.items ++ entered_all K.cmp part.now.value.pairs edits.now) }
-    ensures filled { OnOk result (AreFilled new.new.items) }
-{
-    if edits.is_empty() {
-        new.push(part.clone()?)?;
-        return Ok(());
-    }
-    cut_parts(new, &part.rebuilt(edits)?)
 }
 
 /// Appends the chunks, cut into parts of one size; only the last may be smaller.

@@ -12,10 +12,13 @@ ghost use Rattle.kfs_map_chunks.specs.Starts.{is_from, first_from, entry_from, r
 ghost use Rattle.kfs_model.specs.Table.{Order, pairs, numbers};
 ghost use Rattle.kfs_model.specs.Tree.{name_order};
 
+use crate::change::append;
+use crate::run::{Recut, Run};
 use kfs_types::Name;
 use std::alloc::{AllocError, Allocator};
 use std::marker::Model;
 use std::ops::Bound;
+use std::sync::Arc;
 
 /// Keys with their values, the keys ascending, none twice.
 #[derive(Drop)]
@@ -175,16 +178,6 @@ impl<K: Key, V: Copy, A: Allocator> Entries<K, V, A> {
         edits < self.len() && edits <= K::most_entries().saturating_sub(self.len())
     }
 
-    /// Whether an entry is at the bound or behind it. Only the last entry is looked at.
-    pub(crate) fn reaches(&self, start: &Bound<&K>) -> bool
-        ensures { result ≡ reaches K.cmp (bound_map (λ x. x.now) start.now) self.now.pairs }
-    {
-        match self.pairs.last() {
-            Some((last, _)) => is_from(start, last),
-            None => false,
-        }
-    }
-
     /// The first entry at the bound or behind it, or none.
     pub(crate) fn next(&self, start: Bound<&K>) -> Option<(&K, &V)>
         ensures some { IfSome result (λ p. entry_from K.cmp (bound_map (λ x. x.now) start.entry) self.now.pairs ≡ Some (p.0.now, p.1.now)) }
@@ -192,6 +185,43 @@ impl<K: Key, V: Copy, A: Allocator> Entries<K, V, A> {
     {
         let (key, value) = self.pairs.get(first_from(&self.pairs, start))?;
         Some((key, value))
+    }
+}
+
+impl<K: Key, V: Copy, A: Allocator> Run<K, V> for Entries<K, V, A> {
+    ghost entries = { λ chunk. chunk.pairs };
+
+    fn reaches(&self, start: &Bound<&K>) -> bool {
+        match self.pairs.last() {
+            Some((last, _)) => is_from(start, last),
+            None => false,
+        }
+    }
+}
+
+impl<K: Key, V: Copy, A: Allocator + Clone> Recut<K, V, A> for Entries<K, V, A> {
+    ghost use Rattle.kfs_map_chunks.specs.Joined.{IsSized};
+
+    ghost fits = { IsSized };
+
+    fn push_edited(
+        new: &mut Vec<Arc<Entries<K, V, A>, A>, A>,
+        chunk: &Arc<Entries<K, V, A>, A>,
+        edits: &[KeyEdit<K, V>],
+    ) -> Result<(), AllocError> {
+        if edits.is_empty() {
+            new.push(chunk.clone()?)?;
+            return Ok(());
+        }
+        append(new, chunk.merged(edits)?)
+    }
+
+    fn push_fresh(
+        new: &mut Vec<Arc<Entries<K, V, A>, A>, A>,
+        edits: &[KeyEdit<K, V>],
+    ) -> Result<(), AllocError> {
+        let entries = Entries::new(new.allocator().clone()?).merged(edits)?;
+        append(new, entries)
     }
 }
 

@@ -12,6 +12,7 @@ mod chunks;
 mod entries;
 mod overlay;
 mod part;
+mod run;
 
 pub use change::EditChunks;
 pub use chunk_list::ChunkList;

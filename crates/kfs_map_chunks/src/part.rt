@@ -1,16 +1,16 @@
-//! A part of a map: a list of chunks that copies share. Finding the part, and in it the chunk, to which
-//! a key belongs.
-ghost use Rattle.std.specs.Prelude.{◌≡◌, ◌≤◌, T, IfSome, IfNone, IfOk, Some, None, length, ◌++◌, All, take, drop};
+//! A part of a map: a list of chunks that copies share. Finding the chunk to which a key belongs.
+ghost use Rattle.std.specs.Prelude.{◌≡◌, ◌≤◌, T, IfSome, IfNone, IfOk, Some, None, length};
 ghost use Rattle.std.specs.Option.{option_copied};
-ghost use Rattle.std.specs.FinMap.Entries.{find, is_sorted, below_all};
+ghost use Rattle.std.specs.FinMap.Entries.{find, is_sorted};
 ghost use Rattle.std.specs.Range.Bound.{bound_map};
-ghost use Rattle.kfs_map_chunks.specs.Edits.{entered_all, KeysAscend};
-ghost use Rattle.kfs_map_chunks.specs.Joined.{joined, AreSized, TellsAlone, first_chunk_from, AreFilled};
+ghost use Rattle.kfs_map_chunks.specs.Edits.{KeysAscend};
+ghost use Rattle.kfs_map_chunks.specs.Joined.{joined, AreSized, TellsAlone};
 ghost use Rattle.kfs_map_chunks.specs.Starts.{entry_from, reaches};
 ghost use Rattle.std.specs.declared.ops.Bound.TheVariants.{Included};
 
-use crate::change::rebuilt;
+use crate::change::cut_parts;
 use crate::entries::{Entries, Key, KeyEdit};
+use crate::run::{Recut, Run, edits_of, place, place_near, rebuilt};
 use std::alloc::{AllocError, Allocator};
 use std::marker::Model;
 use std::ops::Bound;
@@ -117,17 +117,45 @@ impl<K: Key, V: Copy, A: Allocator> Part<K, V, A> {
         let Some((chunk, rest)) = self.chunks[index..].split_first() else {
             return true;
         };
-        chunk.takes(run_of(edits, chunk, rest))
+        chunk.takes(edits_of(edits, chunk, rest))
     }
+}
 
-    /// Whether an entry is at the bound or behind it. Only the last entry is looked at.
-    pub(crate) fn reaches(&self, start: &Bound<&K>) -> bool
-        ensures { result ≡ reaches K.cmp (bound_map (λ x. x.now) start.now) self.now.pairs }
-    {
+impl<K: Key, V: Copy, A: Allocator> Run<K, V> for Part<K, V, A> {
+    ghost entries = { λ part. part.pairs };
+
+    fn reaches(&self, start: &Bound<&K>) -> bool {
         match self.chunks.last() {
             Some(last) => last.reaches(start),
             None => false,
         }
+    }
+}
+
+impl<K: Key, V: Copy, A: Allocator + Clone> Recut<K, V, A> for Part<K, V, A> {
+    ghost use Rattle.kfs_map_chunks.specs.Joined.{IsNotEmpty};
+
+    ghost fits = { IsNotEmpty };
+
+    fn push_edited(
+        new: &mut Vec<Arc<Part<K, V, A>, A>, A>,
+        part: &Arc<Part<K, V, A>, A>,
+        edits: &[KeyEdit<K, V>],
+    ) -> Result<(), AllocError> {
+        if edits.is_empty() {
+            new.push(part.clone()?)?;
+            return Ok(());
+        }
+        cut_parts(new, &rebuilt(&part.chunks, edits)?)
+    }
+
+    fn push_fresh(
+        new: &mut Vec<Arc<Part<K, V, A>, A>, A>,
+        edits: &[KeyEdit<K, V>],
+    ) -> Result<(), AllocError> {
+        let mut chunks = Vec::new(new.allocator().clone()?);
+        Entries::push_fresh(&mut chunks, edits)?;
+        cut_parts(new, &chunks)
     }
 }
 
@@ -148,18 +176,6 @@ impl<K: Key, V: Copy, A: Allocator + Clone> Part<K, V, A> {
             own.push(chunk.clone()?)?;
         }
         Ok(Part { chunks: own })
-    }
-
-    /// The chunks after the edits, as a new list.
-    pub(crate) fn rebuilt(
-        &self,
-        edits: &[KeyEdit<K, V>],
-    ) -> Result<Vec<Arc<Entries<K, V, A>, A>, A>, AllocError>
-        requires { KeysAscend K.cmp edits.now }
-        ensures joined { IfOk result (λ new. joined new.items ≡ entered_all K.cmp self.now.pairs edits.now) }
-        ensures sized { IfOk result (λ new. AreSized new.items) }
-    {
-        rebuilt(&self.chunks, edits)
     }
 }
 
@@ -184,112 +200,4 @@ impl Near {
             entry: 0,
         }
     }
-}
-
-/// The index of the first chunk with an entry at the bound or behind it, or the number of chunks where
-/// there is none.
-pub(crate) fn place<K: Key, V: Copy, A: Allocator>(
-    chunks: &[Arc<Entries<K, V, A>, A>],
-    start: &Bound<&K>,
-) -> usize
-    requires sorted { T (is_sorted K.cmp (joined chunks.now)) }
-    requires sized { AreSized chunks.now }
-    ensures { result ≡ first_chunk_from K.cmp (bound_map (λ x. x.now) start.now) chunks.now }
-{
-    chunks.partition_point(|chunk| !chunk.reaches(start))
-}
-
-/// The same index. It is found faster where it is `near`.
-pub(crate) fn place_near<K: Key, V: Copy, A: Allocator>(
-    chunks: &[Arc<Entries<K, V, A>, A>],
-    start: &Bound<&K>,
-    near: usize,
-) -> usize
-    requires sorted { T (is_sorted K.cmp (joined chunks.now)) }
-    requires sized { AreSized chunks.now }
-    ensures { result ≡ first_chunk_from K.cmp (bound_map (λ x. x.now) start.now) chunks.now }
-{
-    if near > chunks.len() {
-        return place(chunks, start);
-    }
-    if near < chunks.len() && !chunks[near].reaches(start) {
-        return place(chunks, start);
-    }
-    if near > 0 && chunks[near - 1].reaches(start) {
-        return place(chunks, start);
-    }
-    near
-}
-
-/// How many edits at the front of the list belong to the chunk: those of keys up to its last one, or
-/// all where it is the last chunk.
-pub(crate) fn run_of<K: Key, V: Copy, A: Allocator>(
-    edits: &[KeyEdit<K, V>],
-    chunk: &Entries<K, V, A>,
-    rest: &[Arc<Entries<K, V, A>, A>],
-) -> usize
-    requires ascend { KeysAscend K.cmp edits.now }
-    requires sorted { T (is_sorted K.cmp (chunk.now.pairs ++ joined rest.now)) }
-    ensures within { result ≤ length edits.now }
-    ensures run { All (λ e. T (below_all K.cmp e.key (joined rest.now))) (take result edits.now) }
-    ensures rest { All (λ e. entry_from K.cmp (Included e.key) chunk.now.pairs ≡ None) (drop result edits.now) }
-{
-    if rest.is_empty() {
-        return edits.len();
-    }
-    edits.partition_point(|edit| chunk.reaches(&Bound::Included(&edit.key)))
-}
-
-/// The index of the first part with an entry at the bound or behind it, or the number of parts where
-/// there is none.
-pub(crate) fn place_part<K: Key, V: Copy, A: Allocator>(
-    parts: &[Arc<Part<K, V, A>, A>],
-    start: &Bound<&K>,
-) -> usize
-    requires sorted { T (is_sorted K.cmp (joined parts.now)) }
-    requires filled { AreFilled parts.now }
-    ensures { result ≡ first_chunk_from K.cmp (bound_map (λ x. x.now) start.now) parts.now }
-{
-    parts.partition_point(|part| !part.reaches(start))
-}
-
-/// The same index. It is found faster where it is `near`.
-pub(crate) fn place_part_near<K: Key, V: Copy, A: Allocator>(
-    parts: &[Arc<Part<K, V, A>, A>],
-    start: &Bound<&K>,
-    near: usize,
-) -> usize
-    requires sorted { T (is_sorted K.cmp (joined parts.now)) }
-    requires filled { AreFilled parts.now }
-    ensures { result ≡ first_chunk_from K.cmp (bound_map (λ x. x.now) start.now) parts.now }
-{
-    if near > parts.len() {
-        return place_part(parts, start);
-    }
-    if near < parts.len() && !parts[near].reaches(start) {
-        return place_part(parts, start);
-    }
-    if near > 0 && parts[near - 1].reaches(start) {
-        return place_part(parts, start);
-    }
-    near
-}
-
-/// How many edits at the front of the list belong to the part: those of keys up to its last one, or all
-/// where it is the last part.
-pub(crate) fn run_of_part<K: Key, V: Copy, A: Allocator>(
-    edits: &[KeyEdit<K, V>],
-    part: &Part<K, V, A>,
-    rest: &[Arc<Part<K, V, A>, A>],
-) -> usize
-    requires ascend { KeysAscend K.cmp edits.now }
-    requires sorted { T (is_sorted K.cmp (part.now.pairs ++ joined rest.now)) }
-    ensures within { result ≤ length edits.now }
-    ensures run { All (λ e. T (below_all K.cmp e.key (joined rest.now))) (take result edits.now) }
-    ensures rest { All (λ e. entry_from K.cmp (Included e.key) part.now.pairs ≡ None) (drop result edits.now) }
-{
-    if rest.is_empty() {
-        return edits.len();
-    }
-    edits.partition_point(|edit| part.reaches(&Bound::Included(&edit.key)))
 }

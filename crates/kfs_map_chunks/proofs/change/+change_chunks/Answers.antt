@@ -15,14 +15,14 @@ use Rattle.kfs_map_chunks.proofs.Sorted.{order_by}
 use Rattle.kfs_map_chunks.proofs.Together.{edited_chunks, same_pairs}
 use Rattle.kfs_map_chunks.proofs.change.+change_chunks.Goals as goal
 
-pub change_parts-run_of_part-requires-clause-sorted : goal.change_parts-run_of_part-requires-clause-sorted
-change_parts-run_of_part-requires-clause-sorted g t c =
+pub change_parts-edits_of-requires-clause-sorted : goal.change_parts-edits_of-requires-clause-sorted
+change_parts-edits_of-requires-clause-sorted g t c =
     let cmp = g.K.Ord.cmp in
     let front = c.split_at_mut-rest.result.0.now in
     let part = c.in-Some-split_first_mut.part.now in
     let rest = c.in-Some-split_first_mut.rest.now in
     let whole : c.args.parts.now ≡ front ++ part ∷ rest = c.split_at_mut-rest.ensures.value ∙ ap (λ back. front ++ back) c.in-Some-split_first_mut.ensures.cases.0 in
-    subst (λ (x : Buffer _ _). T (is_sorted cmp (x.pairs ++ joined rest))) (sym c.deref.ensures) (sorted_behind cmp front part rest (subst (λ cs. T (is_sorted cmp (joined cs))) whole c.requires.sorted))
+    sorted_behind cmp front part rest (subst (λ cs. T (is_sorted cmp (joined cs))) whole c.requires.sorted)
 
 pub change_parts-change_from_part-requires : goal.change_parts-change_from_part-requires
 change_parts-change_from_part-requires g t c =
@@ -44,9 +44,9 @@ change_parts-change_from_part-requires g t c =
             (
               search rules,
               (
-                subst (KeysAscend cmp) (sym c.split_at.ensures.front) (ascend_take cmp c.args.edits.now c.run_of_part.result c.requires.ascend),
+                subst (KeysAscend cmp) (sym c.split_at.ensures.front) (ascend_take cmp c.args.edits.now c.edits_of.result c.requires.ascend),
                 (
-                  subst (KeysAscend cmp) (sym c.split_at.ensures.back) (ascend_drop cmp c.args.edits.now c.run_of_part.result c.requires.ascend),
+                  subst (KeysAscend cmp) (sym c.split_at.ensures.back) (ascend_drop cmp c.args.edits.now c.edits_of.result c.requires.ascend),
                   (sorted_right cmp part.value.pairs (joined rest) sorted, (filled.0, (filled.1, c.requires.then))),
                 ),
               ),
@@ -69,34 +69,37 @@ change_parts-returns-clause-joined g t c =
     let cmp = g.K.Ord.cmp in
     let order = order_by g.K.Key.order cmp g.met.K.Key.compared in
     let es = c.args.edits.now in
-    let r = c.run_of_part.result in
+    let r = c.edits_of.result in
     let key = c.in-Some.edit.now.key in
     let front = c.split_at_mut-rest.result.0.now in
     let part = c.in-Some-split_first_mut.part.now in
     let rest = c.in-Some-split_first_mut.rest.now in
     let result = c.change_from_part.result in
     let whole : c.args.parts.now ≡ front ++ part ∷ rest = c.split_at_mut-rest.ensures.value ∙ ap (λ back. front ++ back) c.in-Some-split_first_mut.ensures.cases.0 in
-    let at : c.place_part.result ≡ first_chunk_from cmp (Included key) c.args.parts.now = search rules in
+    let at : c.place.result ≡ first_chunk_from cmp (Included key) c.args.parts.now = search rules in
     let in_front : All (λ e. entry_from cmp (Included e.key) (joined front) ≡ None) es =
     front_past order front (part ∷ rest) es key c.requires.ascend (λ d. ap (λ (e : KeyEdit _ _). e.key) (c.in-Some.ensures.item.4 (omega arith) d)) (omega (arith, c.split_at_mut-rest.ensures.front_len, c.min-index.ensures, at, ap (first_chunk_from cmp (Included key)) whole)) in
     let all : take r es ++ drop r es ≡ es = take-append-drop r es in
     edited_chunks order (were_made result) front part c.change_from_part.new.part rest c.change_from_part.new.rest (take r es) (drop r es)
     (subst (KeysAscend cmp) (sym all) c.requires.ascend)
     (subst (All (λ e. entry_from cmp (Included e.key) (joined front) ≡ None)) (sym all) in_front)
-    c.run_of_part.ensures.run
-    (subst (λ (x : Buffer _ _). All (λ e. entry_from cmp (Included e.key) x.pairs ≡ None) (drop r es)) c.deref.ensures c.run_of_part.ensures.rest)
+    c.edits_of.ensures.run
+    c.edits_of.ensures.rest
     (c.change_from_part.ensures.part ∙ ap (λ mine. if_made result (entered_all cmp part.value.pairs mine) part.value.pairs) c.split_at.ensures.front)
     (c.change_from_part.ensures.rest ∙ ap (λ later. if_made result (entered_all cmp (joined rest) later) (joined rest)) c.split_at.ensures.back)
     ∙ (λ i. if_made result (entered_all cmp (joined (sym whole i)) (all i)) (joined (sym whole i)))
 
-pub change_chunks-run_of-requires-clause-sorted : goal.change_chunks-run_of-requires-clause-sorted
-change_chunks-run_of-requires-clause-sorted g t c =
+pub change_chunks-place-requires-clause-filled : goal.change_chunks-place-requires-clause-filled
+change_chunks-place-requires-clause-filled g t c = sized_filled c.args.chunks.now c.requires.sized
+
+pub change_chunks-edits_of-requires-clause-sorted : goal.change_chunks-edits_of-requires-clause-sorted
+change_chunks-edits_of-requires-clause-sorted g t c =
     let cmp = g.K.Ord.cmp in
     let front = c.split_at_mut-rest.result.0.now in
     let chunk = c.in-Some-split_first_mut.chunk.now in
     let rest = c.in-Some-split_first_mut.rest.now in
     let whole : c.args.chunks.now ≡ front ++ chunk ∷ rest = c.split_at_mut-rest.ensures.value ∙ ap (λ back. front ++ back) c.in-Some-split_first_mut.ensures.cases.0 in
-    subst (λ (x : Buffer _ _). T (is_sorted cmp (x.pairs ++ joined rest))) (sym c.deref.ensures) (sorted_behind cmp front chunk rest (subst (λ cs. T (is_sorted cmp (joined cs))) whole c.requires.sorted))
+    sorted_behind cmp front chunk rest (subst (λ cs. T (is_sorted cmp (joined cs))) whole c.requires.sorted)
 
 pub change_chunks-change_from-requires : goal.change_chunks-change_from-requires
 change_chunks-change_from-requires g t c =
@@ -118,9 +121,9 @@ change_chunks-change_from-requires g t c =
             (
               search rules,
               (
-                subst (KeysAscend cmp) (sym c.split_at.ensures.front) (ascend_take cmp c.args.edits.now c.run_of.result c.requires.ascend),
+                subst (KeysAscend cmp) (sym c.split_at.ensures.front) (ascend_take cmp c.args.edits.now c.edits_of.result c.requires.ascend),
                 (
-                  subst (KeysAscend cmp) (sym c.split_at.ensures.back) (ascend_drop cmp c.args.edits.now c.run_of.result c.requires.ascend),
+                  subst (KeysAscend cmp) (sym c.split_at.ensures.back) (ascend_drop cmp c.args.edits.now c.edits_of.result c.requires.ascend),
                   (sorted_left cmp chunk.value.pairs (joined rest) sorted, (sorted_right cmp chunk.value.pairs (joined rest) sorted, (sized.0, (sized.1, (c.requires.behind, (c.requires.parts, (c.requires.filled, c.requires.then))))))),
                 ),
               ),
@@ -143,7 +146,7 @@ change_chunks-returns-clause-joined g t c =
     let cmp = g.K.Ord.cmp in
     let order = order_by g.K.Key.order cmp g.met.K.Key.compared in
     let es = c.args.edits.now in
-    let r = c.run_of.result in
+    let r = c.edits_of.result in
     let key = c.in-Some.edit.now.key in
     let front = c.split_at_mut-rest.result.0.now in
     let chunk = c.in-Some-split_first_mut.chunk.now in
@@ -157,8 +160,8 @@ change_chunks-returns-clause-joined g t c =
     edited_chunks order (were_made result) front chunk c.change_from.new.chunk rest c.change_from.new.rest (take r es) (drop r es)
     (subst (KeysAscend cmp) (sym all) c.requires.ascend)
     (subst (All (λ e. entry_from cmp (Included e.key) (joined front) ≡ None)) (sym all) in_front)
-    c.run_of.ensures.run
-    (subst (λ (x : Buffer _ _). All (λ e. entry_from cmp (Included e.key) x.pairs ≡ None) (drop r es)) c.deref.ensures c.run_of.ensures.rest)
+    c.edits_of.ensures.run
+    c.edits_of.ensures.rest
     (c.change_from.ensures.chunk ∙ ap (λ mine. if_made result (entered_all cmp chunk.value.pairs mine) chunk.value.pairs) c.split_at.ensures.front)
     (c.change_from.ensures.rest ∙ ap (λ later. if_made result (entered_all cmp (joined rest) later) (joined rest)) c.split_at.ensures.back)
     ∙ (λ i. if_made result (entered_all cmp (joined (sym whole i)) (all i)) (joined (sym whole i)))

@@ -3,12 +3,15 @@ use Rattle.std.specs.Option.{option_copied}
 use Rattle.std.specs.declared.ops.Bound.TheVariants.{Included}
 use Rattle.std.specs.FinMap.Entries.{find}
 use Rattle.kfs_map_chunks.specs.Buffer.{Buffer}
-use Rattle.kfs_map_chunks.specs.Joined.{joined, first_chunk_from, TellsAlone}
+use Rattle.kfs_map_chunks.specs.Joined.{joined, AreFilled, first_chunk_from, TellsAlone}
 use Rattle.kfs_map_chunks.proofs.FirstEntries.{find_none}
 use Rattle.kfs_map_chunks.proofs.FirstHere.{found_tells, told_by}
 use Rattle.kfs_map_chunks.proofs.Parts.{past_place, found_in_place}
 use Rattle.kfs_map_chunks.proofs.Sorted.{order_by}
 use Rattle.kfs_map_chunks.proofs.chunks.Chunks.get_near.Goals as goal
+
+pub place_near-at-requires-clause-filled : goal.place_near-at-requires-clause-filled
+place_near-at-requires-clause-filled g c = subst AreFilled (sym c.deref-2.ensures.value) c.self.invariant.1
 
 pub returns-in_err-part : goal.returns-in_err-part
 returns-in_err-part g c =
@@ -16,8 +19,8 @@ returns-in_err-part g c =
     let q = c.args.key.now in
     let cs = c.self.inside.parts.items in
     let order = order_by g.K.Key.order cmp g.met.K.Key.compared in
-    let at : c.place_part_near-at.result ≡ first_chunk_from cmp (Included q) cs = search rules in
-    let past : length cs ≤ c.place_part_near-at.result = search rules in
+    let at : c.place_near-at.result ≡ first_chunk_from cmp (Included q) cs = search rules in
+    let past : length cs ≤ c.place_near-at.result = search rules in
     ap option_copied c.from_residual.ensures
     ∙ sym (find_none order q (joined cs) c.self.invariant.0 (past_place cmp (Included q) cs (omega (arith, at, past))))
     ∙ ap (λ compare. find compare q (joined cs)) g.met.K.Key.compared
@@ -30,9 +33,9 @@ returns g c =
     let cs = c.self.inside.parts.items in
     let order = order_by g.K.Key.order cmp g.met.K.Key.compared in
     let chunk = c.in_ok-part.part.now in
-    let at : c.place_part_near-at.result ≡ first_chunk_from cmp (Included q) cs = search rules in
-    let within : c.place_part_near-at.result < length cs = search rules in
-    let here : chunk ≡ get_or cs c.place_part_near-at.result chunk = search rules in
+    let at : c.place_near-at.result ≡ first_chunk_from cmp (Included q) cs = search rules in
+    let within : c.place_near-at.result < length cs = search rules in
+    let here : chunk ≡ get_or cs c.place_near-at.result chunk = search rules in
     c.get_near-2.ensures
     ∙ ap (λ (x : Buffer _ _). find cmp q x.pairs) c.deref-4.ensures
     ∙ ap (λ chunk. find cmp q chunk.value.pairs) (here ∙ ap (λ k. get_or cs k chunk) at)

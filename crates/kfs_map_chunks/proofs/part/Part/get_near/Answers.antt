@@ -1,13 +1,16 @@
-use Rattle.std.proofs.Common.{rules, ◌≡◌, ◌<◌, ◌≤◌, ◌∙◌, length, ap, sym, arith, get_or}
+use Rattle.std.proofs.Common.{rules, ◌≡◌, ◌<◌, ◌≤◌, ◌∙◌, length, ap, sym, subst, arith, get_or}
 use Rattle.std.specs.Option.{option_copied}
 use Rattle.std.specs.declared.ops.Bound.TheVariants.{Included}
 use Rattle.std.specs.FinMap.Entries.{find}
 use Rattle.kfs_map_chunks.specs.Buffer.{Buffer}
-use Rattle.kfs_map_chunks.specs.Joined.{joined, first_chunk_from}
+use Rattle.kfs_map_chunks.specs.Joined.{joined, first_chunk_from, AreFilled}
 use Rattle.kfs_map_chunks.proofs.FirstEntries.{find_none}
-use Rattle.kfs_map_chunks.proofs.Parts.{past_place, found_in_place}
+use Rattle.kfs_map_chunks.proofs.Parts.{past_place, found_in_place, sized_filled}
 use Rattle.kfs_map_chunks.proofs.Sorted.{order_by}
 use Rattle.kfs_map_chunks.proofs.part.Part.get_near.Goals as goal
+
+pub place_near-at-requires-clause-filled : goal.place_near-at-requires-clause-filled
+place_near-at-requires-clause-filled g c = subst AreFilled (sym c.deref.ensures.value) (sized_filled c.self.inside.chunks.items c.self.invariant.1)
 
 pub returns-in_err-chunk : goal.returns-in_err-chunk
 returns-in_err-chunk g c =

@@ -2,10 +2,13 @@ use Rattle.std.proofs.Common.{rules, ◌≡◌, ◌<◌, ◌≤◌, ◌∙◌, l
 use Rattle.std.specs.Prelude.{IfSome, IfNone}
 use Rattle.std.specs.Range.Bound.{bound_map}
 use Rattle.kfs_map_chunks.specs.Buffer.{Buffer}
-use Rattle.kfs_map_chunks.specs.Joined.{joined, first_chunk_from}
+use Rattle.kfs_map_chunks.specs.Joined.{joined, first_chunk_from, AreFilled}
 use Rattle.kfs_map_chunks.specs.Starts.{entry_from}
-use Rattle.kfs_map_chunks.proofs.Parts.{past_place, in_place}
+use Rattle.kfs_map_chunks.proofs.Parts.{past_place, in_place, sized_filled}
 use Rattle.kfs_map_chunks.proofs.part.Part.next.Goals as goal
+
+pub place-requires-clause-filled : goal.place-requires-clause-filled
+place-requires-clause-filled g c = subst AreFilled (sym c.deref-2.ensures.value) (sized_filled c.self.inside.chunks.items c.self.invariant.1)
 
 pub returns-in_err-chunk-clause-none : goal.returns-in_err-chunk-clause-none
 returns-in_err-chunk-clause-none g c =

@@ -1,13 +1,15 @@
 use Rattle.std.proofs.Common.{◌≡◌, ◌∙◌, ◌++◌, ◌∷◌, ◌-◌, T, length, ap, sym, subst, take, drop, arith, length-drop}
 use Rattle.std.proofs.lemmas.List.{take-append-drop, take_all}
 use Rattle.std.specs.FinMap.Entries.{is_sorted}
-use Rattle.kfs_map_chunks.specs.Buffer.{Buffer}
-use Rattle.kfs_map_chunks.specs.Joined.{joined}
-use Rattle.kfs_map_chunks.proofs.Parts.{sorted_behind}
+use Rattle.kfs_map_chunks.specs.Joined.{joined, AreFilled}
+use Rattle.kfs_map_chunks.proofs.Parts.{sorted_behind, sized_filled}
 use Rattle.kfs_map_chunks.proofs.part.Part.takes_first.Goals as goal
 
-pub run_of-requires-clause-sorted : goal.run_of-requires-clause-sorted
-run_of-requires-clause-sorted g c =
+pub place-requires-clause-filled : goal.place-requires-clause-filled
+place-requires-clause-filled g c = subst AreFilled (sym c.deref.ensures.value) (sized_filled c.self.inside.chunks.items c.self.invariant.1)
+
+pub edits_of-requires-clause-sorted : goal.edits_of-requires-clause-sorted
+edits_of-requires-clause-sorted g c =
     let cmp = g.K.Ord.cmp in
     let cs = c.self.inside.chunks.items in
     let index = c.min-index.result in
@@ -18,4 +20,4 @@ run_of-requires-clause-sorted g c =
     sym c.deref-2.ensures.value
     ∙ sym (take-append-drop index held)
     ∙ ap (λ back. take index held ++ back) (sym (take_all (length held - index) (drop index held) (omega (arith, length-drop index held))) ∙ c.in-Some-split_first.ensures.cases.0) in
-    subst (λ (x : Buffer _ _). T (is_sorted cmp (x.pairs ++ joined rest))) (sym c.deref-4.ensures) (sorted_behind cmp (take index held) chunk rest (subst (λ cs. T (is_sorted cmp (joined cs))) whole c.self.invariant.0))
+    sorted_behind cmp (take index held) chunk rest (subst (λ cs. T (is_sorted cmp (joined cs))) whole c.self.invariant.0)

@@ -4,7 +4,7 @@ use Rattle.kfs_map_chunks.specs.Buffer.{Buffer}
 use Rattle.kfs_map_chunks.specs.Starts.{reaches}
 use Rattle.kfs_map_chunks.proofs.Parts.{reaches_behind, sized_filled}
 use Rattle.kfs_map_chunks.proofs.Sorted.{order_by}
-use Rattle.kfs_map_chunks.proofs.part.Part.reaches.Goals as goal
+use Rattle.kfs_map_chunks.proofs.part.PartRun.reaches.Goals as goal
 
 pub returns-in-Some : goal.returns-in-Some
 returns-in-Some g c =

@@ -3,7 +3,7 @@ use Rattle.std.specs.Range.Bound.{bound_map}
 use Rattle.kfs_map_chunks.specs.Starts.{is_from, reaches}
 use Rattle.kfs_map_chunks.proofs.Parts.{reaches_last}
 use Rattle.kfs_map_chunks.proofs.Sorted.{order_by}
-use Rattle.kfs_map_chunks.proofs.entries.Entries.reaches.Goals as goal
+use Rattle.kfs_map_chunks.proofs.entries.EntriesRun.reaches.Goals as goal
 
 pub returns-in-Some : goal.returns-in-Some
 returns-in-Some g c =

@@ -4,7 +4,7 @@ use Rattle.std.specs.Prelude.{OnOk}
 use Rattle.kfs_map_chunks.specs.Edits.{entered_all}
 use Rattle.kfs_map_chunks.specs.Joined.{joined, IsSized, AreSized}
 use Rattle.kfs_map_chunks.proofs.Recut.{joined-push, each-push}
-use Rattle.kfs_map_chunks.proofs.change.push.Goals as goal
+use Rattle.kfs_map_chunks.proofs.entries.EntriesRecut.push_edited.Goals as goal
 
 pub returns-then-is_empty-clause-joined : goal.returns-then-is_empty-clause-joined
 returns-then-is_empty-clause-joined g c =
@@ -17,12 +17,12 @@ returns-then-is_empty-clause-joined g c =
     ∙ ap (λ held. joined c.args.new.now.items ++ held.pairs) value
     ∙ ap (λ edits. joined c.args.new.now.items ++ entered_all g.K.Ord.cmp c.args.chunk.now.value.pairs edits) (sym none)
 
-pub returns-then-is_empty-clause-sized : goal.returns-then-is_empty-clause-sized
-returns-then-is_empty-clause-sized g c =
+pub returns-then-is_empty-clause-fit : goal.returns-then-is_empty-clause-fit
+returns-then-is_empty-clause-fit g c =
     let chunk = c.in_ok-clone.field-0 in
     let items : c.push.new.self.items ≡ c.args.new.now.items ++ chunk ∷ [] = c.in_ok-push.ensures.items in
     let value : chunk.value ≡ c.args.chunk.now.value = search rules in
-    subst AreSized (sym items) (each-push IsSized c.args.new.now.items chunk c.requires.sized (subst (λ held. IsSized held.pairs) (sym value) c.requires.size))
+    subst AreSized (sym items) (each-push IsSized c.args.new.now.items chunk c.requires.fit (subst (λ held. IsSized held.pairs) (sym value) c.requires.fits))
 
 pub returns-clause-joined : goal.returns-clause-joined
 returns-clause-joined g c =
