@@ -21,19 +21,16 @@ use Rattle.kfs_map_chunks.proofs.Overlays.{overlaid_none, table_after_said}
 use Rattle.kfs_image.specs.declared.tier.tiers.NewBlock.{NewBlock}
 use Rattle.kfs_image.specs.Tier.Tiers.{with_blocks}
 use Rattle.kfs_image.proofs.TierLemmas.TierLists.{rest_at}
-use Rattle.kfs_image.specs.Blocks.Blocks.{BlocksShown, CanChange, changed as changed_blocks}
+use Rattle.kfs_image.specs.Blocks.Blocks.{CanChange, changed as changed_blocks}
 use Rattle.kfs_image.specs.Blocks.Moves.{BlockEdit}
-use Rattle.kfs_image_nodes.specs.Contents.{Contents}
 use Rattle.kfs_image_nodes.specs.Change.{after_rows, led_to, renamed, reheaded}
-use Rattle.kfs_image_nodes.specs.Rows.{FitPages}
 use Rattle.kfs_image.specs.declared.edit.Edit.{Edit}
 use Rattle.kfs_image.specs.declared.edit.Edit.TheVariants as edits
 use Rattle.kfs_image.specs.declared.edit.Parts.{Parts}
 use Rattle.kfs_image.specs.Edit.{CanEdit, edited, edited_all}
-use Rattle.kfs_image.specs.Image.{image_with, place_at}
+use Rattle.kfs_image.specs.Image.{blocks_of, contents_of, image_with, place_at}
 use Rattle.kfs_image.specs.Parts.{PartsAreOf, BlocksAreWhole, above_zero, plain, with_parts}
 use Rattle.kfs_image.proofs.NetTables.{led_back}
-use Rattle.kfs_image.proofs.ShownTrees.{lawful_fits}
 
 -- ---- one more row, or block
 
@@ -148,48 +145,41 @@ module _ {A : Type 0} where
 
 -- ---- the parts of edits, put into an image
 
--- these are the rows of edits and the edits of the placement
-pub record AreMade {A : Type 0} (edits : List (Edit A)) (parts : Parts A) (names : List NameRow) (nodes : List NodeRow) (made places : List BlockEdit) : Type 0 where
+-- these are the rows of edits, and the edits of the blocks
+pub record AreMade {A : Type 0} (edits : List (Edit A)) (parts : Parts A) (names : List NameRow) (nodes : List NodeRow) (places : List BlockEdit) : Type 0 where
   pub of : PartsAreOf edits parts
   pub names_are : names ≡ parts.names.items
   pub nodes_are : nodes ≡ parts.nodes.items
-  pub places_are : places ≡ made
-  pub ascend : KeysAscend (pairs numbers numbers).compare made
-  pub block_places : Say (pairs numbers numbers).compare made parts.block_places.latest
+  pub ascend : KeysAscend (pairs numbers numbers).compare places
+  pub block_places : Say (pairs numbers numbers).compare places parts.block_places.latest
 
-module _ {A : Type 0} (edits : List (Edit A)) (parts : Parts A) (names : List NameRow) (nodes : List NodeRow) (made places : List BlockEdit) (are : AreMade edits parts names nodes made places)
-    (contents : Contents) (blocks : BlocksShown) (lawful : IsLawful (image_with contents blocks)) (can : CanEdit edits (image_with contents blocks)) where
-  abbrev image : DeviceImage
-  image = image_with contents blocks
-
-  placed : table_after blocks.placement places ≡ overlaid blocks.placement parts.block_places.latest.entries
-  placed = ap (table_after blocks.placement) are.places_are ∙ table_after_said blocks.placement made parts.block_places.latest are.block_places
+module _ {A : Type 0} (edits : List (Edit A)) (parts : Parts A) (names : List NameRow) (nodes : List NodeRow) (places : List BlockEdit) (are : AreMade edits parts names nodes places)
+    (image : DeviceImage) (lawful : IsLawful image) (can : CanEdit edits image) where
+  placed : table_after image.placement places ≡ overlaid image.placement parts.block_places.latest.entries
+  placed = table_after_said image.placement places parts.block_places.latest are.block_places
 
   -- nodes, names and blocks together are those of the image after
-  pub edited_is : image_with (after_rows contents names nodes) (changed_blocks places parts.written.items blocks) ≡ edited_all edits image
+  pub edited_is : image_with (after_rows (contents_of image) names nodes) (changed_blocks places parts.written.items (blocks_of image)) ≡ edited_all edits image
   edited_is =
       (λ i. record {
-        sizes = blocks.sizes;
-        heads = reheaded contents.heads (are.nodes_are i);
-        names = renamed contents.names (are.names_are i);
+        sizes = image.sizes;
+        heads = reheaded image.heads (are.nodes_are i);
+        names = renamed image.names (are.names_are i);
         placement = placed i;
-        devices = with_blocks parts.written.items blocks.devices;
+        devices = with_blocks parts.written.items image.devices;
       })
       ∙ are.of.make image
       ∙ plain_is edits image lawful can.lawful
 
-  lawful_after : IsLawful (image_with (after_rows contents names nodes) (changed_blocks places parts.written.items blocks))
-  lawful_after = subst IsLawful (sym edited_is) can.lawful
+  pub edited_lawful : IsLawful (image_with (after_rows (contents_of image) names nodes) (changed_blocks places parts.written.items (blocks_of image)))
+  edited_lawful = subst IsLawful (sym edited_is) can.lawful
 
-  pub edits_fit : FitPages (reheaded contents.heads nodes) (renamed contents.names names)
-  edits_fit = lawful_fits (image_with (after_rows contents names nodes) (changed_blocks places parts.written.items blocks)) lawful_after
-
-  pub can_change : CanChange blocks places parts.written.items
+  pub can_change : CanChange (blocks_of image) places parts.written.items
   can_change = record {
-    ascend = subst (KeysAscend (pairs numbers numbers).compare) (sym are.places_are) are.ascend;
-    laid = lawful_after.placed.laid;
-    in_tier = λ k d below. (are.of.whole blocks.sizes can.whole k d below).0;
-    whole = λ k d below. (are.of.whole blocks.sizes can.whole k d below).1;
+    ascend = are.ascend;
+    laid = edited_lawful.placed.laid;
+    in_tier = λ k d below. (are.of.whole image.sizes can.whole k d below).0;
+    whole = λ k d below. (are.of.whole image.sizes can.whole k d below).1;
   }
 
 -- a copy of a whole block is whole

@@ -6,6 +6,6 @@ mod read;
 mod staged;
 
 pub use self::blocks::FileBlocks;
-pub use self::fill::{BlockRow, BlockRun};
-pub use self::nested::{ChangeBlocks, FillBlocks, MoveBlocks};
+pub use self::fill::{BlockEdits, BlockRow, BlockRun};
+pub use self::nested::ChangeBlocks;
 pub use crate::tier::{NewBlock, Place};

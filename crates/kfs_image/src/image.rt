@@ -12,16 +12,16 @@ ghost use Rattle.kfs_model.specs.Device.Finding.{IsWellFormed};
 ghost use Rattle.kfs_image.specs.Codec.RawImages.{raw_of};
 ghost use Rattle.kfs_map_chunks.specs.Starts.{is_from, IsNextEntry};
 ghost use Rattle.kfs_image.specs.Tier.Unused.{IsNextUnused, AreTakenFrom, unused_places};
-ghost use Rattle.kfs_image_nodes.specs.Change.{after_rows, renamed, reheaded};
+ghost use Rattle.kfs_image_nodes.specs.Change.{reheaded};
 ghost use Rattle.kfs_image_nodes.specs.Look.{IsAfter, IsNext, IsNextNode};
-ghost use Rattle.kfs_image_nodes.specs.Rows.{FitPages};
+ghost use Rattle.kfs_image.specs.Blocks.Blocks.{CanChange};
 ghost use Rattle.kfs_image.specs.Edit.{CanEdit, edited_all};
-ghost use Rattle.kfs_image.specs.Image.{contents_of, fresh_image, place_at};
+ghost use Rattle.kfs_image.specs.Image.{blocks_of, changed_image, contents_of, fresh_image, place_at};
 ghost use Rattle.kfs_image.specs.Net.{CanApply, applied};
 ghost use Rattle.kfs_image.specs.Read.{FileIsRead};
 ghost use Rattle.kfs_types.specs.Views.{header_of};
 
-use crate::blocks::{ChangeBlocks, FileBlocks, FillBlocks, MoveBlocks, Place};
+use crate::blocks::{BlockEdits, ChangeBlocks, FileBlocks, Place};
 use crate::codec::RawImage;
 use crate::edit::{Edit, Parts};
 use crate::net::Fill;
@@ -30,7 +30,7 @@ use crate::read::{ReadFault, released_blocks};
 use kfs_image_nodes::{Answer, Cell, Net, Shape, look};
 use kfs_map_chunks::key_edits;
 use kfs_model::device::laws::well_formed_image_is_lawful;
-use kfs_types::{BLOCK_SIZE, Change, Header, Kind, Name, NameRow, NodeRow, TierSizes};
+use kfs_types::{BLOCK_SIZE, Header, Kind, Name, NameRow, NodeRow, TierSizes};
 use std::alloc::{AllocError, Allocator};
 use std::marker::Model;
 use std::ops::Bound;
@@ -126,20 +126,15 @@ impl<A: Allocator + Clone> Image<A> {
             names,
             nodes,
             block_places,
-            mut written,
+            written,
         } = Parts::of(&self.alloc, edits)?;
-        let places = key_edits(&self.alloc, &block_places)?;
-        let mut then = ChangeBlocks {
-            blocks: &mut self.blocks,
-            edits: places.as_slice(),
-            written: &mut written,
-        };
-        change_shared(
-            &mut self.shape,
-            &self.alloc,
+        let alloc = self.alloc.clone()?;
+        let places = key_edits(&alloc, &block_places)?;
+        self.change_all(
+            &alloc,
             names.as_slice(),
             nodes.as_slice(),
-            &mut then,
+            BlockEdits { places, written },
         )
     }
 
@@ -156,18 +151,10 @@ impl<A: Allocator + Clone> Image<A> {
         ensures err { OnErr result (self.new ≡ self.old) }
     {
         let released = released_blocks(alloc, net.nodes.as_slice(), fill.zero.as_slice())?;
-        let mut then = FillBlocks {
-            blocks: &mut self.blocks,
-            released: released.as_slice(),
-            rows: fill.rows.as_slice(),
-        };
-        change_shared(
-            &mut self.shape,
-            alloc,
-            net.names.as_slice(),
-            net.nodes.as_slice(),
-            &mut then,
-        )
+        let edits = self
+            .blocks
+            .copied_edits(released.as_slice(), fill.rows.as_slice())?;
+        self.change_all(alloc, net.names.as_slice(), net.nodes.as_slice(), edits)
     }
 
     /// The same, where the fill is given away: no byte of its blocks is copied.
@@ -181,40 +168,37 @@ impl<A: Allocator + Clone> Image<A> {
         ensures ok { OnOk result (self.new ≡ applied net.now fill self.old) }
         ensures err { OnErr result (self.new ≡ self.old) }
     {
-        let Fill { mut rows, zero } = fill;
+        let Fill { rows, zero } = fill;
         let released = released_blocks(alloc, net.nodes.as_slice(), zero.as_slice())?;
-        let mut then = MoveBlocks {
-            blocks: &mut self.blocks,
-            released: released.as_slice(),
-            rows: &mut rows,
-        };
-        change_shared(
-            &mut self.shape,
-            alloc,
-            net.names.as_slice(),
-            net.nodes.as_slice(),
-            &mut then,
-        )
+        let edits = self.blocks.moved_edits(released.as_slice(), rows)?;
+        self.change_all(alloc, net.names.as_slice(), net.nodes.as_slice(), edits)
     }
-}
 
-fn change_shared<A: Allocator + Clone, T: Change>(
-    shape: &mut Arc<Shape<A>, A>,
-    alloc: &A,
-    names: &[NameRow],
-    nodes: &[NodeRow],
-    then: &mut T,
-) -> Result<(), AllocError>
-    requires before { FitPages shape.old.value.heads shape.old.value.names }
-    requires after { FitPages (reheaded shape.old.value.heads nodes.now) (renamed shape.old.value.names names.now) }
-    requires then { T.can_make then.old }
-    ensures ok { OnOk result (shape.new.value ≡ after_rows shape.old.value names.now nodes.now) }
-    ensures err { OnErr result (shape.new.value ≡ shape.old.value) }
-    ensures made { OnOk result (T.made then.old then.new) }
-    ensures kept { OnErr result (T.kept then.old then.new) }
-{
-    let shape = Arc::make_mut(shape)?;
-    shape.apply(alloc, names, nodes, then)
+    /// Makes the changes of names, of nodes and of blocks: all of them, or none where memory runs out.
+    fn change_all(
+        &mut self,
+        alloc: &A,
+        names: &[NameRow],
+        nodes: &[NodeRow],
+        edits: BlockEdits<A>,
+    ) -> Result<(), AllocError>
+        requires blocks { CanChange (blocks_of self.old) edits.places.items edits.written.items }
+        requires lawful { IsLawful (changed_image names.now nodes.now edits self.old) }
+        ensures ok { OnOk result (self.new ≡ changed_image names.now nodes.now edits self.old) }
+        ensures err { OnErr result (self.new ≡ self.old) }
+    {
+        let BlockEdits {
+            places,
+            mut written,
+        } = edits;
+        let mut then = ChangeBlocks {
+            blocks: &mut self.blocks,
+            edits: places.as_slice(),
+            written: &mut written,
+        };
+        let shape = Arc::make_mut(&mut self.shape)?;
+        shape.apply(alloc, names, nodes, &mut then)
+    }
 }
 
 impl<A: Allocator> Image<A> {

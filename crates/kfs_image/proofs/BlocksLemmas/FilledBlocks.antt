@@ -1,6 +1,6 @@
 -- The blocks once runs of them are unmapped, and those of rows are mapped and written.
-use Rattle.std.proofs.Common.{◌≡◌, ℕ, ◌+◌, ◌<◌, ◌≤◌, ◌||◌, not, Bool, true, false, cond, All, List, [], ◌∷◌, ◌++◌, map, length, get_or, drop, append_assoc, append-nil, Option, Some, None, Result, Ok, Err, refl, sym, ap, subst, ◌∙◌, arith}
-use Rattle.std.specs.Prelude.{vec_len, OnOk}
+use Rattle.std.proofs.Common.{◌≡◌, ℕ, ◌+◌, ◌<◌, ◌≤◌, ◌||◌, not, Bool, true, false, cond, All, List, [], ◌∷◌, ◌++◌, map, length, get_or, drop, append_assoc, append-nil, Option, Some, None, refl, sym, ap, subst, ◌∙◌, arith}
+use Rattle.std.specs.Prelude.{vec_len}
 use Rattle.std.proofs.lemmas.List.{drop_all, at_drop_more, get_or-map, length-map, map-append}
 use Rattle.kfs_model.specs.Limits.{block_size}
 use Rattle.kfs_model.specs.Table.{pairs, numbers, get, changed, insert}
@@ -139,17 +139,15 @@ module _ {A : Type 0} where
       rows_whole : All (λ (r : BlockRow A). length r.bytes.items ≡ block_size) rows
       rows_whole k d below = let row : BlockRow A = get_or rows k d in omega (arith, row.bytes.ok.0, whole k d below)
 
-  module _ (released : List BlockRun) (rows : List (BlockRow A)) (old : BlocksShown) (made edits : List BlockEdit) (blocks : List (NewBlock A)) (same : edits ≡ made) where
-    pub can_change : KeysAscend (pairs numbers numbers).compare made → table_after old.placement made ≡ placement_after released rows old.placement → map new_part blocks ≡ map row_part rows → CanFill old released rows → CanChange old edits blocks
-    can_change ascend placed alike can = record {
-      ascend = subst (KeysAscend (pairs numbers numbers).compare) (sym same) ascend;
-      laid = subst (IsLaid old.sizes) (sym (ap (table_after old.placement) same ∙ placed)) can.laid;
+  module _ (released : List BlockRun) (rows : List (BlockRow A)) (old : BlocksShown) (edits : List BlockEdit) (blocks : List (NewBlock A))
+      (placed : table_after old.placement edits ≡ placement_after released rows old.placement) (alike : map new_part blocks ≡ map row_part rows) where
+    pub can_change : KeysAscend (pairs numbers numbers).compare edits → CanFill old released rows → CanChange old edits blocks
+    can_change ascend can = record {
+      ascend = ascend;
+      laid = subst (IsLaid old.sizes) (sym placed) can.laid;
       in_tier = of_parts (λ part. part.0.place < tier_size old.sizes part.0.tier) blocks rows alike can.in_tier;
       whole = whole_blocks blocks rows alike can.whole;
     }
 
-    pub filled_ok : {E : Type 0} → table_after old.placement made ≡ placement_after released rows old.placement → map new_part blocks ≡ map row_part rows → (new : BlocksShown) (result : Result (Unit {0}) E) → OnOk result (new ≡ changed_blocks edits blocks old)
-        → OnOk result (new ≡ filled released rows old)
-    filled_ok placed alike new (Ok done) is =
-        is ∙ (λ i. record { sizes = old.sizes; placement = (ap (table_after old.placement) same ∙ placed) i; devices = same_written blocks rows old.devices alike i })
-    filled_ok placed alike new (Err error) is = tt
+    pub changed_is : changed_blocks edits blocks old ≡ filled released rows old
+    changed_is = λ i. record { sizes = old.sizes; placement = placed i; devices = same_written blocks rows old.devices alike i }

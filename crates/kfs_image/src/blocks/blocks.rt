@@ -12,7 +12,7 @@ ghost use Rattle.kfs_map_chunks.specs.Tables.{table_after};
 ghost use Rattle.kfs_image.specs.Blocks.Blocks.{CanChange, changed};
 ghost use Rattle.kfs_image.specs.Blocks.Fill.{CanFill, filled, placement_after};
 
-use crate::blocks::fill::{BlockRow, BlockRun, Moves, copies, fill_edits, moved};
+use crate::blocks::fill::{BlockEdits, BlockRow, BlockRun, Moves, copies, fill_edits, moved};
 use crate::blocks::staged::{StagedTiers, TiersChange};
 use crate::tier::{NewBlock, Place, Tiers};
 use kfs_map_chunks::{Chunks, KeyEdit};
@@ -143,43 +143,49 @@ impl<A: Allocator + Clone> FileBlocks<A> {
         done
     }
 
-    /// Unmaps the blocks in the runs; then maps each row's block to its place and writes its bytes
-    /// there, row after row. A block that is unmapped or moves leaves its bytes at the old place. A run
-    /// takes as many steps as it has mapped blocks. `Err` where memory runs out; all is as before
-    /// then.
-    pub fn fill(&mut self, released: &[BlockRun], rows: &[BlockRow<A>]) -> Result<(), AllocError>
-        requires { CanFill self.old released.now rows.now }
-        ensures ok { OnOk result (self.new ≡ filled released.now rows.now self.old) }
-        ensures err { OnErr result (self.new ≡ self.old) }
+    /// The edits that unmap the blocks in the runs; then map each row's block to its place and write a
+    /// copy of its bytes there, row after row. A block that is unmapped or moves leaves its bytes at the
+    /// old place.
+    ///
+    /// A run takes as many steps as it has mapped blocks. Nothing is changed. `Err` where memory runs
+    /// out.
+    pub fn copied_edits(
+        &self,
+        released: &[BlockRun],
+        rows: &[BlockRow<A>],
+    ) -> Result<BlockEdits<A>, AllocError>
+        requires { CanFill self.now released.now rows.now }
+        ensures can { IfOk result (λ e. CanChange self.now e.places.items e.written.items) }
+        ensures fill { IfOk result (λ e. changed e.places.items e.written.items self.now ≡ filled released.now rows.now self.now) }
     {
-        let edits = self.edits_of(released, rows)?;
-        let written = copies(edits.allocator(), rows)?;
-        self.change(edits.as_slice(), written)
+        let places = self.place_edits(released, rows)?;
+        let written = copies(places.allocator(), rows)?;
+        Ok(BlockEdits { places, written })
     }
 
     /// The same, where the rows are given away: no byte of theirs is copied.
-    pub fn fill_moving(
-        &mut self,
+    pub fn moved_edits(
+        &self,
         released: &[BlockRun],
         rows: Vec<BlockRow<A>, A>,
-    ) -> Result<(), AllocError>
-        requires { CanFill self.old released.now rows.items }
-        ensures ok { OnOk result (self.new ≡ filled released.now rows.items self.old) }
-        ensures err { OnErr result (self.new ≡ self.old) }
+    ) -> Result<BlockEdits<A>, AllocError>
+        requires { CanFill self.now released.now rows.items }
+        ensures can { IfOk result (λ e. CanChange self.now e.places.items e.written.items) }
+        ensures fill { IfOk result (λ e. changed e.places.items e.written.items self.now ≡ filled released.now rows.items self.now) }
     {
-        let edits = self.edits_of(released, rows.as_slice())?;
-        let written = moved(edits.allocator(), rows)?;
-        self.change(edits.as_slice(), written)
+        let places = self.place_edits(released, rows.as_slice())?;
+        let written = moved(places.allocator(), rows)?;
+        Ok(BlockEdits { places, written })
     }
 
     /// The changes of places that a fill makes.
-    fn edits_of(
+    fn place_edits(
         &self,
         released: &[BlockRun],
         rows: &[BlockRow<A>],
     ) -> Result<Vec<KeyEdit<(u32, u32), Place>, A>, AllocError>
-        ensures ascend { IfOk result (λ edits. KeysAscend (pairs numbers numbers).compare edits.items) }
-        ensures placed { IfOk result (λ edits. table_after self.now.placement edits.items ≡ placement_after released.now rows.now self.now.placement) }
+        ensures ascend { IfOk result (λ places. KeysAscend (pairs numbers numbers).compare places.items) }
+        ensures placed { IfOk result (λ places. table_after self.now.placement places.items ≡ placement_after released.now rows.now self.now.placement) }
     {
         fill_edits(&self.placement, released, rows)
     }

@@ -38,6 +38,15 @@ pub struct BlockRow<A: Allocator> {
     pub bytes: Vec<u8, A>,
 }
 
+/// Edits of the blocks of files, all of which are made by one change.
+#[derive(Drop)]
+pub struct BlockEdits<A: Allocator> {
+    /// The new places of blocks, ascending; none for a block that is unmapped.
+    pub places: Vec<KeyEdit<(u32, u32), Place>, A>,
+    /// The blocks to be written, in order.
+    pub written: Vec<NewBlock<A>, A>,
+}
+
 /// The changes of places that unmap the blocks in the runs and then map the rows' blocks, ascending.
 pub(crate) fn fill_edits<A: Allocator + Clone>(
     placement: &Chunks<(u32, u32), Place, A>,

@@ -1,4 +1,5 @@
 //! A node's row: number, kind, and the other fields of its header.
+//! A plan has another format (`kfs_entry`): its first byte is 0 for a gone node, 1 or 2 for a kind.
 ghost use Rattle.std.specs.Prelude.{◌≡◌, ◌≤◌, ◌++◌, length, drop, IfSome, OnOk};
 ghost use Rattle.kfs_model.proofs.DeviceLemmas.ImageReading.{raw_node_read};
 ghost use Rattle.kfs_entry.specs.Codec.Reading.{seen};

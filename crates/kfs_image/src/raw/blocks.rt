@@ -6,7 +6,7 @@ ghost use Rattle.kfs_model.specs.Device.Finding.{IsWellFormed};
 ghost use Rattle.kfs_image.specs.Codec.RawImages.{extent_row_of, raw_of};
 ghost use Rattle.kfs_image.specs.Raw.Blocks.{HasItsBlocks, blocks_of_raw, placed_row, written_row};
 
-use crate::blocks::{BlockRow, FileBlocks, Place};
+use crate::blocks::{BlockEdits, BlockRow, FileBlocks, Place};
 use crate::codec::{ExtentRow, RawImage};
 use kfs_types::BLOCK_LEN;
 use std::alloc::{AllocError, Allocator};
@@ -23,7 +23,8 @@ pub fn raw_blocks<A: Allocator + Clone>(
 {
     let rows = block_rows(alloc, raw.extents.as_slice())?;
     let mut blocks = FileBlocks::new(alloc.clone()?, raw.sizes)?;
-    blocks.fill_moving(&[], rows)?;
+    let BlockEdits { places, written } = blocks.moved_edits(&[], rows)?;
+    blocks.change(places.as_slice(), written)?;
     Ok(blocks)
 }
 
