@@ -1,4 +1,5 @@
 pub mod Grants
+pub mod LeasesInForce
 pub mod PathParts
 pub mod PathSteps
 pub mod WriterLeases

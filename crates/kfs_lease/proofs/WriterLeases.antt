@@ -1,5 +1,5 @@
 -- A writer holds each node for which leases were made.
-use Rattle.std.proofs.Common.{◌≡◌, ℕ, Bool, true, false, cond, List, [], ◌∷◌, Option, Some, None, refl, sym, ap, subst, ◌∙◌, ◌⊎◌, inl, inr}
+use Rattle.std.proofs.Common.{◌≡◌, ℕ, Bool, true, false, cond, List, [], ◌∷◌, Some, None, refl, sym, ap, subst, ◌∙◌, ◌⊎◌, inl, inr}
 use Rattle.std.specs.Prelude.{◌&&◌, nat_lt, is_some, if◌then◌else◌}
 use Rattle.std.specs.List.{AllByRecursion}
 use Rattle.std.specs.Ordering.{eq_by_cmp}
@@ -7,7 +7,7 @@ use Rattle.std.specs.Cmp.{eq_by_cmp_equiv}
 use Rattle.kfs_model.specs.Table.{numbers, pairs, get, insert, empty}
 use Rattle.kfs_model.proofs.TableLaws.{get-insert}
 use Rattle.kfs_model.specs.Check.{is_some_and}
-use Rattle.kfs_model.specs.Lease.{Lease, LeaseTable, Leases, holds, is_write, is_live}
+use Rattle.kfs_model.specs.Lease.{LeaseTable, Leases, holds, is_write, is_live}
 use Rattle.kfs_lease.specs.Writer.{first_write, with_write, with_writes, leases_of_writer}
 
 module _ (client : ℕ) where

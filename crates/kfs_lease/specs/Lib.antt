@@ -1,4 +1,5 @@
 pub mod Faults
+pub mod InForce
 pub mod Paths
 pub mod Removed
 pub mod Writer

@@ -24,7 +24,8 @@ use thiserror::Error;
 /// Copies share what isn't changed.
 ///
 /// Moments are numbers that the caller counts, from 0; no clock is read. A lease is live while its end
-/// is above the moment.
+/// is above the moment. All leases are live, since a tick removes the others, and no two are in
+/// conflict.
 #[derive(Drop)]
 pub struct Leases<A: Allocator> {
     rows: LeaseRows<A>,
@@ -33,13 +34,14 @@ pub struct Leases<A: Allocator> {
 
 impl<A: Allocator> Model for Leases<A> {
     ghost use Rattle.kfs_model.specs.Lease.{Leases as LeaseTable};
+    ghost use Rattle.kfs_lease.specs.InForce.{AreInForce};
     ghost use Rattle.kfs_lease.specs.Rows.Rows.{table_in, EndsAreExact};
 
     ghost Value = { LeaseTable };
 
     ghost view = { λ l. record { rows = table_in l.rows; moment = l.moment } };
 
-    ghost invariant = { λ l. EndsAreExact l.rows };
+    ghost invariant = { λ l. EndsAreExact l.rows × AreInForce (record { rows = table_in l.rows; moment = l.moment }) };
 }
 
 impl<A: Allocator + Copy> Clone for Leases<A> {

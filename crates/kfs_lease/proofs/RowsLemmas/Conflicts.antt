@@ -1,32 +1,31 @@
--- What a walk over a node's rows meets: the least client in conflict with a lease, or the client's own one.
-use Rattle.std.proofs.Common.{◌≡◌, ℕ, suc, ◌<◌, ◌≤◌, Bool, true, false, cond, not, ◌&&◌, ◌||◌, ◌==◌, T, List, [], ◌∷◌, Option, Some, None, option_map, inl, inr, refl, sym, ap, ◌∙◌, eq-eqb, arith}
-use Rattle.std.specs.Prelude.{find}
+-- The first other client of a node tells whether a lease is in conflict, and which client's is the least such.
+use Rattle.std.proofs.Common.{◌≡◌, ◌≢◌, ℕ, Bool, true, false, cond, not, ◌&&◌, ◌||◌, ◌==◌, T, List, [], ◌∷◌, Option, Some, None, option_map, refl, sym, ap, ◌∙◌, eq-eqb}
+use Rattle.std.specs.Prelude.{find, is_some, IsSome}
 use Rattle.std.specs.List.{AllByRecursion}
 use Rattle.std.specs.declared.cmp.Ordering.{Ordering}
 use Rattle.std.specs.declared.cmp.Ordering.TheVariants.{Less, Equal, Greater}
-use Rattle.std.specs.declared.ops.Bound.TheVariants.{Excluded}
-use Rattle.std.specs.Ordering.{nat_cmp, is_lt, is_gt, eq_by_cmp}
-use Rattle.std.specs.Cmp.{tied_itself}
+use Rattle.std.specs.Ordering.{nat_cmp, is_lt, eq_by_cmp}
 use Rattle.std.specs.FinMap.Entries as sorted_entries
 use Rattle.std.specs.List.Sorted.{IsStrictlySortedBy}
 use Rattle.std.specs.Map.{lookup, keys_of}
 use Rattle.std.specs.BTreeMap.{is_at}
-use Rattle.std.proofs.lemmas.Bool.{both_ways, cases_lt}
+use Rattle.std.proofs.Math.Bool.{and-false}
+use Rattle.std.proofs.lemmas.Bool.{both_ways, false_from_ne_true, ne_eqb, or_parts}
+use Rattle.std.proofs.lemmas.Option.{same_Some}
 use borrow.Author.Tests.{eqb-true}
 use Rattle.kfs_model.specs.Table.{pairs, numbers, get}
 use Rattle.kfs_model.specs.Check.{is_some_and}
 use Rattle.kfs_model.specs.Lease as model
 use Rattle.kfs_model.proofs.Tables.{left_part, right_part}
-use Rattle.kfs_map_chunks.specs.Starts.{is_from, IsNextEntry}
 use Rattle.kfs_map_chunks.specs.Tables.{table}
 use Rattle.kfs_map_chunks.proofs.Tables.{get-table}
 use Rattle.kfs_lease.specs.declared.rows.rows.Lease.{Lease}
-use Rattle.kfs_lease.specs.Rows.Ending.{start_on, NoneOn}
-use Rattle.kfs_lease.specs.Rows.Rows.{bars, by_node, lease_of, shown}
+use Rattle.kfs_lease.specs.InForce.{AreInForce}
+use Rattle.kfs_lease.specs.Rows.Ending.{IsFirstOther, NoOtherOn}
+use Rattle.kfs_lease.specs.Rows.Rows.{by_node, kind_of, lease_of, shown}
 use Rattle.kfs_lease.proofs.RowsLemmas.RowTables.{get-shown}
-use Rattle.kfs_lease.proofs.RowsLemmas.KeyOrder.{from_first, same_first, less_first, less_number}
+use Rattle.kfs_lease.proofs.RowsLemmas.KeyOrder.{less_first}
 use Rattle.kfs_lease.proofs.RowsLemmas.Least.{IsLeast, IsLine, passes, first_is_least, one_least, least_alike}
-use Rattle.kfs_lease.proofs.RowsLemmas.Walks.{behind_is_less, passed, still_from}
 
 is_less : (o : Ordering) → T (is_lt o) → o ≡ Less
 is_less Less t = refl
@@ -47,6 +46,10 @@ module _ {K X : Type 0} (R : K → K → Ordering) where
   sorted_keys [] t = tt
   sorted_keys (e ∷ es) t = (below e.0 es (left_part (sorted_entries.below_all R e.0 es) (sorted_entries.is_sorted R es) t), sorted_keys es (right_part (sorted_entries.below_all R e.0 es) (sorted_entries.is_sorted R es) t))
 
+-- whether a lease that another one holds keeps the client from a lease of this kind
+abbrev bars : (client moment : ℕ) → model.LeaseKind → (holder : ℕ) → model.Lease → Bool
+bars client moment kind holder lease = not (holder == client) && (model.is_live moment lease && (model.is_write kind || model.is_write lease.kind))
+
 regrouped : (a b c d : Bool) → (a && (b && (c && d))) ≡ (a && b && c && d)
 regrouped true true c d = refl
 regrouped true false c d = refl
@@ -61,6 +64,10 @@ module _ (client number moment : ℕ) (kind : model.LeaseKind) where
     back = λ k is. let same : k.1 ≡ number = eqb-true k.1 number is in (λ i. (k.0, sym same i));
     rising = λ c d less. less_first c d (nat_cmp number number) less;
   }
+
+  -- whether another client's lease keeps the client from one of this kind
+  abbrev excludes : Lease → Bool
+  excludes lease = model.is_live moment (lease_of lease) && (model.is_write kind || model.is_write (kind_of lease.kind))
 
   abbrev barred : ℕ → Lease → Bool
   barred other lease = bars client moment kind other (lease_of lease)
@@ -99,98 +106,65 @@ module _ (client number moment : ℕ) (kind : model.LeaseKind) where
         (first_is_least (pairs numbers numbers) (λ c. (c, number)) (λ k. k.0) (λ k. k.1 == number) (bars client moment kind) table_line t.entries (sorted_keys (pairs numbers numbers).compare t.entries t.sorted))
         ∙ (λ i. option_map (λ row. row.0.0) (find (λ row. conflicts_here t row i) t.entries))
 
-    -- ---- a walk over the clients of the node
+    -- ---- the first other client of the node decides
 
-    -- no client before this start has such a lease
-    abbrev pub NoneBefore : (after : Option ℕ) → Type 0
-    NoneBefore after = (other : ℕ) → is_from by_node.compare (start_on number after) (number, other) ≡ false → is_barred leases other ≡ false
-
-    pub none_at_first : NoneBefore None
-    none_at_first other out = absurd (both_ways _ out (from_first number other))
-
-    -- no client has one, where none comes from the start on
-    pub none_left : (after : Option ℕ) → NoneBefore after → NoneOn leases number after → IsLeast (is_barred leases) None
-    none_left after before none other = at (is_from by_node.compare (start_on number after) (number, other)) refl
-      where
-        at : (b : Bool) → is_from by_node.compare (start_on number after) (number, other) ≡ b → is_barred leases other ≡ false
-        at true within = ap (λ o. is_some_and o (barred other)) (none other within)
-        at false out = before other out
-
-    module _ (after : Option ℕ) (before : NoneBefore after) (next : ℕ) (lease : Lease) (is_next : IsNextEntry by_node.compare (start_on number after) leases (number, next) lease) where
-      here : is_barred leases next ≡ barred next lease
-      here = ap (λ o. is_some_and o (barred next)) is_next.found
-
-      none_up_to : (other : ℕ) → is_from by_node.compare (Excluded (number, next)) (number, other) ≡ false → (other ≡ next → is_barred leases other ≡ false) → is_barred leases other ≡ false
-      none_up_to other not_behind at_next =
-          passed by_node (start_on number after) leases (number, next) lease is_next (number, other) not_behind (is_barred leases other ≡ false)
-          (λ same. at_next (ap (λ (k : ℕ × ℕ). k.1) same))
-          (before other)
-          (λ none. ap (λ o. is_some_and o (barred other)) none)
-
-      -- the walk goes past a client without one
-      pub none_before_next : barred next lease ≡ false → NoneBefore (Some next)
-      none_before_next free other not_behind = none_up_to other not_behind (λ same. ap (is_barred leases) same ∙ here ∙ free)
-
-      -- the walk meets the least client with one
-      pub met_is_least : barred next lease ≡ true → IsLeast (is_barred leases) (Some next)
-      met_is_least held = (here ∙ held, not_less)
+    module _ (c : ℕ) where
+      own_is_free : c ≡ client → is_barred leases c ≡ false
+      own_is_free own = at (sorted_entries.find by_node.compare (number, c) leases)
         where
-          not_less : (other : ℕ) → is_barred leases other ≡ true → next ≤ other
-          not_less other is = elim (cases_lt other next) [
-            | inl less ↦
-                let lower : is_from by_node.compare (Excluded (number, next)) (number, other) ≡ false = ap is_gt (same_first number (nat_cmp other next) ∙ less_number other next less) in
-                absurd (both_ways _ (none_up_to other lower (λ same. absurd (omega (arith, less, same)))) is)
-            | inr others ↦ others
-          ]
+          at : (o : Option Lease) → is_some_and o (barred c) ≡ false
+          at None = refl
+          at (Some lease) = ap (λ b. not b && excludes lease) (eq-eqb c client own)
 
-    -- ---- the client's own lease, met on the way
+      other_is_barred : c ≢ client → (lease : Lease) → sorted_entries.find by_node.compare (number, c) leases ≡ Some lease → is_barred leases c ≡ excludes lease
+      other_is_barred other lease has = ap (λ o. is_some_and o (barred c)) has ∙ ap (λ b. not b && excludes lease) (ne_eqb c client other)
 
-    -- what a walk up to this start has met of the client's own
-    abbrev pub own_before : (after : Option ℕ) → Option Lease
-    own_before after = cond (is_from by_node.compare (start_on number after) (number, client)) None (sorted_entries.find by_node.compare (number, client) leases)
-
-    pub own_at_first : None ≡ own_before None
-    own_at_first = sym (ap (λ b. cond b None (sorted_entries.find by_node.compare (number, client) leases)) (from_first number client))
-
-    -- where none comes from the start on, it is what the client has
-    pub own_is_met : (after : Option ℕ) → NoneOn leases number after → own_before after ≡ sorted_entries.find by_node.compare (number, client) leases
-    own_is_met after none = at (is_from by_node.compare (start_on number after) (number, client)) refl
-      where
-        at : (b : Bool) → is_from by_node.compare (start_on number after) (number, client) ≡ b
-            → cond b None (sorted_entries.find by_node.compare (number, client) leases) ≡ sorted_entries.find by_node.compare (number, client) leases
-        at true within = sym (none client within)
-        at false out = refl
-
-    module _ (after : Option ℕ) (next : ℕ) (lease : Lease) (is_next : IsNextEntry by_node.compare (start_on number after) leases (number, next) lease) where
-      abbrev own : Option Lease
-      own = sorted_entries.find by_node.compare (number, client) leases
-
-      abbrev behind : Bool
-      behind = is_from by_node.compare (Excluded (number, next)) (number, client)
-
-      -- the client's own lease is met, or another's is gone past
-      pub own_met : cond (next == client) (Some lease) (own_before after) ≡ own_before (Some next)
-      own_met = at (next == client) refl
+      barred_has : is_barred leases c ≡ true → (c ≢ client) × IsSome (sorted_entries.find by_node.compare (number, c) leases)
+      barred_has is = (λ own. both_ways _ (own_is_free own) is, at (sorted_entries.find by_node.compare (number, c) leases) is)
         where
-          here : next ≡ client → Some lease ≡ own_before (Some next)
-          here same =
-              let out : behind ≡ false = ap is_gt (ap (λ n. by_node.compare (number, n) (number, next)) (sym same) ∙ tied_itself by_node.total (number, next)) in
-              sym (ap (λ b. cond b None own) out ∙ ap (λ n. sorted_entries.find by_node.compare (number, n) leases) (sym same) ∙ is_next.found)
+          at : (o : Option Lease) → is_some_and o (barred c) ≡ true → IsSome o
+          at None is = cc
+          at (Some lease) is = refl
 
-          past : (next == client) ≡ false → (b : Bool) → behind ≡ b → own_before after ≡ cond b None own
-          past other true is =
-              let less : by_node.compare (number, next) (number, client) ≡ Less = behind_is_less by_node (number, next) (number, client) is in
-              ap (λ b. cond b None own) (still_from by_node (start_on number after) (number, next) (number, client) less is_next.within (is_from by_node.compare (start_on number after) (number, client)) refl)
-          past other false is =
-              passed by_node (start_on number after) leases (number, next) lease is_next (number, client) is (own_before after ≡ own)
-              (λ same. absurd (both_ways _ other (eq-eqb next client (sym (ap (λ (k : ℕ × ℕ). k.1) same)))))
-              (λ out. ap (λ b. cond b None own) out)
-              (λ none. either (is_from by_node.compare (start_on number after) (number, client)) none)
-            where
-              either : (b : Bool) → own ≡ None → cond b None own ≡ own
-              either true none = sym none
-              either false none = refl
+    -- where no other client has a lease on the node, none is in conflict
+    pub none_in_conflict : NoOtherOn leases number client → IsLeast (is_barred leases) None
+    none_in_conflict none c = false_from_ne_true _ (λ is. let (other, has) = barred_has c is in both_ways _ (ap is_some (none c other)) has)
 
-          at : (b : Bool) → (next == client) ≡ b → cond b (Some lease) (own_before after) ≡ own_before (Some next)
-          at true is = here (eqb-true next client is)
-          at false is = past is behind refl
+    module _ (first : ℕ) (lease : Lease) (is_first : IsFirstOther leases number client first lease) where
+      -- where it keeps the client out, it is the least in conflict
+      pub first_is_least_barred : excludes lease ≡ true → IsLeast (is_barred leases) (Some first)
+      first_is_least_barred held = (other_is_barred first is_first.apart lease is_first.found ∙ held, λ c is. let (other, has) = barred_has c is in is_first.least c other has)
+
+      module _ (in_force : AreInForce (record { rows = t; moment = moment })) where
+        shown_lease : (c : ℕ) (l : Lease) → sorted_entries.find by_node.compare (number, c) leases ≡ Some l → get t (c, number) ≡ Some (lease_of l)
+        shown_lease c l has = get-shown (table by_node leases) (c, number) ∙ ap (option_map lease_of) (get-table by_node leases (number, c) ∙ has)
+
+        live_lease : (c : ℕ) (l : Lease) → sorted_entries.find by_node.compare (number, c) leases ≡ Some l → model.HasLive (record { rows = t; moment = moment }) c number (lease_of l)
+        live_lease c l has = (shown_lease c l has, in_force.live c number (lease_of l) (shown_lease c l has))
+
+        -- what doesn't keep the client out, though it is live, is for reading, and so is the client's
+        both_read : (l : Lease) → model.is_live moment (lease_of l) ≡ true → excludes l ≡ false → (model.is_write kind || model.is_write (kind_of l.kind)) ≡ false
+        both_read l live free = ap (λ b. b && (model.is_write kind || model.is_write (kind_of l.kind))) (sym live) ∙ free
+
+        -- where it doesn't, no other one does
+        pub none_behind_first : excludes lease ≡ false → IsLeast (is_barred leases) None
+        none_behind_first free c = false_from_ne_true _ (λ is. let (other, has) = barred_has c is in by other (sorted_entries.find by_node.compare (number, c) leases) refl has is)
+          where
+            mine : model.HasLive (record { rows = t; moment = moment }) first number (lease_of lease)
+            mine = live_lease first lease is_first.found
+
+            asked_to_read : model.is_write kind ≡ false
+            asked_to_read = (or_parts _ _ (both_read lease mine.1 free)).0
+
+            apart : c ≢ first → (l : Lease) → sorted_entries.find by_node.compare (number, c) leases ≡ Some l → excludes l ≡ false
+            apart away l has =
+                let read : kind_of l.kind ≡ model.ReadLease = in_force.compatible c first number (lease_of l) (lease_of lease) away (live_lease c l has) mine in
+                ap (λ k. model.is_live moment (lease_of l) && (model.is_write kind || model.is_write k)) read ∙ ap (λ b. model.is_live moment (lease_of l) && (b || false)) asked_to_read ∙ and-false (model.is_live moment (lease_of l))
+
+            by : c ≢ client → (o : Option Lease) → sorted_entries.find by_node.compare (number, c) leases ≡ o → IsSome o → is_barred leases c ≡ true → ⊥
+            by other None none some is = cc
+            by other (Some l) has some is = both_ways _ (other_is_barred c other l has ∙ at (c == first) refl) is
+              where
+                at : (b : Bool) → (c == first) ≡ b → excludes l ≡ false
+                at true same = let here : Some l ≡ Some lease = sym has ∙ ap (λ n. sorted_entries.find by_node.compare (number, n) leases) (eqb-true c first same) ∙ is_first.found in ap (λ l. excludes l) (same_Some l lease here) ∙ free
+                at false away = apart (λ same. both_ways _ away (eq-eqb c first same)) l has

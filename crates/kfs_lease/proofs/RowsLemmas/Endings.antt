@@ -1,12 +1,10 @@
 -- Rows that are to go are listed one after another, and what is left stays in order.
 use Rattle.std.proofs.Common.{◌≡◌, ℕ, ◌≤◌, ◌<◌, Bool, true, false, List, [], Option, Some, None, refl, sym, ap, subst, ◌∙◌, arith}
-use Rattle.std.specs.Prelude.{is_some, IsSome}
+use Rattle.std.specs.Prelude.{is_some}
 use Rattle.std.specs.declared.ops.Bound.{Bound}
 use Rattle.std.specs.declared.ops.Bound.TheVariants.{Excluded}
-use Rattle.std.specs.Ordering.{is_lt}
 use Rattle.std.specs.FinMap.Entries.{find}
 use Rattle.std.proofs.lemmas.Bool.{both_ways}
-use borrow.Author.Tests.{eqb-true, eq-eqb}
 use Rattle.kfs_model.specs.Table.{get, changed}
 use Rattle.kfs_model.specs.Lease.{live_at}
 use Rattle.kfs_map_chunks.specs.Starts.{is_from, IsNextEntry}
@@ -21,7 +19,7 @@ use Rattle.kfs_lease.specs.Rows.Ending.{AreLater, AreLeft, AreListed, HasPart, N
 use Rattle.kfs_lease.specs.Rows.Rows.{by_node, by_end, row_end, ends_at, row_table, end_table, shown, without_node, AreEndsOf, EndsAreExact, RowTable, EndTable}
 use Rattle.kfs_lease.proofs.RowsLemmas.KeyOrder.{first_part, from_first, from_node}
 use Rattle.kfs_lease.proofs.RowsLemmas.RowSteps.{exact_without, only_end}
-use Rattle.kfs_lease.proofs.RowsLemmas.RowTables.{all_live, live_without, none_on_node, others_without}
+use Rattle.kfs_lease.proofs.RowsLemmas.RowTables.{all_live, none_on_node}
 use Rattle.kfs_lease.proofs.RowsLemmas.Walks.{gone_in_part, part_without, passed_gone}
 
 -- ---- at first

@@ -1,5 +1,5 @@
 -- The order of rows by the node's number and then the client's.
-use Rattle.std.proofs.Common.{◌≡◌, ℕ, ◌<◌, ◌≤◌, Bool, true, false, not, Option, Some, None, refl, sym, ap, ◌∙◌, arith}
+use Rattle.std.proofs.Common.{◌≡◌, ℕ, ◌<◌, ◌≤◌, true, false, not, Option, Some, None, refl, sym, ap, ◌∙◌, arith}
 use Rattle.std.specs.declared.cmp.Ordering.{Ordering}
 use Rattle.std.specs.declared.cmp.Ordering.TheVariants.{Less, Equal, Greater}
 use Rattle.std.specs.declared.ops.Bound.TheVariants.{Included}
@@ -20,14 +20,11 @@ first_part a b o not_below = at (nat_cmp a b) refl not_below
     at Greater is n = let h : b < a = ranked a b Greater is in omega arith
 
 -- of pairs with one first part the second parts decide
-pub same_first : (n : ℕ) (o : Ordering) → ordering_then (nat_cmp n n) o ≡ o
+same_first : (n : ℕ) (o : Ordering) → ordering_then (nat_cmp n n) o ≡ o
 same_first n o = ap (λ r. ordering_then r o) (sym (nat_cmp_is n n Equal refl))
 
 pub less_first : (m n : ℕ) (o : Ordering) → m < n → ordering_then (nat_cmp m n) o ≡ Less
 less_first m n o less = ap (λ r. ordering_then r o) (sym (nat_cmp_is m n Less less))
-
-pub less_number : (c d : ℕ) → c < d → nat_cmp c d ≡ Less
-less_number c d less = sym (nat_cmp_is c d Less less)
 
 -- all rows of a node come from its start on
 pub from_first : (number client : ℕ) → is_from by_node.compare (Included (number, 0)) (number, client) ≡ true

@@ -1,5 +1,5 @@
 -- Rows that are to go with their ends, and what is left without them.
-use Rattle.std.specs.Prelude.{◌≡◌, ℕ, ◌<◌, true, List, Option, Some, None, IsSome}
+use Rattle.std.specs.Prelude.{◌≡◌, ◌≢◌, ℕ, ◌<◌, ◌≤◌, true, List, Option, Some, None, IsSome}
 use Rattle.std.specs.Borrow.{MutBor}
 use Rattle.std.specs.FinMap.Entries.{find}
 use Rattle.std.specs.declared.ops.Bound.{Bound}
@@ -52,6 +52,16 @@ start_on node (Some client) = Excluded (node, client)
 -- no row of the node comes from there on
 abbrev pub NoneOn : List ((ℕ × ℕ) × Lease) → (node : ℕ) → (after : Option ℕ) → Type 0
 NoneOn leases node after = (client : ℕ) → is_from by_node.compare (start_on node after) (node, client) ≡ true → find by_node.compare (node, client) leases ≡ None
+
+-- no other client than this one has a lease on the node
+abbrev pub NoOtherOn : List ((ℕ × ℕ) × Lease) → (node client : ℕ) → Type 0
+NoOtherOn leases node client = (c : ℕ) → c ≢ client → find by_node.compare (node, c) leases ≡ None
+
+-- the other client has this lease on the node, and no lesser other one has a lease there
+pub record IsFirstOther (leases : List ((ℕ × ℕ) × Lease)) (node client other : ℕ) (lease : Lease) : Type 0 where
+  pub found : find by_node.compare (node, other) leases ≡ Some lease
+  pub apart : other ≢ client
+  pub least : (c : ℕ) → c ≢ client → IsSome (find by_node.compare (node, c) leases) → other ≤ c
 
 -- each end from the start on is above the moment
 abbrev pub AreLater : List (RowEnd × Unit {0}) → Bound RowEnd → (moment : ℕ) → Type 0

@@ -1,5 +1,5 @@
 -- The table of leases that the code's rows show, and how the ends belong to them.
-use Rattle.std.specs.Prelude.{◌≡◌, ℕ, Bool, ◌==◌, ◌&&◌, ◌||◌, not, List, [], ◌∷◌, Option, option_map, is_some}
+use Rattle.std.specs.Prelude.{◌≡◌, ℕ, Bool, ◌==◌, not, List, [], ◌∷◌, Option, option_map, is_some}
 use Rattle.std.specs.Ordering.{on, then_cmp}
 use Rattle.std.specs.Cmp.{on_total, then_total}
 use Rattle.std.specs.FinMap.{IsAntisymmetric}
@@ -20,11 +20,7 @@ kind_of Write = model.WriteLease
 abbrev pub lease_of : Lease → model.Lease
 lease_of lease = record { kind = kind_of lease.kind; end = lease.end }
 
--- whether a lease that another one holds keeps the client from a lease of this kind
-abbrev pub bars : (client moment : ℕ) → model.LeaseKind → (holder : ℕ) → model.Lease → Bool
-bars client moment kind holder lease = not (holder == client) && (model.is_live moment lease && (model.is_write kind || model.is_write lease.kind))
-
--- the least other client that has such a lease on the node
+-- the least other client whose live lease on the node keeps the client from one of this kind
 abbrev pub conflicting : model.LeaseTable → (moment client number : ℕ) → model.LeaseKind → Option ℕ
 conflicting rows moment client number kind = option_map (λ row. row.0.0) (model.in_conflict (record { rows = rows; moment = moment }) client number kind)
 

@@ -1,13 +1,14 @@
 //! The rows of leases, kept by node and client, and their ends, kept in order. The ends of leases, in
 //! their order. Rows that are to go, listed before the first of them goes.
-ghost use Rattle.std.specs.Prelude.{◌≡◌, ◌==◌, ◌&&◌, ◌||◌, IfOk, IfErr, OnOk, OnErr, Some, None, option_map, is_some, false, cond, refl, []};
+ghost use Rattle.std.specs.Prelude.{◌≡◌, ◌&&◌, ◌||◌, IfOk, IfErr, OnOk, OnErr, Some, None, option_map, is_some, false, refl, []};
 ghost use Rattle.kfs_model.specs.Table.{empty, get, insert, remove};
 ghost use Rattle.kfs_model.specs.Lease as model;
-ghost use Rattle.kfs_lease.specs.Rows.Rows.{kind_of, lease_of, bars, conflicting, row_end, row_table, table_in, without_nodes, EndsAreExact, by_end};
+ghost use Rattle.kfs_lease.specs.InForce.{AreInForce};
+ghost use Rattle.kfs_lease.specs.Rows.Rows.{kind_of, lease_of, conflicting, row_end, row_table, table_in, without_nodes, EndsAreExact, by_end};
 ghost use Rattle.kfs_lease.specs.Rows.Ending.{AddsRow, AddsEnd};
 
 use crate::rows::change::EndEdit;
-use crate::rows::walk::next_on;
+use crate::rows::walk::first_other;
 use kfs_map_chunks::{Chunks, Key, KeyEdit, Overlay};
 use kfs_types::{Change, Nothing};
 use std::alloc::{AllocError, Allocator};
@@ -49,13 +50,6 @@ impl Lease {
         ensures { result ≡ model.is_live moment (lease_of self.now) && (model.is_write (kind_of kind) || model.is_write (kind_of self.now.kind)) }
     {
         moment < self.end && (kind.is_write() || self.kind.is_write())
-    }
-
-    /// Whether the lease, which `holder` has, keeps the client from one of this kind.
-    fn bars(&self, holder: u32, client: u32, kind: LeaseKind, moment: u64) -> bool
-        ensures { result ≡ bars client moment (kind_of kind) holder (lease_of self.now) }
-    {
-        holder != client && self.excludes(kind, moment)
     }
 }
 
@@ -110,6 +104,9 @@ impl<A: Allocator + Copy> LeaseRows<A> {
 
     /// What there is on the node to a lease of this kind for the client. As an error, the least other
     /// client whose live lease conflicts with it; else the client's own lease, or none.
+    ///
+    /// The first other client's lease decides. Of leases in force one for writing is alone on its node,
+    /// and where several stand there, all are for reading. Condition: the leases are in force.
     pub fn contest(
         &self,
         client: u32,
@@ -117,20 +114,17 @@ impl<A: Allocator + Copy> LeaseRows<A> {
         kind: LeaseKind,
         moment: u64,
     ) -> Result<Option<Lease>, u32>
+        requires { AreInForce (record { rows = table_in self.now; moment = moment }) }
         ensures held { IfErr result (λ other. Some other ≡ conflicting (table_in self.now) moment client number (kind_of kind)) }
         ensures free { OnOk result (None ≡ conflicting (table_in self.now) moment client number (kind_of kind)) }
         ensures own { IfOk result (λ own. own ≡ get (row_table self.now) (number, client)) }
     {
-        let mut own = None;
-        let mut after = None;
-        while let Some((other, lease)) = next_on(&self.leases, number, after) {
-            if lease.bars(other, client, kind, moment) {
+        if let Some((other, lease)) = first_other(&self.leases, number, client) {
+            if lease.excludes(kind, moment) {
                 return Err(other);
             }
-            own = own_among(own, client, other, lease);
-            after = Some(other);
         }
-        Ok(own)
+        Ok(self.leases.get(&(number, client)).copied())
     }
 
     /// Sets the client's lease on the node, in place of the old one, if there is one. `Err` where memory
@@ -232,13 +226,6 @@ impl<A: Allocator + Copy> LeaseRows<A> {
         }
         self.end_all(&ending, then)
     }
-}
-
-/// The client's own lease, where `own` was found before, and the next one is another client's or its own.
-fn own_among(own: Option<Lease>, client: u32, other: u32, lease: Lease) -> Option<Lease>
-    ensures { result ≡ cond (other == client) (Some lease) own }
-{
-    if other == client { Some(lease) } else { own }
 }
 
 /// The edit that lists an end.

@@ -1,8 +1,8 @@
-//! Walks over rows and ends, one after another in their order.
+//! Walks over rows and ends, one after another in their order, and the first row of another client.
 ghost use Rattle.std.specs.Prelude.{◌≡◌, ◌≤◌, IfSome, IfNone, OnOk};
 ghost use Rattle.kfs_model.specs.Lease.{live_at};
 ghost use Rattle.kfs_map_chunks.specs.Starts.{IsNextEntry};
-ghost use Rattle.kfs_lease.specs.Rows.Ending.{rows_left, start_on, AreLater, AreListed, NoneOn};
+ghost use Rattle.kfs_lease.specs.Rows.Ending.{rows_left, start_on, AreLater, AreListed, IsFirstOther, NoneOn, NoOtherOn};
 ghost use Rattle.kfs_lease.specs.Rows.Rows.{by_node, by_end, shown, without_node, EndsAreExact};
 
 use crate::rows::rows::{Ending, Lease, LeaseRows, RowEnd};
@@ -36,6 +36,23 @@ pub(crate) fn next_on<A: Allocator>(
         Some((key.1, *lease))
     } else {
         None
+    }
+}
+
+/// The first other client that has a lease on the node, and its lease; none where no other has one.
+pub(crate) fn first_other<A: Allocator>(
+    leases: &Chunks<(u32, u32), Lease, A>,
+    number: u32,
+    client: u32,
+) -> Option<(u32, Lease)>
+    ensures first { IfSome result (λ row. IsFirstOther leases.now number client row.0 row.1) }
+    ensures none { IfNone result (NoOtherOn leases.now number client) }
+{
+    let first = next_on(leases, number, None)?;
+    if first.0 == client {
+        next_on(leases, number, Some(client))
+    } else {
+        Some(first)
     }
 }
 

@@ -1,7 +1,9 @@
-use Rattle.std.proofs.Common.{not, Ok, Err, sym, ap, ◌∙◌}
-use Rattle.kfs_model.specs.Lease.{Leases, NoLeaseHeld, dropped}
+use Rattle.std.proofs.Common.{not, Ok, Err, sym, ap, subst, ◌∙◌}
+use Rattle.kfs_model.specs.Lease.{Leases, LeaseTable, NoLeaseHeld, dropped}
+use Rattle.kfs_lease.specs.InForce.{AreInForce}
 use Rattle.kfs_lease.specs.Rows.Rows.{table_in}
 use Rattle.kfs_lease.proofs.Grants.{drop_without_client, drop_without_lease, lease_dropped, none_shown, some_not_none}
+use Rattle.kfs_lease.proofs.LeasesInForce.{in_force-remove}
 use Rattle.kfs_lease.proofs.leases.Leases.drop_lease.Goals as goal
 
 pub returns-then-is_none-clause-err : goal.returns-then-is_none-clause-err
@@ -26,3 +28,11 @@ returns-clause-ok g c =
     (none_shown _ c.find_client.result _ c.find_client.ensures ∙ ap not c.if-is_none.ensures)
     (some_not_none _ ∙ ap not (sym c.in_ok-found.ensures.found ∙ c.if-not-found.false))
     ∙ (λ i. (Ok c.args.number, record { rows = sym c.in_ok-found.ensures.table i; moment = c.self.inside.moment }))
+
+pub invariant_of-self-2 : goal.invariant_of-self-2
+invariant_of-self-2 g c =
+    let old : Leases = record { rows = table_in c.self.inside.rows; moment = c.self.inside.moment } in (
+      c.in_ok-found.ensures.indexed,
+      subst (λ (t : LeaseTable). AreInForce (record { rows = t; moment = c.self.inside.moment })) (sym c.in_ok-found.ensures.table)
+          (in_force-remove old c.self.invariant.1 (c.args.client, c.args.number)),
+    )

@@ -1,11 +1,13 @@
 use Rattle.std.proofs.Common.{◌≡◌, ◌≤◌, Ok, Err, sym, ap, subst, ◌∙◌}
 use Rattle.std.proofs.lemmas.Result.{err_from_is_err_and}
-use Rattle.kfs_model.specs.Lease.{Leases, LeaseHeld, walked, granted}
+use Rattle.kfs_model.specs.Table.{insert}
+use Rattle.kfs_model.specs.Lease.{Leases, Lease, LeaseHeld, walked, granted}
 use Rattle.kfs_image_nodes.specs.Contents.{sight_of}
 use Rattle.kfs_lease.specs.Faults.{fault_of}
 use Rattle.kfs_lease.specs.Rows.Rows.{kind_of, table_in}
 use Rattle.kfs_lease.specs.Paths.{parts_left}
 use Rattle.kfs_lease.proofs.Grants.{no_client, no_path, no_node, in_the_past, held_by_another, given, if_weaker}
+use Rattle.kfs_lease.proofs.LeasesInForce.{in_force-insert, in_force-changed, none_mapped}
 use Rattle.kfs_lease.proofs.leases.Leases.grant.Goals as goal
 
 pub returns-in_default-clause-err : goal.returns-in_default-clause-err
@@ -49,3 +51,14 @@ returns-in_ok-put-in-Ok-clause-ok g c =
     c.in-Some.row.now c.in-Some.ensures (parts_left c.in-Some-names_of.names) c.in-Some-names_of.ensures c.in_ok-number.number c.in_ok-number.ensures.ok
     c.if-end-self.false c.in-Ok.ensures.free
     ∙ (λ i. (Ok c.in_ok-number.number, record { rows = sym c.in_ok-put-in-Ok.ensures.table i; moment = c.self.inside.moment }))
+
+pub invariant_of-self-in-Ok : goal.invariant_of-self-in-Ok
+invariant_of-self-in-Ok g c =
+    let rows = c.self.inside.rows in
+    let old : Leases = record { rows = table_in rows; moment = c.self.inside.moment } in
+    let lease : Lease = record { kind = kind_of c.args.kind; end = c.args.end } in (
+      c.put.ensures.indexed,
+      in_force-changed rows c.put.new.self (insert old.rows (c.args.client, c.in_ok-number.number) lease) c.self.inside.moment c.put.result c.self.invariant.1
+          (in_force-insert old c.self.invariant.1 c.args.client c.in_ok-number.number (kind_of c.args.kind) c.args.end c.if-end-self.false (none_mapped (λ row. row.0.0) _ c.in-Ok.ensures.free))
+          c.put.ensures.table c.put.ensures.err,
+    )

@@ -1,4 +1,4 @@
-use Rattle.std.proofs.Common.{◌≡◌, Some, None, sym, ap, subst, arith}
+use Rattle.std.proofs.Common.{Some, None, sym, ap, subst, arith}
 use Rattle.kfs_model.specs.Table.{changed}
 use Rattle.kfs_map_chunks.specs.declared.entries.KeyEdit.{KeyEdit}
 use Rattle.kfs_map_chunks.specs.Tables.{table_after}
