@@ -13,7 +13,7 @@ ghost use Rattle.kfs_image.specs.Blocks.Blocks.{CanChange, changed};
 ghost use Rattle.kfs_image.specs.Blocks.Fill.{CanFill, filled, placement_after};
 
 use crate::blocks::fill::{BlockEdits, BlockRow, BlockRun, Moves, copies, fill_edits, moved};
-use crate::blocks::staged::{StagedTiers, TiersChange};
+use crate::blocks::staged::ChangeTiers;
 use crate::tier::{NewBlock, Place, Tiers};
 use kfs_map_chunks::{Chunks, KeyEdit};
 use kfs_types::TierSizes;
@@ -26,7 +26,7 @@ use std::ops::Bound;
 #[derive(Drop)]
 pub struct FileBlocks<A: Allocator> {
     placement: Chunks<(u32, u32), Place, A>,
-    tiers: StagedTiers<A>,
+    tiers: Tiers<A>,
 }
 
 impl<A: Allocator> Model for FileBlocks<A> {
@@ -36,9 +36,9 @@ impl<A: Allocator> Model for FileBlocks<A> {
 
     ghost Value = { BlocksShown };
 
-    ghost view = { λ b. record { sizes = b.tiers.tiers.sizes; placement = table (pairs numbers numbers) b.placement; devices = b.tiers.tiers.devices } };
+    ghost view = { λ b. record { sizes = b.tiers.sizes; placement = table (pairs numbers numbers) b.placement; devices = b.tiers.devices } };
 
-    ghost invariant = { λ b. AreHeld (table (pairs numbers numbers) b.placement) b.tiers.tiers };
+    ghost invariant = { λ b. AreHeld (table (pairs numbers numbers) b.placement) b.tiers };
 }
 
 impl<A: Allocator> FileBlocks<A> {
@@ -52,10 +52,7 @@ impl<A: Allocator> FileBlocks<A> {
         let tiers = Tiers::new(alloc.clone()?, sizes)?;
         Ok(FileBlocks {
             placement: Chunks::new(alloc),
-            tiers: StagedTiers {
-                tiers,
-                change: None,
-            },
+            tiers,
         })
     }
 
@@ -65,14 +62,14 @@ impl<A: Allocator> FileBlocks<A> {
         ensures laid { IsLaid self.now.sizes self.now.placement }
         ensures blocks { AreBlocks self.now.sizes self.now.devices }
     {
-        self.tiers.tiers.size(tier)
+        self.tiers.size(tier)
     }
 
     /// How many places of the tier hold no block, 0 for a tier over 2. Takes no memory.
     pub fn free(&self, tier: u8) -> u32
         ensures { result ≡ length (unused_places self.now.sizes self.now.placement tier) }
     {
-        self.tiers.tiers.free(tier)
+        self.tiers.free(tier)
     }
 
     /// The tier's least place from `from` on that holds no block, or none. Takes no memory.
@@ -80,7 +77,7 @@ impl<A: Allocator> FileBlocks<A> {
         ensures found { IfSome result (λ place. IsNextUnused self.now.sizes self.now.placement tier from place) }
         ensures none { IfNone result (AreTakenFrom self.now.sizes self.now.placement tier from) }
     {
-        self.tiers.tiers.next_free(tier, from)
+        self.tiers.next_free(tier, from)
     }
 
     /// Where block `block` of the file `number` lies, or none where it isn't mapped. Takes no memory.
@@ -107,7 +104,7 @@ impl<A: Allocator> FileBlocks<A> {
         ensures { EachIndex buffer.new (λ k. slice_index buffer.new k ≡ file_byte self.now.placement self.now.devices number (block * block_size + (offset + k))) }
     {
         match self.place_of(number, block) {
-            Some(place) => self.tiers.tiers.read(place, offset, buffer),
+            Some(place) => self.tiers.read(place, offset, buffer),
             None => buffer.fill(0),
         }
     }
@@ -119,7 +116,7 @@ impl<A: Allocator> FileBlocks<A> {
     pub fn swap_spares(&mut self, spares: &mut Vec<Vec<u8, A>, A>)
         ensures { self.new ≡ self.old }
     {
-        self.tiers.tiers.swap_spares(spares);
+        self.tiers.swap_spares(spares);
     }
 }
 
@@ -136,11 +133,13 @@ impl<A: Allocator + Clone> FileBlocks<A> {
         ensures err { OnErr result (self.new ≡ self.old) }
     {
         let moves = Moves::of(written.allocator(), &self.placement, edits)?;
-        // Passed through a field: a value that borrows the tiers and owns these lists has no simple end for the prover.
-        self.tiers.change = Some(TiersChange { moves, written });
-        let done = self.placement.change_then(edits, &mut self.tiers);
-        self.tiers.change = None;
-        done
+        let mut written = written;
+        let mut tiers = ChangeTiers {
+            tiers: &mut self.tiers,
+            moves: &moves,
+            written: &mut written,
+        };
+        self.placement.change_then(edits, &mut tiers)
     }
 
     /// The edits that unmap the blocks in the runs; then map each row's block to its place and write a

@@ -1,44 +1,42 @@
-//! A change of the tiers that waits to be made together with the change of the blocks' places.
-ghost use Rattle.std.specs.Prelude.{◌≡◌, OnOk, OnErr};
+//! A change of the tiers that is made together with the change of the blocks' places.
+ghost use Rattle.std.proofs.Common.{rules};
 
-use crate::blocks::blocks::FileBlocks;
 use crate::blocks::fill::Moves;
-use crate::tier::{NewBlock, Place, Tiers};
-use kfs_map_chunks::KeyEdit;
+use crate::tier::{NewBlock, Tiers};
 use kfs_types::Change;
 use std::alloc::{AllocError, Allocator};
+use std::mem;
 
-/// A change of the tiers: places that become free, places that become used, and blocks to be written.
+/// A change of the tiers: places that become free, places that become used, and blocks to be written. The
+/// blocks are taken out of the list.
 #[derive(Drop)]
-pub(crate) struct TiersChange<A: Allocator> {
-    pub(crate) moves: Moves<A>,
-    pub(crate) written: Vec<NewBlock<A>, A>,
+pub(crate) struct ChangeTiers<'a, A: Allocator> {
+    /// The tiers that are changed.
+    pub(crate) tiers: &'a mut Tiers<A>,
+    /// The places.
+    pub(crate) moves: &'a Moves<A>,
+    /// The blocks to be written.
+    pub(crate) written: &'a mut Vec<NewBlock<A>, A>,
 }
 
-/// The tiers, and the change that waits for them, if any.
-#[derive(Drop)]
-pub(crate) struct StagedTiers<A: Allocator> {
-    pub(crate) tiers: Tiers<A>,
-    pub(crate) change: Option<TiersChange<A>>,
-}
+impl<'a, A: Allocator + Clone> Change for ChangeTiers<'a, A> {
+    ghost use Rattle.kfs_types.specs.Nested.{Becomes};
+    ghost use Rattle.kfs_image.specs.Tier.Tiers.{changed};
+    ghost use Rattle.kfs_image.specs.Blocks.Staged.{CanTurn};
 
-impl<A: Allocator + Clone> Change for StagedTiers<A> {
-    ghost use Rattle.std.specs.Prelude.{◌≡◌, refl};
-    ghost use Rattle.kfs_image.specs.Blocks.Staged.{CanMake, IsMade};
+    ghost can_make = { λ before. CanTurn before.tiers.now before.moves.now before.written.now.items };
 
-    ghost can_make = { λ before. CanMake before };
+    ghost made = { λ before after. Becomes before.tiers after.tiers (changed before.moves.now.given.items before.moves.now.taken.items before.written.now.items before.tiers.now) };
 
-    ghost made = { λ before after. IsMade before after };
+    ghost kept = { λ before after. Becomes before.tiers after.tiers before.tiers.now };
 
-    ghost kept = { λ before after. after.tiers ≡ before.tiers };
-
-    ghost not_tried = { λ before. refl };
+    ghost not_tried = { λ before. Prim.search rules };
 
     fn make(&mut self) -> Result<(), AllocError> {
-        let Some(TiersChange { moves, written }) = self.change.take() else {
-            unreachable!();
-        };
+        let none = Vec::new(self.written.allocator().clone()?);
+        let written = mem::replace(self.written, none);
+        let Moves { given, taken } = self.moves;
         self.tiers
-            .change(moves.given.as_slice(), moves.taken.as_slice(), written)
+            .change(given.as_slice(), taken.as_slice(), written)
     }
 }

@@ -8,5 +8,5 @@ use Rattle.kfs_image.proofs.blocks.blocks.FileBlocks.free.Goals as goal
 
 pub returns : goal.returns
 returns g c =
-    c.free.ensures ∙ CountsUnused-holds (table (pairs numbers numbers) c.self.inside.placement) c.self.inside.tiers.tiers c.self.invariant.unused c.args.tier
+    c.free.ensures ∙ CountsUnused-holds (table (pairs numbers numbers) c.self.inside.placement) c.self.inside.tiers c.self.invariant.unused c.args.tier
     ∙ ap (λ (b : BlocksShown). length (unused_places b.sizes b.placement c.args.tier)) c.self.view_is
