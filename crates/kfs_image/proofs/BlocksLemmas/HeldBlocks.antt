@@ -92,30 +92,30 @@ module _ {A : Type 0} (entries : Entries) (tiers : TiersShown) (shown : BlocksSh
       whole_items : (block : NewBlock A) → vec_len block.bytes ≡ block_size → length block.bytes.items ≡ block_size
       whole_items block whole = omega (arith, block.bytes.ok.0, whole)
 
-  module _ {E : Type 0} (new : Entries) (left : TiersShown) (result : Result (Unit {0}) E) where
-    pub held_after : {S : Type 0} → OnOk result (new ≡ rewritten (pairs numbers numbers) entries edits) → OnErr result (new ≡ entries) → OnOk result ((left ≡ changed_tiers given taken written tiers) × S) → OnErr result ((left ≡ tiers) × S)
+  module _ {E : Type 0} (S : Type 0) (new : Entries) (left : TiersShown) (result : Result (Unit {0}) E) where
+    pub held_after : OnOk result (new ≡ rewritten (pairs numbers numbers) entries edits) → OnErr result (new ≡ entries) → OnOk result ((left ≡ changed_tiers given taken written tiers) × S) → OnErr result ((left ≡ tiers) × S)
         → AreHeld (table (pairs numbers numbers) new) left
     held_after = at result
       where
-        at : {S : Type 0} → (r : Result (Unit {0}) E) → OnOk r (new ≡ rewritten (pairs numbers numbers) entries edits) → OnErr r (new ≡ entries) → OnOk r ((left ≡ changed_tiers given taken written tiers) × S) → OnErr r ((left ≡ tiers) × S)
+        at : (r : Result (Unit {0}) E) → OnOk r (new ≡ rewritten (pairs numbers numbers) entries edits) → OnErr r (new ≡ entries) → OnOk r ((left ≡ changed_tiers given taken written tiers) × S) → OnErr r ((left ≡ tiers) × S)
             → AreHeld (table (pairs numbers numbers) new) left
         at (Ok done) edited same made kept =
             subst (λ t. AreHeld t left) (sym (ap (table (pairs numbers numbers)) edited ∙ table-rewritten (pairs numbers numbers) entries edits)) (subst (AreHeld after) (sym made.0) held_changed)
         at (Err error) edited same made kept = subst (λ es. AreHeld (table (pairs numbers numbers) es) left) (sym same) (subst (AreHeld before) (sym kept.0) held)
 
-    pub shown_ok : {S : Type 0} → OnOk result (new ≡ rewritten (pairs numbers numbers) entries edits) → OnOk result ((left ≡ changed_tiers given taken written tiers) × S) → OnOk result (shown_of new left ≡ changed edits written shown)
+    pub shown_ok : OnOk result (new ≡ rewritten (pairs numbers numbers) entries edits) → OnOk result ((left ≡ changed_tiers given taken written tiers) × S) → OnOk result (shown_of new left ≡ changed edits written shown)
     shown_ok = at result
       where
-        at : {S : Type 0} → (r : Result (Unit {0}) E) → OnOk r (new ≡ rewritten (pairs numbers numbers) entries edits) → OnOk r ((left ≡ changed_tiers given taken written tiers) × S) → OnOk r (shown_of new left ≡ changed edits written shown)
+        at : (r : Result (Unit {0}) E) → OnOk r (new ≡ rewritten (pairs numbers numbers) entries edits) → OnOk r ((left ≡ changed_tiers given taken written tiers) × S) → OnOk r (shown_of new left ≡ changed edits written shown)
         at (Ok done) edited made =
             let placed : table (pairs numbers numbers) new ≡ after = ap (table (pairs numbers numbers)) edited ∙ table-rewritten (pairs numbers numbers) entries edits in
             let there : shown_of new left ≡ changed edits written (shown_of entries tiers) = (λ i. record { sizes = (made.0 i).sizes; placement = placed i; devices = (made.0 i).devices }) in
             there ∙ ap (changed edits written) view
         at (Err error) edited made = tt
 
-    pub shown_err : {S : Type 0} → OnErr result (new ≡ entries) → OnErr result ((left ≡ tiers) × S) → OnErr result (shown_of new left ≡ shown)
+    pub shown_err : OnErr result (new ≡ entries) → OnErr result ((left ≡ tiers) × S) → OnErr result (shown_of new left ≡ shown)
     shown_err = at result
       where
-        at : {S : Type 0} → (r : Result (Unit {0}) E) → OnErr r (new ≡ entries) → OnErr r ((left ≡ tiers) × S) → OnErr r (shown_of new left ≡ shown)
+        at : (r : Result (Unit {0}) E) → OnErr r (new ≡ entries) → OnErr r ((left ≡ tiers) × S) → OnErr r (shown_of new left ≡ shown)
         at (Ok done) same kept = tt
         at (Err error) same kept = (λ i. shown_of (same i) (kept.0 i)) ∙ view
