@@ -113,7 +113,7 @@ fn blocks_are_written_moved_and_read() {
     assert_eq!(desk.read(100, 2, &mut buffer), Ok(3));
     assert_eq!(&buffer, b"tes-----");
     assert_eq!(desk.read(7, 0, &mut buffer), Err(kfs::Error::Nothing));
-    assert!(matches!(desk.read(1, 0, &mut buffer), Err(kfs::Error::Refused(_))));
+    assert_eq!(desk.read(1, 0, &mut buffer), Err(kfs::Error::Directory));
 }
 
 #[test]
