@@ -9,9 +9,8 @@ use thiserror::Error;
 /// Why files weren't opened. What they stand for is as it was.
 #[derive(Clone, Copy, Debug, PartialEq, Eq, Error)]
 pub enum OpenFault {
-    /// Neither file has a whole open head, and they aren't both empty. They are another program's, a journal's
-    /// that are damaged, or those of a `create` that a crash cut short: nothing was acknowledged from the last.
-    /// The disk is as it was.
+    /// Neither file has a whole open head, and they aren't both empty. They are another program's, or a journal's
+    /// that is damaged, or a crash has cut a `create` short: then nothing was acknowledged. The disk is as it was.
     #[error("not a journal")]
     NotAJournal,
     /// Memory was refused. The disk is as it was.

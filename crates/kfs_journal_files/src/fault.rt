@@ -20,14 +20,17 @@ pub enum FilesFault {
     /// this one was opened.
     #[error("not a regular file")]
     NotRegular,
-    /// Memory was refused.
+    /// Memory was refused, also by the system.
     #[error("memory")]
     OutOfMemory,
 }
 
 impl From<io::Error> for FilesFault {
     fn from(error: io::Error) -> FilesFault {
-        FilesFault::Io(error)
+        match error.kind() {
+            io::ErrorKind::OutOfMemory => FilesFault::OutOfMemory,
+            _ => FilesFault::Io(error),
+        }
     }
 }
 
