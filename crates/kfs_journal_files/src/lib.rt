@@ -20,7 +20,7 @@
 //! 2. **The list.** `raw_disk.rt` notes each call that it makes, with what it was told, before it answers. A
 //!    body that noted a sync and made none would be proved as well.
 //! 3. **The start.** `RawDisk::begin` takes the word of its caller that these bytes were read from the files,
-//!    and are on the disk. In this crate `opened_pair` of `opening.rt` alone calls it: both files are synced and
+//!    and are on the disk. In this crate `settled_files` of `opening.rt` alone calls it: both files are synced and
 //!    the kernel's copies dropped, the folder is synced, and then each file is read once. The copies are dropped
 //!    since Linux may call pages clean that an earlier sync failed to write. That `posix_fadvise` drops them is
 //!    advice to the kernel, and no promise.
@@ -36,9 +36,11 @@
 //!
 //! # What to check by eye
 //!
-//! `pair.rt`, `raw_disk.rt` and `opening.rt`, by the points above. In code of yours: that what calls
-//! `RawDisk::begin` or implements `RawFiles` keeps to points 1 and 3; that no proof by hand is written over
-//! `Told`; and that a function that takes a disk uses this one, and not another of its type.
+//! `pair.rt`, `raw_disk.rt` and `opening.rt`, by the points above. In code of yours:
+//!
+//! - What calls `RawDisk::begin`, or implements `RawFiles`, keeps to points 1 and 3.
+//! - No proof by hand is written over `Told`.
+//! - A function that takes a disk uses this one, and not another of its type.
 #![tactic(auto)]
 
 mod fault;

@@ -45,7 +45,7 @@ pub fn create_files(rt: &HostRuntime, folder: &str) -> Result<RawDisk<Pair>, Fil
     refuse_taken(rt, second_path.as_str())?;
     let first = make_locked(rt, first_path.as_str())?;
     let second = make_locked(rt, second_path.as_str())?;
-    let opened = opened_pair(rt, folder, first, second)?;
+    let opened = settled_files(rt, folder, first, second)?;
     if !opened.first.is_empty() || !opened.second.is_empty() {
         return Err(FilesFault::Busy);
     }
@@ -65,11 +65,11 @@ pub fn open_files(rt: &HostRuntime, folder: &str) -> Result<OpenedFiles, FilesFa
     let second_path = format!(in rt.alloc(); "{folder}/{SECOND_NAME}")?;
     let first = open_locked(rt, first_path.as_str())?;
     let second = open_locked(rt, second_path.as_str())?;
-    opened_pair(rt, folder, first, second)
+    settled_files(rt, folder, first, second)
 }
 
 /// Brings both files and their folder to the disk, and then reads them.
-fn opened_pair(
+fn settled_files(
     rt: &HostRuntime,
     folder: &str,
     mut first: fs::File,
