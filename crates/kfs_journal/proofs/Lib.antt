@@ -1,0 +1,12 @@
+mod Fields
+mod Moments
+mod Records
+mod Heads
+mod Meaning
+mod Gates
+mod Renewal
+mod Puts
+mod Changes
+mod Opens
+mod MadeCalls
+mod TornCalls

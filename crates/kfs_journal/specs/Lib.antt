@@ -1,0 +1,5 @@
+pub mod Disk
+pub mod Format
+pub mod Journal
+pub mod Memory
+pub mod Tear

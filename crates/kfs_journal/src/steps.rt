@@ -1,0 +1,104 @@
+//! Changes of the files, each from files that are on the disk to files that are on the disk. So each moment
+//! within one is a torn call on files that are known.
+ghost use Rattle.std.specs.Prelude.{◌≡◌, ◌≤◌, ◌+◌, ◌<◌, ◌^◌, length, OnOk, OnErr, IsErrOf, IsTrue};
+ghost use Rattle.kfs_journal.specs.Disk.{content, In, Only, Torn, Cut, Holds, IsFront, LeavesOnly};
+ghost use Rattle.kfs_journal.specs.Journal.{EndsClosed, IsOpened, IsOpening, IsFresh, IsRenewed};
+
+use crate::disk::{Disk, DiskFailed, File};
+use crate::fault::JournalFault;
+use crate::format::{head_front, head_rest};
+use std::alloc::Allocator;
+
+/// Writes and syncs.
+pub fn write_through<D: Disk>(
+    disk: &mut D,
+    file: File,
+    at: usize,
+    bytes: &[u8],
+) -> Result<(), DiskFailed>
+    requires at { at ≤ length (content file (D.seen disk.old)) }
+    requires durable { Only (D.seen disk.old) (D.may_leave disk.old) }
+    ensures written { OnOk result (In file (Holds at bytes.now) (D.seen disk.old) (D.seen disk.new)) }
+    ensures durable { OnOk result (Only (D.seen disk.new) (D.may_leave disk.new)) }
+    ensures any_moment { LeavesOnly D.moment D.left_since disk.old disk.new (In file (Torn at (length bytes.now)) (D.seen disk.old)) }
+    ensures cause { OnErr result (IsTrue (D.has_failed disk.new)) }
+{
+    disk.write_at(file, at, bytes)?;
+    disk.sync(file)
+}
+
+/// Cuts and syncs.
+pub fn cut_through<D: Disk>(disk: &mut D, file: File, len: usize) -> Result<(), DiskFailed>
+    requires len { len ≤ length (content file (D.seen disk.old)) }
+    requires durable { Only (D.seen disk.old) (D.may_leave disk.old) }
+    ensures cut { OnOk result (In file (IsFront len) (D.seen disk.old) (D.seen disk.new)) }
+    ensures durable { OnOk result (Only (D.seen disk.new) (D.may_leave disk.new)) }
+    ensures any_moment { LeavesOnly D.moment D.left_since disk.old disk.new (In file (Cut len) (D.seen disk.old)) }
+    ensures cause { OnErr result (IsTrue (D.has_failed disk.new)) }
+{
+    disk.cut(file, len)?;
+    disk.sync(file)
+}
+
+/// Writes bytes behind the closed gate at the file's end, and opens it when they are on the disk.
+pub fn add_gated<D: Disk>(
+    disk: &mut D,
+    file: File,
+    gate: usize,
+    bytes: &[u8],
+) -> Result<(), DiskFailed>
+    requires closed { EndsClosed gate (content file (D.seen disk.old)) }
+    requires durable { Only (D.seen disk.old) (D.may_leave disk.old) }
+    requires room { gate + 1 < 2 ^ 64 }
+    ensures written { OnOk result (In file (IsOpened bytes.now) (D.seen disk.old) (D.seen disk.new)) }
+    ensures durable { OnOk result (Only (D.seen disk.new) (D.may_leave disk.new)) }
+    ensures any_moment { LeavesOnly D.moment D.left_since disk.old disk.new (In file (IsOpening bytes.now) (D.seen disk.old)) }
+    ensures cause { OnErr result (IsTrue (D.has_failed disk.new)) }
+{
+    write_through(disk, file, gate + 1, bytes)?;
+    write_through(disk, file, gate, &[1])
+}
+
+/// Gives a file a new head, and no records.
+///
+/// The file is cut to nothing first, and that is on the disk before the new gate is written: a change that a
+/// crash cut short may have left a whole head there, with the next number behind a closed gate, and a torn
+/// write of that gate would open it.
+pub fn write_head<A: Allocator + Copy, D: Disk>(
+    alloc: A,
+    disk: &mut D,
+    file: File,
+    number: u64,
+    state: &[u8],
+) -> Result<(), JournalFault>
+    requires durable { Only (D.seen disk.old) (D.may_leave disk.old) }
+    requires room { length state.now < 2 ^ 64 }
+    ensures written { OnOk result (In file (λ old new. IsFresh number state.now new) (D.seen disk.old) (D.seen disk.new)) }
+    ensures durable { OnOk result (Only (D.seen disk.new) (D.may_leave disk.new)) }
+    ensures any_moment { LeavesOnly D.moment D.left_since disk.old disk.new (In file (IsRenewed number state.now) (D.seen disk.old)) }
+    ensures failed { IsErrOf result JournalFault.Failed → IsTrue (D.has_failed disk.new) }
+    ensures full { IsErrOf result JournalFault.Full → ⊥ }
+    ensures memory { IsErrOf result JournalFault.OutOfMemory → disk.new ≡ disk.old }
+{
+    let front = head_front(alloc, number)?;
+    let rest = head_rest(alloc, state)?;
+    cut_through(disk, file, 0)?;
+    write_through(disk, file, 0, &front)?;
+    // the gate stands behind magic and number
+    add_gated(disk, file, 12, &rest)?;
+    Ok(())
+}
+
+/// Brings to the disk what is there, in both files. `Err` where the disk has failed.
+///
+/// A process that was killed may leave more to read than is on the disk. So a disk of files that one has left
+/// wants this before `Journal::open`, unless whoever opened them has synced them already.
+pub fn settle<D: Disk>(disk: &mut D) -> Result<(), DiskFailed>
+    ensures durable { OnOk result (Only (D.seen disk.new) (D.may_leave disk.new)) }
+    ensures seen { D.seen disk.new ≡ D.seen disk.old }
+    ensures any_moment { LeavesOnly D.moment D.left_since disk.old disk.new (D.may_leave disk.old) }
+    ensures cause { OnErr result (IsTrue (D.has_failed disk.new)) }
+{
+    disk.sync(File::First)?;
+    disk.sync(File::Second)
+}
