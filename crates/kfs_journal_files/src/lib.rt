@@ -1,6 +1,6 @@
 //! The disk of a journal on two files of the operating system, `first.kdjl` and `second.kdjl` in one folder.
 //!
-//! It stands on `kfs_journal` and the kit's `libc`. Begin with `create_files` and `open_files`, whose disk is
+//! It stands on `kfs_journal`. Begin with `create_files` and `open_files`, whose disk is
 //! for `Journal::create` and `Journal::open`; then `RawDisk`.
 //!
 //! # What is proved
@@ -20,10 +20,12 @@
 //! 2. **The list.** `raw_disk.rt` notes each call that it makes, with what it was told, before it answers. A
 //!    body that noted a sync and made none would be proved as well.
 //! 3. **The start.** `RawDisk::begin` takes the word of its caller that these bytes were read from the files,
-//!    and are on the disk. In this crate `settled_files` of `opening.rt` alone calls it: both files are synced and
-//!    the kernel's copies dropped, the folder is synced, and then each file is read once. The copies are dropped
-//!    since Linux may call pages clean that an earlier sync failed to write. That `posix_fadvise` drops them is
-//!    advice to the kernel, and no promise.
+//!    and are on the disk. In this crate `settled_files` of `opening.rt` alone calls it: both files and their
+//!    folder are synced, and then each file is read once.
+//!
+//!    **After a sync that failed** Linux may show pages as clean that it never wrote, to the next process, too.
+//!    The gate lets no crate call `posix_fadvise`, which drops such pages. So restart the machine, or unmount
+//!    the file system, before you open the files again.
 //! 4. **The disk.** After a sync of its data (fdatasync) has answered, the file's bytes and length are on the
 //!    disk, through power loss, too. Before, a crash leaves any bytes in the range of a write and past the old
 //!    end, some length between where a file was cut, and nothing else. A disk that harms what lies beside a torn

@@ -78,8 +78,8 @@ fn settled_files(
     ensures bytes { IfOk result (λ opened. seen_after opened.disk.told.events ≡ (opened.first.items, opened.second.items)) }
     ensures durable { IfOk result (λ opened. Only (seen_after opened.disk.told.events) (Leaves opened.disk.told.events)) }
 {
-    settle_file(&first)?;
-    settle_file(&second)?;
+    first.sync_all()?;
+    second.sync_all()?;
     fs::File::open(rt, folder)?.sync_all()?;
     let mut first_bytes = Vec::new(rt.alloc());
     first.read_to_end(&mut first_bytes)?;
@@ -91,17 +91,6 @@ fn settled_files(
         first: first_bytes,
         second: second_bytes,
     })
-}
-
-/// Syncs the file, and drops the kernel's copies of its pages: a failed sync of an earlier process may have left
-/// them other than the disk has them.
-fn settle_file(file: &fs::File) -> io::Result<()> {
-    file.sync_all()?;
-    let advised = libc::posix_fadvise(file.as_raw_fd(), 0, 0, libc::POSIX_FADV_DONTNEED);
-    if advised != 0 {
-        return Err(io::Error::from_raw_os_error(advised));
-    }
-    Ok(())
 }
 
 /// Refuses a name at which something stands, also a link that leads nowhere.
