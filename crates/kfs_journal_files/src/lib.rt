@@ -24,7 +24,7 @@
 //!    folder are synced, and then each file is read once.
 //!
 //!    **After a sync that failed** Linux may show pages as clean that it never wrote, to the next process, too.
-//!    The gate lets no crate call `posix_fadvise`, which drops such pages. So restart the machine, or unmount
+//!    The gate lets no crate make the call that drops such pages (fadvise). So restart the machine, or unmount
 //!    the file system, before you open the files again.
 //! 4. **The disk.** After a sync of its data (fdatasync) has answered, the file's bytes and length are on the
 //!    disk, through power loss, too. Before, a crash leaves any bytes in the range of a write and past the old
