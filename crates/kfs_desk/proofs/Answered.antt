@@ -75,6 +75,7 @@ module _ (desk : Parts) (is_desk : IsDesk desk) (lawful : IsLawful desk.image) (
                 said = ap (option_map Refused) told;
                 answered = refl;
                 rejudged = refl;
+                least = refl;
                 fits = row_fits s s _ (ap (λ verdict. replied s [] verdict (reply_to s verdict)) (sym judgement.judgement));
               },
             );
@@ -100,6 +101,7 @@ module _ (desk : Parts) (is_desk : IsDesk desk) (lawful : IsLawful desk.image) (
                   said = refl;
                   answered = refl;
                   rejudged = refl;
+                  least = refl;
                   fits = fits_full desk is_desk lawful submission log plan net told after marked_after told_so full again judgement.reading judgement.judgement;
                 },
               );
@@ -157,7 +159,7 @@ module _ (desk new : Parts) (is_desk : IsDesk desk) (submission : Submission) (r
     (added : new.docket ≡ desk.docket ++ row ∷ []) (limited : new.limit ≡ desk.limit) where
   -- The desk stays one.
   pub answered_desk : IsShown (state_of new) → length desk.docket < desk.limit → IsDesk new
-  answered_desk is room = desk_with desk new is_desk row (step_read (state_of desk) submission reply row (state_of new) step) step.fits is opened added (let limit = limited in omega arith)
+  answered_desk is room = desk_with desk new is_desk row (step_read (state_of desk) submission reply row (state_of new) step) step.fits step.least is opened added (let limit = limited in omega arith)
 
   -- The answer has its row in the docket.
   pub answered_at : (again : Bool) (position : ℕ) → position ≡ length desk.docket → IsAnswer (state_of desk) submission again position reply (state_of new) → IsAnswered (shown desk) submission again reply (shown new)

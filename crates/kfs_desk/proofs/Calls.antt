@@ -44,7 +44,7 @@ module _ (act : Act) (answer : Result Done ActFault) (new : Leases) where
   unfolding outcome_of
   change_is_step s is = (
     row,
-    record { outcome = told_by_leases is.told; said = is.said; asked = refl; read = read act; answered = refl; rejudged = refl; fits = row_fits s (with_leases s new) _ (by act is.is) },
+    record { outcome = told_by_leases is.told; said = is.said; asked = refl; read = read act; answered = refl; rejudged = refl; least = refl; fits = row_fits s (with_leases s new) _ (by act is.is) },
   )
     where
       row : Row
@@ -89,12 +89,12 @@ module _ (desk : Parts) (moves : List Move) (new : DeviceImage) where
   moves_are_step (Ok done) (said, none, applied, same) =
       let comes : outcome_of before (Migrate moves) [] ≡ Some (machine.Done (length moves), after_moves) = ap (migrated before [] moves) none ∙ ap (λ (t : State). Some (machine.Done (length moves), t)) (lands applied same) in (
         record { call = Migrate moves; answer = machine.Done (length moves); rejudged = false; places = [] },
-        record { outcome = Ok (length moves); said = said; asked = refl; read = tt; answered = refl; rejudged = refl; fits = row_fits before after_moves _ comes },
+        record { outcome = Ok (length moves); said = said; asked = refl; read = tt; answered = refl; rejudged = refl; least = refl; fits = row_fits before after_moves _ comes },
       )
   moves_are_step (Err fault) (refusal, said, found, same) =
       let comes : outcome_of before (Migrate moves) [] ≡ Some (NotDone (MovesRefused refusal), after_moves) = ap (migrated before [] moves) found ∙ ap (λ (t : State). Some (NotDone (MovesRefused refusal), t)) (stays same) in (
         record { call = Migrate moves; answer = NotDone (MovesRefused refusal); rejudged = false; places = [] },
-        record { outcome = Err (MovesRefused refusal); said = said; asked = refl; read = tt; answered = refl; rejudged = refl; fits = row_fits before after_moves _ comes },
+        record { outcome = Err (MovesRefused refusal); said = said; asked = refl; read = tt; answered = refl; rejudged = refl; least = refl; fits = row_fits before after_moves _ comes },
       )
 
   -- whatever the answer, nothing changes but where blocks lie
@@ -142,7 +142,7 @@ module _ (call : Call) (words : ℕ → Done) (answer : Result Done ActFault) (d
     (added : new.docket ≡ desk.docket ++ row ∷ []) (limited : new.limit ≡ desk.limit) where
   -- The desk stays one.
   pub acted_desk : IsDesk desk → IsShown (state_of new) → length desk.docket < desk.limit → IsDesk new
-  acted_desk is_desk is room = desk_with desk new is_desk row step.read step.fits is opened added (let limit = limited in omega arith)
+  acted_desk is_desk is room = desk_with desk new is_desk row step.read step.fits step.least is opened added (let limit = limited in omega arith)
 
   -- The answer has its row in the docket.
   pub acted_at : (position : ℕ) → position ≡ length desk.docket → IsActed (shown desk) call words (record { position = position; answer = answer }) (shown new)

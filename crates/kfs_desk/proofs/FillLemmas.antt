@@ -1,6 +1,5 @@
 pub mod BlockBytes
 pub mod BlockRows
-pub mod Chosen
 pub mod ChosenPlaces
 pub mod FileBlocks
 pub mod FilledLogs

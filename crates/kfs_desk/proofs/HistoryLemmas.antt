@@ -1,1 +1,5 @@
+pub mod LeastPlaces
 pub mod Longer
+pub mod Parts
+pub mod Runs
+pub mod SameAsked

@@ -152,6 +152,7 @@ module _ (desk : Parts) (is_desk : IsDesk desk) (lawful : IsLawful desk.image) (
       said = refl;
       answered = refl;
       rejudged = refl;
+      least = fills.least;
       fits = fits_filled again judgement.reading judgement.judgement ∙ ap Some (sym filled_is);
     }
 

@@ -1,4 +1,3 @@
 pub mod Bytes
 pub mod Fill
 pub mod FillOf
-pub mod Places

@@ -4,6 +4,7 @@ pub mod Grants
 pub mod Landing
 pub mod Machine
 pub mod Opening
+pub mod SameCalls
 pub mod HandedIn
 pub mod History
 pub mod Fill

@@ -11,8 +11,10 @@ use Rattle.kfs_model.specs.Machine as machine
 use Rattle.kfs_model.specs.Means.{HasEntriesDone}
 use Rattle.kfs_model.specs.Migration.{Move, MoveFault, fault_of_moves}
 use Rattle.kfs_model.specs.Order.{IsInOrder}
+use Rattle.kfs_desk.specs.History.Least.{AreLeast}
 use Rattle.kfs_desk.specs.History.Legal.{IsLegalDocket}
 use Rattle.kfs_lease.specs.Faults as lease_faults
+use Rattle.kfs_lease.specs.LeaseLists.{HasLawfulLeases}
 use Rattle.kfs_migrate.specs.Applied.{AreApplied}
 use Rattle.kfs_types.specs.Moves.Faults as move_faults
 use Rattle.kfs_lease.specs.Rows.Rows.{kind_of}
@@ -82,12 +84,13 @@ pub record IsShown (s : State) : Type 0 where
 abbrev pub AreShown : (opening : State) → (docket : List Row) → Type 0
 AreShown opening docket = (count : ℕ) (s : State) → after opening (take count docket) ≡ Some s → IsShown s
 
--- the docket is within its limit and leads to the state now, which is in order; a well formed image
--- shows each state on the way
+-- the docket is within its limit and leads to the state now, which is in order; each lease is of a known
+-- client, on a node, and in force; a well formed image shows each state on the way
 pub record IsDesk (desk : Parts) : Type 0 where
   pub within_limit : length desk.docket ≤ desk.limit
   pub legal : IsLegalDocket desk.opening desk.docket (state_of desk)
   pub in_order : IsInOrder (state_of desk)
+  pub lawful : HasLawfulLeases (state_of desk)
   pub shown : AreShown desk.opening desk.docket
 
 -- a desk that was just begun with this state
@@ -114,7 +117,7 @@ reply_of (replies.No position rejudged fault) = option_map Refused (refusal_of f
 reply_of (replies.NoRoom position rejudged need free) = Some (NoRoom need free)
 
 -- the row is the submission with this answer, told as judged again or not, and leads from state s to
--- state t
+-- state t; it takes the least free places
 pub record IsStep (s : State) (submission : Submission) (answer : CodeReply) (row : Row) (t : State) : Type 0 where
   pub reading : Reading
   pub read : IsReadAs submission reading
@@ -124,6 +127,7 @@ pub record IsStep (s : State) (submission : Submission) (answer : CodeReply) (ro
   pub answered : row.answer ≡ Replied reply
   pub rejudged : row.rejudged ≡ is_rejudged answer
   pub fits : next s row ≡ Some t
+  pub least : AreLeast s row.places
 
 -- the new tree results from the log's entries in turn, each one allowed, and is sound
 pub record IsDone (s : State) (submission : Submission) (t : State) : Type 0 where
@@ -220,6 +224,7 @@ pub record IsCallStep (s : State) (call : Call) (words : ℕ → Done) (answer :
   pub answered : row.answer ≡ row_answer outcome
   pub rejudged : row.rejudged ≡ false
   pub fits : next s row ≡ Some t
+  pub least : AreLeast s row.places
 
 -- the answer to the call is such a step, and the docket has the step's row, at the answer's position
 pub record IsActed (old : Desk) (call : Call) (words : ℕ → Done) (reply : ActReply) (new : Desk) : Type 0 where

@@ -10,6 +10,7 @@ ghost use Rattle.kfs_types.specs.Views.{header_of};
 ghost use Rattle.kfs_desk.specs.History.Legal.{IsLegalDocket};
 ghost use Rattle.kfs_mode.specs.Clients.{ClientsAreDistinct};
 ghost use Rattle.kfs_lease.specs.Faults as refusals;
+ghost use Rattle.kfs_lease.specs.LeaseLists.{AreLawful, HasLawfulLeases};
 ghost use Rattle.kfs_lease.specs.Rows.Rows.{kind_of};
 ghost use Rattle.kfs_image_nodes.specs.Contents.{sight_of};
 ghost use Rattle.kfs_model.specs.Device.ShownTree.{IsLawful, shown_tree};
@@ -21,7 +22,7 @@ ghost use Rattle.kfs_desk.specs.Machine.{AreShown, IsAnswered, IsBackFor, IsCall
 ghost use Rattle.kfs_desk.specs.Docket.{is_rejudged};
 ghost use Rattle.kfs_desk.specs.Opening.{begin_fault};
 
-use crate::back::BeginBack;
+use crate::back::{BeginBack, ResumeBack};
 use crate::docket::{HandedIn, add_act, add_answer, add_moves};
 use crate::fill::LogBytes;
 use crate::first_fault::first_fault;
@@ -86,47 +87,67 @@ impl<A: Allocator + Copy> Desk<A> {
         // The clients' fault; or memory ran out, which may be so with any clients.
         ensures why { IfErr result (λ back. (back.why ≡ BeginFault.OutOfMemory) ⊎ (begin_fault clients.items ≡ Some back.why)) }
     {
+        let none = Leases::new(alloc);
+        match Desk::resume(alloc, image, clients, none, limit) {
+            Ok(desk) => Ok(desk),
+            Err(back) => Err(BeginBack {
+                image: back.image,
+                clients: back.clients,
+                why: back.why,
+            }),
+        }
+    }
+
+    /// Begins a desk that goes on where another one stood: with an image, its clients, and the leases that
+    /// they hold at a moment. The docket is empty, and will have at most `limit` rows.
+    ///
+    /// Refused as `begin` is. Image, clients and leases come back then. Condition: each lease is of one
+    /// of the clients, on a node of the image and live, and no two conflict. Such leases are what
+    /// `Leases::from_rows` answers, and what a desk has.
+    pub fn resume(
+        alloc: A,
+        image: Image<A>,
+        clients: Vec<Client, A>,
+        leases: Leases<A>,
+        limit: u32,
+    ) -> Result<Desk<A>, ResumeBack<A>>
+        requires lawful { AreLawful clients.items (get image.heads) leases }
+        ensures ok { IfOk result (λ desk. desk ≡ opened_at (state_at image clients.items leases) limit) }
+        ensures back { IfErr result (λ back. (back.image ≡ image) × (back.clients ≡ clients) × (back.leases ≡ leases)) }
+        ensures fit { OnOk result (begin_fault clients.items ≡ None) }
+
+        // The clients' fault; or memory ran out, which may be so with any clients.
+        ensures why { IfErr result (λ back. (back.why ≡ BeginFault.OutOfMemory) ⊎ (begin_fault clients.items ≡ Some back.why)) }
+    {
         // Tells the prover that the image is lawful.
         let _shape = image.shape();
         match first_fault(alloc, &clients) {
             Ok(None) => (),
-            Ok(Some(why)) => {
-                return Err(BeginBack {
-                    image,
-                    clients,
-                    why,
-                });
-            }
+            Ok(Some(why)) => return Err(ResumeBack::of(image, clients, leases, why)),
             Err(_) => {
-                return Err(BeginBack {
-                    image,
-                    clients,
-                    why: BeginFault::OutOfMemory,
-                });
+                let why = BeginFault::OutOfMemory;
+                return Err(ResumeBack::of(image, clients, leases, why));
             }
         }
-        let Ok(leases) = Arc::new(alloc, Leases::new(alloc)) else {
-            return Err(BeginBack {
-                image,
-                clients,
-                why: BeginFault::OutOfMemory,
-            });
+        // A copy goes into the `Arc`: what is in one doesn't come back.
+        let Ok(shared) = shared_copy(alloc, &leases) else {
+            let why = BeginFault::OutOfMemory;
+            return Err(ResumeBack::of(image, clients, leases, why));
         };
         match Arc::new(alloc, clients) {
             Ok(clients) => Ok(Desk {
                 alloc,
-                opening: ShownState::of(&image, &clients, &leases),
+                opening: ShownState::of(&image, &clients, &shared),
                 image,
                 clients,
-                leases,
+                leases: shared,
                 docket: Docket::new(),
                 limit,
             }),
-            Err(refused) => Err(BeginBack {
-                image,
-                clients: refused.value,
-                why: BeginFault::OutOfMemory,
-            }),
+            Err(refused) => {
+                let why = BeginFault::OutOfMemory;
+                Err(ResumeBack::of(image, refused.value, leases, why))
+            }
         }
     }
 
@@ -147,6 +168,21 @@ impl<A: Allocator + Copy> Desk<A> {
         ensures in_order { IsInOrder self.now.state }
     {
         &self.image
+    }
+
+    /// The clients, as they were handed in. Takes no memory.
+    pub fn clients(&self) -> &[Client]
+        ensures shown { result.now ≡ self.now.state.clients }
+    {
+        &self.clients
+    }
+
+    /// The leases and the moment now. Takes no memory.
+    pub fn leases(&self) -> &Leases<A>
+        ensures shown { result.now ≡ self.now.state.leases }
+        ensures lawful { HasLawfulLeases self.now.state }
+    {
+        &self.leases
     }
 
     /// The header of a node now, or none where there is no such node. Takes no memory.
@@ -391,6 +427,19 @@ impl<A: Allocator + Copy> Desk<A> {
         ensures room { IsFalse result → length self.now.docket < self.now.limit }
     {
         self.docket.len() == self.limit
+    }
+}
+
+/// A copy of the leases, which shares their rows, to be shared with views.
+fn shared_copy<A: Allocator + Copy>(
+    alloc: A,
+    leases: &Leases<A>,
+) -> Result<Arc<Leases<A>, A>, AllocError>
+    ensures { IfOk result (λ shared. shared.value ≡ leases.now) }
+{
+    match Arc::new(alloc, leases.copy()?) {
+        Ok(shared) => Ok(shared),
+        Err(_) => Err(AllocError),
     }
 }
 

@@ -12,10 +12,12 @@ mod fill;
 mod first_fault;
 #[doc(hidden)]
 pub mod history;
+#[doc(hidden)]
+pub mod laws;
 mod state_change;
 mod verdict;
 
-pub use back::BeginBack;
+pub use back::{BeginBack, ResumeBack};
 pub use desk::Desk;
 pub use history::Docket;
 #[doc(hidden)]

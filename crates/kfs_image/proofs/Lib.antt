@@ -4,7 +4,6 @@ pub mod EmptyFills
 pub mod FilledImages
 mod FreshImage
 mod ReleasedBlocks
-mod HeadersAfter
 pub mod KeptTrees
 pub mod NetTables
 mod ReadFile

@@ -25,7 +25,7 @@ use Rattle.kfs_image.specs.declared.blocks.fill.BlockRun.{BlockRun}
 use Rattle.kfs_image.specs.Blocks.Fill.{is_in, is_in_one, less}
 use Rattle.kfs_image_nodes.specs.Change.{reheaded}
 use Rattle.kfs_image_nodes.specs.NodeEdits.{left_by, IsNumber}
-use Rattle.kfs_image_nodes.proofs.NodeEdits.{rows_left}
+use Rattle.kfs_image_nodes.proofs.NodeEdits.{get-reheaded, rows_left}
 use Rattle.kfs_image.specs.Released.{AreReleased, behind}
 use Rattle.kfs_image.specs.Net.{blocks_in, is_block, cut}
 
@@ -65,19 +65,6 @@ code_of (Some h) = by h.kind
     by : (kind : Kind) → (code : Option CodeHeader) × (option_map header_of code ≡ Some (with_kind kind))
     by File = (Some (code_with kinds.File), refl)
     by Directory = (Some (code_with kinds.Directory), refl)
-
-viewed : (b : Bool) (w o : Option CodeHeader) → option_map header_of (cond b w o) ≡ cond b (option_map header_of w) (option_map header_of o)
-viewed true w o = refl
-viewed false w o = refl
-
--- the headers after the rows
-get-reheaded : (heads : Table numbers Header) (rows : List NodeRow) (q : ℕ) (there : Option CodeHeader) → option_map header_of there ≡ get heads q → get (reheaded heads rows) q ≡ option_map header_of (left_by rows q there)
-get-reheaded heads [] q there same = sym same
-get-reheaded heads (row ∷ rows) q there same =
-    get-reheaded (changed heads row.number (option_map header_of row.now)) rows q (cond (eq_by_cmp nat_cmp q row.number) row.now there)
-    (viewed (eq_by_cmp nat_cmp q row.number) row.now there
-    ∙ ap (cond (eq_by_cmp nat_cmp q row.number) (option_map header_of row.now)) same
-    ∙ sym (get-changed heads row.number (option_map header_of row.now) q))
 
 -- ---- what the edits say of a number
 
@@ -162,7 +149,7 @@ module _ (nodes : List NodeRow) (edits : List (NumberEdit CodeHeader)) (zero : L
         code = code_of (Some h)
 
         after : get (reheaded heads nodes) q ≡ option_map header_of (edited edits q code.0)
-        after = get-reheaded heads nodes q code.0 (code.1 ∙ sym there) ∙ sym (ap (option_map header_of) (says q code.0 within))
+        after = get-reheaded heads nodes q code.0 (there ∙ sym code.1) ∙ sym (ap (option_map header_of) (says q code.0 within))
 
         puts : Puts q test edits → not (list_any (passes q test) edits) ≡ is_block (reheaded heads nodes) (q, block)
         puts put =

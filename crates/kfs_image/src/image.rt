@@ -27,10 +27,10 @@ use crate::edit::{Edit, Parts};
 use crate::net::Fill;
 use crate::raw::{raw_blocks, raw_shape, tell_spelled};
 use crate::read::{ReadFault, released_blocks};
-use kfs_image_nodes::{Answer, Cell, Net, Shape, look};
+use kfs_image_nodes::{Answer, Cell, Net, NodeChanges, Shape, look};
 use kfs_map_chunks::key_edits;
 use kfs_model::device::laws::well_formed_image_is_lawful;
-use kfs_types::{BLOCK_SIZE, Header, Kind, Name, NameRow, NodeRow, TierSizes};
+use kfs_types::{BLOCK_SIZE, Header, Kind, Name, NameRow, TierSizes};
 use std::alloc::{AllocError, Allocator};
 use std::marker::Model;
 use std::ops::Bound;
@@ -129,13 +129,10 @@ impl<A: Allocator + Clone> Image<A> {
             written,
         } = Parts::of(&self.alloc, edits)?;
         let alloc = self.alloc.clone()?;
+        let nodes = NodeChanges::of(&alloc, nodes.as_slice())?;
         let places = key_edits(&alloc, &block_places)?;
-        self.change_all(
-            &alloc,
-            names.as_slice(),
-            nodes.as_slice(),
-            BlockEdits { places, written },
-        )
+        let edits = BlockEdits { places, written };
+        self.change_all(&alloc, names.as_slice(), &nodes, edits)
     }
 
     /// `net_apply`. Pages and chunks that a view shares are copied where they change, and the others
@@ -150,28 +147,31 @@ impl<A: Allocator + Clone> Image<A> {
         ensures ok { OnOk result (self.new ≡ applied net.now fill.now self.old) }
         ensures err { OnErr result (self.new ≡ self.old) }
     {
-        let released = released_blocks(alloc, net.nodes.as_slice(), fill.zero.as_slice())?;
+        let nodes = NodeChanges::of(alloc, net.nodes.as_slice())?;
+        let released = released_blocks(alloc, &nodes, fill.zero.as_slice())?;
         let edits = self
             .blocks
             .copied_edits(released.as_slice(), fill.rows.as_slice())?;
-        self.change_all(alloc, net.names.as_slice(), net.nodes.as_slice(), edits)
+        self.change_all(alloc, net.names.as_slice(), &nodes, edits)
     }
 
-    /// The same, where the fill is given away: no byte of its blocks is copied.
+    /// The same, where the fill is given away: no byte of its blocks is copied. `nodes` are the net's.
     pub(crate) fn change_moving(
         &mut self,
         alloc: &A,
         net: &Net<A>,
+        nodes: &NodeChanges<'_, A>,
         fill: Fill<A>,
     ) -> Result<(), AllocError>
-        requires { CanApply net.now fill self.old }
+        requires nodes { nodes.now ≡ net.now.nodes.items }
+        requires can { CanApply net.now fill self.old }
         ensures ok { OnOk result (self.new ≡ applied net.now fill self.old) }
         ensures err { OnErr result (self.new ≡ self.old) }
     {
         let Fill { rows, zero } = fill;
-        let released = released_blocks(alloc, net.nodes.as_slice(), zero.as_slice())?;
+        let released = released_blocks(alloc, nodes, zero.as_slice())?;
         let edits = self.blocks.moved_edits(released.as_slice(), rows)?;
-        self.change_all(alloc, net.names.as_slice(), net.nodes.as_slice(), edits)
+        self.change_all(alloc, net.names.as_slice(), nodes, edits)
     }
 
     /// Makes the changes of names, of nodes and of blocks: all of them, or none where memory runs out.
@@ -179,7 +179,7 @@ impl<A: Allocator + Clone> Image<A> {
         &mut self,
         alloc: &A,
         names: &[NameRow],
-        nodes: &[NodeRow],
+        nodes: &NodeChanges<'_, A>,
         edits: BlockEdits<A>,
     ) -> Result<(), AllocError>
         requires blocks { CanChange (blocks_of self.old) edits.places.items edits.written.items }
@@ -326,16 +326,13 @@ pub fn header<A: Allocator>(image: &Image<A>, number: u32) -> Option<Header>
     }
 }
 
-/// The header of the node with this number after the rows are made, or none. It goes through all rows.
-/// Takes no memory.
-pub fn header_after<A: Allocator>(image: &Image<A>, rows: &[NodeRow], number: u32) -> Option<Header>
+/// The header of the node with this number after the rows are made, or none. Takes no memory.
+pub fn header_after<A: Allocator>(
+    image: &Image<A>,
+    rows: &NodeChanges<'_, A>,
+    number: u32,
+) -> Option<Header>
     ensures { option_map header_of result ≡ get (reheaded image.now.heads rows.now) number }
 {
-    let mut found = header(image, number);
-    for row in rows {
-        if row.number == number {
-            found = row.now;
-        }
-    }
-    found
+    rows.after(number, header(image, number))
 }

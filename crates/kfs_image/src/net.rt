@@ -4,7 +4,7 @@ ghost use Rattle.kfs_image.specs.Net.{CanApply, applied};
 
 use crate::blocks::{BlockRow, BlockRun};
 use crate::image::Image;
-use kfs_image_nodes::Net;
+use kfs_image_nodes::{Net, NodeChanges};
 use std::alloc::{AllocError, Allocator};
 
 /// The change of a landing to the blocks of files.
@@ -48,16 +48,19 @@ pub fn net_apply<A: Allocator + Clone>(
     image.change(&alloc, net, fill)
 }
 
-/// `net_apply`, where the fill is given away: no byte of its blocks is copied.
+/// `net_apply`, where the fill is given away: no byte of its blocks is copied. The new headers of the
+/// net's rows are made already.
 pub fn net_apply_moving<A: Allocator + Clone>(
     alloc: A,
     image: &mut Image<A>,
     net: &Net<A>,
+    nodes: &NodeChanges<'_, A>,
     fill: Fill<A>,
 ) -> Result<(), AllocError>
-    requires { CanApply net.now fill image.old }
+    requires nodes { nodes.now ≡ net.now.nodes.items }
+    requires can { CanApply net.now fill image.old }
     ensures ok { OnOk result (image.new ≡ applied net.now fill image.old) }
     ensures err { OnErr result (image.new ≡ image.old) }
 {
-    image.change_moving(&alloc, net, fill)
+    image.change_moving(&alloc, net, nodes, fill)
 }

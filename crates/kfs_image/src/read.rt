@@ -9,9 +9,9 @@ ghost use Rattle.kfs_image.specs.Net.{blocks_in};
 
 use crate::blocks::BlockRun;
 use crate::image::Image;
-use kfs_image_nodes::header_edits;
+use kfs_image_nodes::NodeChanges;
 use kfs_map_pages::NumberEdit;
-use kfs_types::{BLOCK_SIZE, Header, Kind, NodeRow};
+use kfs_types::{BLOCK_SIZE, Header, Kind};
 use std::alloc::{AllocError, Allocator};
 use thiserror::Error;
 
@@ -50,13 +50,12 @@ pub fn read_file<A: Allocator>(
 /// it is no longer a file; and the runs that become zero.
 pub(crate) fn released_blocks<A: Allocator + Clone>(
     alloc: &A,
-    nodes: &[NodeRow],
+    nodes: &NodeChanges<'_, A>,
     zero: &[BlockRun],
 ) -> Result<Vec<BlockRun, A>, AllocError>
     ensures { IfOk result (λ released. AreReleased nodes.now zero.now released.items) }
 {
-    let edits = header_edits(alloc, nodes)?;
-    let mut released = blocks_behind(alloc, edits.as_slice())?;
+    let mut released = blocks_behind(alloc, nodes.headers())?;
     released.extend_from_slice(zero)?;
     Ok(released)
 }

@@ -1,5 +1,6 @@
 pub mod Counts
 pub mod EditedRows
+pub mod EditAt
 mod FreshRows
 pub mod HeaderPages
 pub mod Holders
@@ -9,4 +10,5 @@ pub mod NameEdits
 pub mod NameOrder
 pub mod NextNames
 pub mod NodeEdits
+mod RowsAfter
 pub mod SortedRows

@@ -146,7 +146,7 @@ viewed true w o = refl
 viewed false w o = refl
 
 -- the headers after the rows
-get-reheaded : (heads : Table numbers Header) (rows : List NodeRow) (q : ℕ) (there : Option CodeHeader) → get heads q ≡ option_map header_of there → get (reheaded heads rows) q ≡ option_map header_of (left_by rows q there)
+pub get-reheaded : (heads : Table numbers Header) (rows : List NodeRow) (q : ℕ) (there : Option CodeHeader) → get heads q ≡ option_map header_of there → get (reheaded heads rows) q ≡ option_map header_of (left_by rows q there)
 get-reheaded heads [] q there same = same
 get-reheaded heads (row ∷ rows) q there same =
     get-reheaded (changed heads row.number (option_map header_of row.now)) rows q (cond (eq_by_cmp nat_cmp q row.number) row.now there)

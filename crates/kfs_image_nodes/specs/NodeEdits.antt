@@ -7,6 +7,7 @@ use Rattle.kfs_model.specs.Header.{Header}
 use Rattle.kfs_model.specs.Limits.{greatest_number}
 use Rattle.kfs_model.specs.Table.{Table, numbers, get}
 use Rattle.kfs_map_pages.specs.declared.change.NumberEdit.{NumberEdit}
+use Rattle.kfs_map_pages.specs.Edits.{edited, AreEdits}
 
 -- the header of a number after the rows, given its header before
 abbrev pub left_by : List NodeRow → ℕ → Option CodeHeader → Option CodeHeader
@@ -20,6 +21,11 @@ node_edit row = record { number = row.number; value = row.now }
 -- pages have this number: it is 1 to 65,536
 abbrev pub IsNumber : ℕ → Type 0
 IsNumber number = (1 ≤ number) × (number ≤ greatest_number)
+
+-- the edits ascend, and leave of each number that pages have what the rows leave of it
+pub record AreHeaderEdits (rows : List NodeRow) (edits : List (NumberEdit CodeHeader)) : Type 0 where
+  pub are : AreEdits edits
+  pub says : (q : ℕ) (there : Option CodeHeader) → IsNumber q → edited edits q there ≡ left_by rows q there
 
 -- each node has such a number
 abbrev pub AreNumbered : Table numbers Header → Type 0

@@ -3,7 +3,7 @@ ghost use Rattle.std.specs.Prelude.{◌≡◌, ℕ, Option, IfOk, IfSome, map};
 ghost use Rattle.std.specs.Ordering.{nat_cmp};
 ghost use Rattle.std.specs.BTreeMap.{get};
 ghost use Rattle.kfs_map_pages.specs.Edits.{edited, AreEdits};
-ghost use Rattle.kfs_image_nodes.specs.NodeEdits.{left_by, node_edit, IsNumber};
+ghost use Rattle.kfs_image_nodes.specs.NodeEdits.{left_by, node_edit, AreHeaderEdits, IsNumber};
 ghost use Rattle.kfs_map_chunks.specs.Overlays.{said_or};
 
 use crate::name_edits::number_edits;
@@ -11,10 +11,86 @@ use kfs_map_chunks::Overlay;
 use kfs_map_pages::NumberEdit;
 use kfs_types::{GREATEST_NUMBER, Header, NodeRow};
 use std::alloc::{AllocError, Allocator};
+use std::marker::Model;
+
+/// Node rows, with the new headers that they make. All that a change of nodes asks of its rows is
+/// answered from these, so they are made once. Contracts see the rows.
+#[derive(Drop)]
+pub struct NodeChanges<'a, A: Allocator> {
+    rows: &'a [NodeRow],
+    edits: Vec<NumberEdit<Header>, A>,
+}
+
+impl<'a, A: Allocator> Model for NodeChanges<'a, A> {
+    ghost use Rattle.std.specs.Prelude.{List};
+    ghost use Rattle.kfs_types.specs.declared.plan.NodeRow.{NodeRow};
+    ghost use Rattle.kfs_image_nodes.specs.NodeEdits.{AreHeaderEdits};
+
+    ghost Value = { List NodeRow };
+
+    ghost view = { λ n. n.rows.now };
+
+    ghost invariant = { λ n. AreHeaderEdits n.rows.now n.edits.items };
+}
+
+impl<'a, A: Allocator + Clone> NodeChanges<'a, A> {
+    /// The rows, made one after another. `Err` where memory runs out.
+    pub fn of(alloc: &A, rows: &'a [NodeRow]) -> Result<NodeChanges<'a, A>, AllocError>
+        ensures { IfOk result (λ edits. edits ≡ rows.now) }
+    {
+        let edits = header_edits(alloc, rows)?;
+        Ok(NodeChanges { rows, edits })
+    }
+}
+
+impl<'a, A: Allocator> NodeChanges<'a, A> {
+    /// The new headers, ascending by number. Takes no memory.
+    pub fn headers(&self) -> &[NumberEdit<Header>]
+        ensures { AreHeaderEdits self.now result.now }
+    {
+        self.edits.as_slice()
+    }
+
+    /// The header of a node after the rows, where it is `before` before them. Takes no memory.
+    pub fn after(&self, number: u32, before: Option<Header>) -> Option<Header>
+        ensures { result ≡ left_by self.now number before }
+    {
+        if 1 <= number && number <= GREATEST_NUMBER {
+            by_edits(self.edits.as_slice(), number, before)
+        } else {
+            by_rows(self.rows, number, before)
+        }
+    }
+}
+
+/// The header of a node after edits of headers, which ascend, found by binary search.
+fn by_edits(edits: &[NumberEdit<Header>], number: u32, before: Option<Header>) -> Option<Header>
+    requires { AreEdits edits.now }
+    ensures { result ≡ edited edits.now number before }
+{
+    let place = edits.partition_point(|edit| edit.number < number);
+    match edits.get(place) {
+        Some(edit) if edit.number == number => edit.value,
+        _ => before,
+    }
+}
+
+/// The header of a node after the rows, one after another.
+fn by_rows(rows: &[NodeRow], number: u32, before: Option<Header>) -> Option<Header>
+    ensures { result ≡ left_by rows.now number before }
+{
+    let mut found = before;
+    for row in rows {
+        if row.number == number {
+            found = row.now;
+        }
+    }
+    found
+}
 
 /// The new headers that the rows make, row after row, ascending by number. Rows with numbers that no
 /// node can have are left out. `Err` where memory runs out.
-pub fn header_edits<A: Allocator + Clone>(
+fn header_edits<A: Allocator + Clone>(
     alloc: &A,
     nodes: &[NodeRow],
 ) -> Result<Vec<NumberEdit<Header>, A>, AllocError>

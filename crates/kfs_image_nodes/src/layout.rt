@@ -16,10 +16,11 @@ ghost use Rattle.kfs_image_nodes.specs.SortedRows.{name_entries};
 ghost use Rattle.kfs_map_chunks.specs.Tables.{table};
 
 use crate::cell::{Answer, Cell};
+use crate::edits::NodeChanges;
 use crate::rows::{NodeTables, name_key};
 use kfs_map_chunks::Near;
 use kfs_map_pages::{Page, Pages};
-use kfs_types::{Change, GREATEST_MODE_OF_VERSION_1, Header, Kind, Name, NameRow, NodeRow, ROOT};
+use kfs_types::{Change, GREATEST_MODE_OF_VERSION_1, Header, Kind, Name, NameRow, ROOT};
 use std::alloc::{AllocError, Allocator};
 use std::marker::Model;
 
@@ -172,7 +173,7 @@ impl<A: Allocator + Clone> Shape<A> {
         &mut self,
         alloc: &A,
         names: &[NameRow],
-        nodes: &[NodeRow],
+        nodes: &NodeChanges<'_, A>,
         then: &mut T,
     ) -> Result<(), AllocError>
         requires before { FitPages self.old.heads self.old.names }

@@ -15,7 +15,7 @@ mod sorted_rows;
 mod tallies;
 
 pub use cell::{Answer, Cell};
-pub use edits::header_edits;
+pub use edits::NodeChanges;
 pub use header_page::HeaderPage;
 pub use kfs_map_chunks::Near;
 pub use kfs_map_pages::Page;

@@ -17,12 +17,12 @@ ghost use Rattle.kfs_image_nodes.specs.NodeEdits.{IsNumber};
 ghost use Rattle.kfs_image_nodes.specs.Rows.{heads_in, names_in, CountsAreExact, FitPages};
 ghost use Rattle.kfs_image_nodes.specs.SortedRows.{name_entries};
 
-use crate::edits::header_edits;
+use crate::edits::NodeChanges;
 use crate::name_edits::{NameEdits, name_edits};
 use crate::sorted_rows::{NameCounts, counts_of, names_of};
 use kfs_map_chunks::{Chunks, EditChunks, Near};
 use kfs_map_pages::{EditPages, NumberEdit, Pages};
-use kfs_types::{Change, Header, Name, NameRow, NodeRow, Nothing};
+use kfs_types::{Change, Header, Name, NameRow, Nothing};
 use std::alloc::{AllocError, Allocator};
 use std::ops::Bound;
 
@@ -261,7 +261,7 @@ impl<A: Allocator + Clone> NodeTables<A> {
         &mut self,
         alloc: &A,
         names: &[NameRow],
-        nodes: &[NodeRow],
+        nodes: &NodeChanges<'_, A>,
         then: &mut T,
     ) -> Result<(), AllocError>
         requires indexed { CountsAreExact self.old }
@@ -275,9 +275,8 @@ impl<A: Allocator + Clone> NodeTables<A> {
         ensures made { OnOk result (T.made then.old then.new) }
         ensures kept { OnErr result (T.kept then.old then.new) }
     {
-        let headers = header_edits(alloc, nodes)?;
         let edits = name_edits(alloc, &self.names, &self.counts, &self.uplinks, names)?;
-        self.change(headers.as_slice(), &edits, then)
+        self.change(nodes.headers(), &edits, then)
     }
 }
 

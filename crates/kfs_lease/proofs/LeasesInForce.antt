@@ -50,7 +50,7 @@ module _ (leases : Leases) (in_force : AreInForce leases) where
           by true is there = live_still client number lease is there
           by false is there = cc
 
-  in_force-fewer : (stays : ℕ × ℕ → Bool) → AreInForce (lease_at (retain stays leases.rows) leases.moment)
+  pub in_force-fewer : (stays : ℕ × ℕ → Bool) → AreInForce (lease_at (retain stays leases.rows) leases.moment)
   in_force-fewer stays = in_force-retain stays leases.moment (omega arith) (λ client number lease is has. in_force.live client number lease has)
 
   pub in_force-remove : (key : ℕ × ℕ) → AreInForce (lease_at (remove leases.rows key) leases.moment)

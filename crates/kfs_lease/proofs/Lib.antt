@@ -1,6 +1,7 @@
 pub mod Grants
 pub mod LeasesInForce
+pub mod ListLemmas
 pub mod PathParts
 pub mod PathSteps
-pub mod WriterLeases
 pub mod RowsLemmas
+pub mod WriterLeases

@@ -1,6 +1,9 @@
 pub mod Faults
 pub mod InForce
+pub mod LeaseLists
+pub mod OfClients
 pub mod Paths
 pub mod Removed
-pub mod Writer
 pub mod Rows
+pub mod ShownLists
+pub mod Writer

@@ -9,6 +9,7 @@ ghost use Rattle.kfs_lease.specs.Rows.Rows.{kind_of};
 ghost use Rattle.kfs_lease.specs.Removed.{without_nodes_in};
 ghost use Rattle.kfs_lease.specs.declared.leases.LeaseFault.TheVariants.{OutOfMemory};
 
+mod listed;
 mod writer;
 
 use crate::path::{names_of, walk};
@@ -16,6 +17,7 @@ use crate::rows::{Lease, LeaseKind, LeaseRows};
 use kfs_image_nodes::Shape;
 use kfs_mode::{Client, find_client};
 use kfs_types::Change;
+pub use listed::{LeaseRow, LeaseRowFault};
 use std::alloc::{AllocError, AllocFailed, Allocator};
 use std::marker::Model;
 use thiserror::Error;

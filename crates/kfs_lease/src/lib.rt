@@ -5,10 +5,12 @@
 #![tactic(auto)]
 
 mod act;
+#[doc(hidden)]
+pub mod laws;
 mod leases;
 mod path;
 mod rows;
 
 pub use act::Act;
-pub use leases::{LeaseFault, Leases};
+pub use leases::{LeaseFault, LeaseRow, LeaseRowFault, Leases};
 pub use rows::LeaseKind;

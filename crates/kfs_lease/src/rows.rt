@@ -5,3 +5,4 @@ mod rows;
 mod walk;
 
 pub use self::rows::{Lease, LeaseKind, LeaseRows};
+pub(crate) use self::walk::next_row;

@@ -6,7 +6,7 @@ use Rattle.kfs_program_text.specs.Streams.{Exchanges}
 use Rattle.kfs_program.specs.Images.Showing.{AnswersImage, Passes, Shows, bytes_said}
 use Rattle.kfs_program.specs.Engine.Transcript.{LineIsShort}
 use Rattle.kfs_program.specs.declared.sessions.fault.EngineFault.{EngineFault}
-use Rattle.kfs_program.specs.declared.sessions.fault.EngineFault.TheVariants.{ReadFault, WriteFault, LongLine, OutOfMemory}
+use Rattle.kfs_program.specs.declared.sessions.fault.EngineFault.TheVariants.{WriteFault, OutOfMemory}
 use Rattle.kfs_program.specs.Lines.{AreFirstLines, IsUnreadable}
 use Rattle.kfs_program.specs.Planning.{SaysOfPlan, WantsForPlan}
 use Rattle.kfs_program.specs.declared.answer.LineWord.{LineWord}

@@ -1,5 +1,6 @@
 pub mod Cut
 pub mod Decimals
+pub mod Digits
 pub mod HeldOutput
 pub mod Parts
 pub mod Reading

@@ -5,6 +5,7 @@
 //! `kfs_program` stand on it. Begin with `words.rt`.
 #![tactic(auto)]
 
+mod digits;
 mod fault;
 mod held;
 pub mod parts;

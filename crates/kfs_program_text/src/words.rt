@@ -1,12 +1,11 @@
-//! The words of a command line: names, decimal numbers, hexadecimal text. Where a byte stands. Bytes in
-//! hexadecimal.
+//! The words of a command line: names, decimal numbers, hexadecimal text. Where a byte stands.
 ghost use Rattle.std.specs.Prelude.{◌≡◌, ◌==◌, ◌≤◌, [], ◌∷◌, ◌++◌, Some, option_map, position, take, IfOk, ◌*◌, ℕ, length, Ok, IsErr, IsTrue, IsFalse, MatchOption};
 ghost use Rattle.std.specs.List.{list_all};
 ghost use Rattle.kfs_program_text.specs.Cut.{cut, space};
 ghost use Rattle.kfs_program_text.specs.Decimals.{decimal32, decimal64, decimal_within, decimals32, hexadecimal, is_digit};
 ghost use Rattle.kfs_program_text.specs.Reading.{ReadsAs, ReadsExactly, ended, first_by, only, words_left};
-ghost use Rattle.hex.specs.Hex.{decode_pairs, hex_digit_value, pair_value};
 
+use crate::digits::decode_into;
 use arrayvec::ArrayVec;
 use memchr::memchr;
 use std::alloc::{AllocError, AllocFailed, Allocator};
@@ -211,40 +210,4 @@ pub(crate) fn first_place(byte: u8, bytes: &[u8]) -> Option<usize>
     ensures { result ≡ position (λ other. other == byte) bytes.now }
 {
     memchr(byte, bytes)
-}
-
-/// The value of a digit, in either case; none where it isn't one. Of most digits the first test tells
-/// it.
-fn digit_value(digit: u8) -> Option<u8>
-    ensures { result ≡ hex_digit_value digit }
-{
-    match digit {
-        b'0'..=b'9' => Some(digit - b'0'),
-        b'a'..=b'f' => Some(digit - b'a' + 10),
-        b'A'..=b'F' => Some(digit - b'A' + 10),
-        _ => None,
-    }
-}
-
-/// The byte of two digits; none where one of them isn't a digit.
-fn pair(high: u8, low: u8) -> Option<u8>
-    ensures { (i : ℕ) → MatchOption result (IsErr (pair_value high low i)) (λ byte. pair_value high low i ≡ Ok byte) }
-{
-    Some(digit_value(high)? * 16 + digit_value(low)?)
-}
-
-/// Puts the bytes that the digits stand for into the slice. Answers whether all are digits. Condition: there
-/// are two digits for each byte.
-pub(crate) fn decode_into(digits: &[u8], out: &mut [u8]) -> bool
-    requires { length digits.now ≡ 2 * length out.old }
-    ensures yes { IsTrue result → decode_pairs 0 digits.now ≡ Ok out.new }
-    ensures no { IsFalse result → IsErr (decode_pairs 0 digits.now) }
-{
-    'bytes: for i in 0..out.len() {
-        let Some(byte) = pair(digits[2 * i], digits[2 * i + 1]) else {
-            return false;
-        };
-        out[i] = byte;
-    }
-    true
 }

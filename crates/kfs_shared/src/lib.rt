@@ -1,11 +1,12 @@
 //! A desk that threads share: each holds a pass, and their calls take turns with the desk. And batches:
 //! submissions that up to eight workers judge and land, each in a thread of its own.
 //!
-//! A call draws a ticket and waits until that is served. Then it takes the desk out of the table, makes
-//! one call of the desk, puts it back, and passes the turn on. Views are judged with no turn held.
+//! A call waits at the door while enough tickets are out. It draws a ticket and waits until that is
+//! served. Then it takes the desk out of the table, makes one call of the desk, puts it back, and passes
+//! the turn on. Views are judged with no turn held.
 //!
 //! It stands on `kfs_desk`; `kfs_workers` shows it. Begin with `Shared::land` in `land.rt`, then
-//! `seats.rt`, which has the steps of a turn. `turns` has the rule that each step keeps, `crew` the
+//! `seats.rt`, which has the steps of a turn, and `door.rt`, which says who sleeps and who wakes. `turns` has the rule that each step keeps, `crew` the
 //! workers, and `batch` the batches.
 #![tactic(auto)]
 
@@ -14,6 +15,7 @@ mod batch;
 mod crew;
 mod desk;
 mod docketed;
+mod door;
 mod land;
 mod landings;
 mod pass;

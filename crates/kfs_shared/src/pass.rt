@@ -15,7 +15,7 @@ use std::snapshot::Snapshot;
 #[derive(Drop)]
 pub struct Shared<D: Docketed, A: Allocator> {
     pub(crate) table: Table<Option<D>, Known<D, D::Opening, D::Row>, Snapshot<D>, Turns, A>,
-    ghost sized: { (table.shared.table_id.words ≡ 3) × (table.shared.table_id.slots ≡ 1) },
+    ghost sized: { (table.shared.table_id.words ≡ 12) × (table.shared.table_id.slots ≡ 1) },
 }
 
 /// The right of one caller to call a shared object. At run time it has one number, of the rows that it

@@ -49,6 +49,15 @@ impl<D: Docketed> Play<Option<D>, Known<D, D::Opening, D::Row>> for PassOn {
     ghost then = { TellsPassing };
 }
 
+/// Marks a word on which calls sleep, or takes the mark away.
+pub struct Mark;
+
+impl<D: Docketed> Play<Option<D>, Known<D, D::Opening, D::Row>> for Mark {
+    ghost use Rattle.kfs_shared.specs.Turns.Told.{TellsNothing};
+
+    ghost then = { TellsNothing };
+}
+
 /// Sees the docket with no turn.
 pub struct Glance;
 

@@ -7,6 +7,7 @@ ghost use Rattle.kfs_shared.specs.Turns.Told.{IsOut};
 ghost use Rattle.kfs_shared.specs.Turns.Turns.{SeatFits};
 
 use crate::docketed::Docketed;
+use crate::door::{bell_of, linger, mark, pass_door, wake};
 use crate::plays::{Add, Count, Draw, PassOn, Watch};
 use crate::rule::{PassSeat, TurnTable};
 use crate::turns::{LENGTH, NEXT, TURN};
@@ -35,8 +36,8 @@ fn draw<D: Docketed, R: Wait>(rt: &R, table: &TurnTable<D>, seat: &mut PassSeat<
     unreachable!()
 }
 
-/// Waits until the ticket is served. It sleeps while the turn is another's; whoever passes the turn on
-/// wakes it. The slot is the seat's then.
+/// Waits until the ticket is served. It looks for a short while, if it is among the next. Then it sleeps
+/// on the word of its ticket, which whoever passes the turn to it wakes. The slot is the seat's then.
 fn await_turn<D: Docketed, R: Wait>(
     rt: &R,
     table: &TurnTable<D>,
@@ -48,12 +49,23 @@ fn await_turn<D: Docketed, R: Wait>(
     ensures same { (seat.new.table_id ≡ seat.old.table_id) × (seat.new.id ≡ seat.old.id) }
     ensures out { (d : D) × IsOut D.opening D.rows D.stands seat.old.me.0 ticket d seat.new.me }
 {
+    let bell = bell_of(ticket);
     for _ in rt.forever() {
+        linger(table, ticket);
         let turn = table.load::<Watch>(seat, TURN);
         if turn == ticket {
             return;
         }
-        table.park(rt, TURN, (turn & 0xffff_ffff) as u32);
+        let marked = mark(table, seat, bell);
+        // The turn is read behind the mark. Where it isn't this ticket yet, it is passed to it later, and
+        // whoever does that looks at the word behind it (`wake`). There it finds the mark, or another call
+        // has taken it away and is waking. Either way the word has changed by then: this call doesn't
+        // sleep, or is woken.
+        let again = table.load::<Watch>(seat, TURN);
+        if again == ticket {
+            return;
+        }
+        table.park(rt, bell, marked);
     }
     unreachable!()
 }
@@ -96,8 +108,8 @@ fn take<D: Docketed, R: Wait>(
     take_out(table, seat)
 }
 
-/// The first half of a call: takes a ticket, waits until it is served, and takes the object out. None
-/// where there is no ticket left; nothing has changed then.
+/// The first half of a call: passes the door, takes a ticket, waits until it is served, and takes the
+/// object out. None where there is no ticket left; nothing has changed then.
 ///
 /// Give the object back in every case (`give_back`), so return nothing early in between.
 pub fn enter<D: Docketed, R: Wait>(
@@ -116,6 +128,7 @@ pub fn enter<D: Docketed, R: Wait>(
     ensures legal { IfSome result (λ d. D.legal (D.opening d) (D.rows d)) }
     ensures none { IfNone result (seat.new.me ≡ (at_end seat.old.me.0, [])) }
 {
+    pass_door(rt, table, seat);
     let ticket = draw(rt, table, seat)?;
     Some(take(rt, table, seat, ticket))
 }
@@ -137,8 +150,8 @@ fn add<D: Docketed>(table: &TurnTable<D>, seat: &mut PassSeat<D>, object: D, cou
     full.unwrap()
 }
 
-/// The second half of a call: puts the object back, passes the turn on, and wakes those who wait, where
-/// somebody may. Answers how many rows there are.
+/// The second half of a call: puts the object back, passes the turn on, and wakes who sleeps and is to go
+/// on. Answers how many rows there are.
 pub fn give_back<D: Docketed>(table: &TurnTable<D>, seat: &mut PassSeat<D>, object: D) -> u64
     requires table { SeatFits table.now.table_id seat.old.table_id }
     requires turn { HasCounted seat.old.me.0.stage }
@@ -154,12 +167,7 @@ pub fn give_back<D: Docketed>(table: &TurnTable<D>, seat: &mut PassSeat<D>, obje
         Some(_) => unreachable!(),
     }
     let turn = table.fetch_add::<PassOn>(seat, TURN, 1);
-    // All steps on the words stand in one order. Where the next ticket is the new turn, each earlier one
-    // has been served, and nobody sleeps. Who draws the next ticket reads the turn after the step above,
-    // and finds it to be its own. Who draws one after that is woken by a call before it.
-    if table.peek(NEXT) != turn.wrapping_add(1) {
-        table.wake_all(TURN);
-    }
+    wake(table, seat, turn.wrapping_add(1));
     u64::from(rows)
 }
 

@@ -31,7 +31,12 @@ impl<D: Docketed, A: Allocator + Copy> Shared<D, A> {
             return Err(object);
         }
         slots.push_reserved(Some(object));
-        match Table::new(alloc, &[rows, first, first], slots, &about) {
+        match Table::new(
+            alloc,
+            &[rows, first, first, 0, 0, 0, 0, 0, 0, 0, 0, 0],
+            slots,
+            &about,
+        ) {
             Ok((table, seat)) => Ok((Shared { table }, Pass { seat, rows })),
             Err(refused) => Err(only(refused.slots)),
         }

@@ -9,4 +9,4 @@ mod known;
 mod words;
 
 pub use self::known::{Known, Stage};
-pub use self::words::{LENGTH, NEXT, TURN};
+pub use self::words::{BELLS, DOOR, LENGTH, NEXT, TURN};

@@ -6,6 +6,7 @@ ghost use Rattle.kfs_image.specs.Net.{CanApply, after_net};
 use crate::edits::block_bytes;
 use crate::fits::{block_count, is_place_free};
 use kfs_image::{BlockRow, Fill, Image, Net, Place, header_after};
+use kfs_image_nodes::NodeChanges;
 use kfs_types::BLOCK_LEN;
 use std::alloc::{AllocError, Allocator};
 
@@ -39,7 +40,10 @@ pub fn fill_of_two<A: Allocator + Copy>(alloc: A, image: &Image<A>, net: &Net<A>
     if !is_free || !is_other_free || bytes.len() != BLOCK_LEN || later.len() != BLOCK_LEN {
         return None;
     }
-    if block_count(header_after(image, net.nodes.as_slice(), 5)) <= 1 {
+    let Ok(nodes) = NodeChanges::of(&alloc, net.nodes.as_slice()) else {
+        return None;
+    };
+    if block_count(header_after(image, &nodes, 5)) <= 1 {
         return None;
     }
     let first = BlockRow {

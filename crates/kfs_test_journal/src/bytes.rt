@@ -3,6 +3,7 @@ ghost use Rattle.kfs_journal.specs.Disk.{Only};
 ghost use Rattle.kfs_journal.specs.Journal.{AreEmpty};
 ghost use Rattle.kfs_journal.specs.Memory.{memory_seen, memory_may_leave};
 
+use crate::run::{are_groups, disk_of};
 use kfs_journal::{Journal, JournalFault, MemoryDisk, Opened};
 use std::alloc::Global;
 use std::process::Abort;
@@ -53,7 +54,7 @@ fn are_put(alloc: Global, changes: bool, second: &[u8]) -> bool {
 
 /// What files with these bytes are opened as.
 fn opened(alloc: Global, first: &[u8], second: &[u8]) -> Option<Opened<Global>> {
-    let mut disk = MemoryDisk::new(alloc, first.to_vec(alloc).ok()?, second.to_vec(alloc).ok()?);
+    let mut disk = disk_of(alloc, first, second)?;
     Journal::open(alloc, &mut disk, first, second).ok()?
 }
 
@@ -61,12 +62,7 @@ fn opened(alloc: Global, first: &[u8], second: &[u8]) -> Option<Opened<Global>> 
 fn is_opened(alloc: Global, files: (&[u8], &[u8]), state: &[u8], groups: usize) -> bool {
     match opened(alloc, files.0, files.1) {
         Some(opened) => {
-            opened.state.as_slice() == state
-                && opened.groups.len() == groups
-                && opened
-                    .groups
-                    .iter()
-                    .all(|group| group.as_slice() == b"c".as_slice())
+            opened.state.as_slice() == state && are_groups(&opened.groups, groups, b"c")
         }
         None => false,
     }
@@ -74,7 +70,7 @@ fn is_opened(alloc: Global, files: (&[u8], &[u8]), state: &[u8], groups: usize) 
 
 /// The fault of a change of state after the last number.
 fn change_of_last(alloc: Global) -> Option<JournalFault> {
-    let mut disk = MemoryDisk::new(alloc, LAST.to_vec(alloc).ok()?, Vec::new(alloc));
+    let mut disk = disk_of(alloc, &LAST, &[])?;
     let found = Journal::open(alloc, &mut disk, &LAST, &[]).ok()?;
     let mut opened = found?;
     opened.journal.change(alloc, &mut disk, b"y").err()

@@ -5,6 +5,7 @@ ghost use Rattle.kfs_journal.specs.Disk.{Only};
 ghost use Rattle.kfs_journal.specs.Journal.{AreEmpty};
 ghost use Rattle.kfs_journal_files.specs.Events.{seen_after, Leaves};
 
+use crate::run::are_groups;
 use kfs_journal::{Journal, JournalFault};
 use kfs_journal_files::{
     FIRST_NAME, FilesFault, OpenedFiles, Pair, RawDisk, SECOND_NAME, create_files, open_files,
@@ -58,6 +59,31 @@ fn makes_folder(rt: &HostRuntime, folder: &str) -> bool {
     fs::create_dir(rt, folder).is_ok()
 }
 
+/// Whether a folder goes, with all that is in it.
+fn is_removed(rt: &HostRuntime, folder: &str) -> bool {
+    fs::remove_dir_all(rt, folder).is_ok()
+}
+
+/// Whether a file has these bytes alone now.
+fn is_written(rt: &HostRuntime, path: &str, bytes: &[u8]) -> bool {
+    fs::write(rt, path, bytes).is_ok()
+}
+
+/// Whether a path is a link to the target now.
+fn is_linked(rt: &HostRuntime, target: &str, path: &str) -> bool {
+    symlink(rt, target, path).is_ok()
+}
+
+/// Whether a folder takes the place of a file.
+fn is_folder_in_place_of(rt: &HostRuntime, path: &str) -> bool {
+    fs::remove_file(rt, path).is_ok() && fs::create_dir(rt, path).is_ok()
+}
+
+/// Whether a file has two names now.
+fn is_named_twice(rt: &HostRuntime, path: &str, other: &str) -> bool {
+    fs::hard_link(rt, path, other).is_ok()
+}
+
 /// Makes the files of a journal with a state and a group.
 fn put(alloc: Global, disk: &mut RawDisk<Pair>) -> Result<(), JournalFault>
     requires empty { AreEmpty (seen_after disk.old.told.events) }
@@ -81,12 +107,7 @@ fn is_found(alloc: Global, opened: &mut OpenedFiles) -> bool
 {
     match Journal::open(alloc, &mut opened.disk, &opened.first, &opened.second) {
         Ok(Some(found)) => {
-            found.state.as_slice() == b"state".as_slice()
-                && found.groups.len() == 1
-                && found
-                    .groups
-                    .iter()
-                    .all(|group| group.as_slice() == b"group".as_slice())
+            found.state.as_slice() == b"state".as_slice() && are_groups(&found.groups, 1, b"group")
         }
         _ => false,
     }
@@ -122,7 +143,7 @@ fn a_journal_is_made_and_found_again(rt: HostRuntime) {
     assert_eq!(&rt; mode(&rt, "kfs_test_journal_found/first.kdjl"), 0o600);
     assert_eq!(&rt; mode(&rt, "kfs_test_journal_found/second.kdjl"), 0o600);
     assert!(&rt; FIRST_NAME == "first.kdjl" && SECOND_NAME == "second.kdjl");
-    assert!(&rt; fs::remove_dir_all(&rt, folder).is_ok());
+    assert!(&rt; is_removed(&rt, folder));
 }
 
 #[test]
@@ -130,10 +151,10 @@ fn files_that_are_not_there_are_missing(rt: HostRuntime) {
     let folder = "kfs_test_journal_missing";
     assert!(&rt; makes_folder(&rt, folder));
     assert_eq!(&rt; open_end(&rt, folder), End::Missing);
-    assert!(&rt; fs::write(&rt, "kfs_test_journal_missing/first.kdjl", b"").is_ok());
+    assert!(&rt; is_written(&rt, "kfs_test_journal_missing/first.kdjl", b""));
     assert_eq!(&rt; open_end(&rt, folder), End::Missing);
     assert_eq!(&rt; create_end(&rt, folder), End::Exists);
-    assert!(&rt; fs::remove_dir_all(&rt, folder).is_ok());
+    assert!(&rt; is_removed(&rt, folder));
     assert_eq!(&rt; create_end(&rt, folder), End::Missing);
 }
 
@@ -141,38 +162,37 @@ fn files_that_are_not_there_are_missing(rt: HostRuntime) {
 fn a_second_file_that_is_there_leaves_no_first_one(rt: HostRuntime) {
     let folder = "kfs_test_journal_second";
     assert!(&rt; makes_folder(&rt, folder));
-    assert!(&rt; symlink(&rt, "nowhere", "kfs_test_journal_second/second.kdjl").is_ok());
+    assert!(&rt; is_linked(&rt, "nowhere", "kfs_test_journal_second/second.kdjl"));
     assert_eq!(&rt; create_end(&rt, folder), End::Exists);
     assert_eq!(&rt; mode(&rt, "kfs_test_journal_second/first.kdjl"), 0);
-    assert!(&rt; fs::remove_dir_all(&rt, folder).is_ok());
+    assert!(&rt; is_removed(&rt, folder));
 }
 
 #[test]
 fn links_and_folders_are_no_regular_files(rt: HostRuntime) {
     let folder = "kfs_test_journal_links";
     assert!(&rt; makes_folder(&rt, folder));
-    assert!(&rt; fs::write(&rt, "kfs_test_journal_links/other", b"kept").is_ok());
-    assert!(&rt; symlink(&rt, "other", "kfs_test_journal_links/first.kdjl").is_ok());
+    assert!(&rt; is_written(&rt, "kfs_test_journal_links/other", b"kept"));
+    assert!(&rt; is_linked(&rt, "other", "kfs_test_journal_links/first.kdjl"));
     assert_eq!(&rt; create_end(&rt, folder), End::Exists);
-    assert!(&rt; fs::write(&rt, "kfs_test_journal_links/second.kdjl", b"").is_ok());
+    assert!(&rt; is_written(&rt, "kfs_test_journal_links/second.kdjl", b""));
     assert_eq!(&rt; open_end(&rt, folder), End::NotRegular);
-    assert!(&rt; fs::remove_file(&rt, "kfs_test_journal_links/first.kdjl").is_ok());
-    assert!(&rt; fs::create_dir(&rt, "kfs_test_journal_links/first.kdjl").is_ok());
+    assert!(&rt; is_folder_in_place_of(&rt, "kfs_test_journal_links/first.kdjl"));
     assert_eq!(&rt; open_end(&rt, folder), End::NotRegular);
-    assert!(&rt; fs::remove_dir_all(&rt, folder).is_ok());
+    assert!(&rt; is_removed(&rt, folder));
 }
 
 #[test]
 fn one_file_with_both_names_is_busy(rt: HostRuntime) {
     let folder = "kfs_test_journal_twice";
     assert!(&rt; makes_folder(&rt, folder));
-    assert!(&rt; fs::write(&rt, "kfs_test_journal_twice/first.kdjl", b"").is_ok());
-    let linked = fs::hard_link(
+    assert!(&rt; is_written(&rt, "kfs_test_journal_twice/first.kdjl", b""));
+    let is_twice = is_named_twice(
         &rt,
         "kfs_test_journal_twice/first.kdjl",
         "kfs_test_journal_twice/second.kdjl",
     );
-    assert!(&rt; linked.is_ok());
+    assert!(&rt; is_twice);
     assert_eq!(&rt; open_end(&rt, folder), End::Busy);
-    assert!(&rt; fs::remove_dir_all(&rt, folder).is_ok());
+    assert!(&rt; is_removed(&rt, folder));
 }

@@ -1,6 +1,7 @@
 //! Files that are no journal: they are told apart from empty ones, and stay as they are.
 
-use kfs_journal::{Journal, MemoryDisk, OpenFault};
+use crate::run::disk_of;
+use kfs_journal::{Journal, OpenFault};
 use std::alloc::Global;
 use std::process::Abort;
 
@@ -19,7 +20,7 @@ enum Found {
 
 /// What an opening of files with these bytes answers, and how many calls of the disk it makes.
 fn answer(alloc: Global, first: &[u8], second: &[u8]) -> Option<(Found, usize)> {
-    let mut disk = MemoryDisk::new(alloc, first.to_vec(alloc).ok()?, second.to_vec(alloc).ok()?);
+    let mut disk = disk_of(alloc, first, second)?;
     let answer = match Journal::open(alloc, &mut disk, first, second) {
         Ok(None) => Found::Empty,
         Ok(Some(_opened)) => Found::Journal,

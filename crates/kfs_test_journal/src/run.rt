@@ -1,8 +1,10 @@
 //! A run of nine calls, what the files stand for after each of them, and what an opening finds.
+ghost use Rattle.std.specs.Prelude.{◌≡◌, IfSome};
 ghost use Rattle.kfs_journal.specs.Disk.{Only};
 ghost use Rattle.kfs_journal.specs.Journal.{AreEmpty};
+ghost use Rattle.kfs_journal.specs.Memory.{memory_seen, memory_may_leave};
 
-use kfs_journal::{Disk, Journal, JournalFault, OpenFault, Opened};
+use kfs_journal::{Disk, Journal, JournalFault, MemoryDisk, OpenFault, Opened};
 use std::alloc::{AllocError, Global};
 
 /// What the files stand for before the run and after each of its calls: the state, and each group behind a
@@ -63,24 +65,52 @@ pub fn answered_by(moment: usize) -> usize {
     count
 }
 
+/// Adds each group behind a stroke.
+fn push_groups(text: &mut Vec<u8>, groups: &[Vec<u8>]) -> Result<(), AllocError> {
+    for group in groups {
+        text.push(b'/')?;
+        text.extend_from_slice(group)?;
+    }
+    Ok(())
+}
+
+/// The state, and each group behind a stroke.
+fn told_of(alloc: Global, opened: &Opened<Global>) -> Result<Vec<u8>, AllocError> {
+    let mut text = opened.state.to_vec(alloc)?;
+    push_groups(&mut text, &opened.groups)?;
+    Ok(text)
+}
+
 /// What an opening has found, as in `STATES`. Files that are no journal are as good as nothing here.
 pub fn told(
     alloc: Global,
     opened: &Result<Option<Opened<Global>>, OpenFault>,
 ) -> Result<Vec<u8>, AllocError> {
-    let mut text = Vec::new(alloc);
     match opened {
-        Ok(None) | Err(OpenFault::NotAJournal) => text.extend_from_slice(b"nothing")?,
-        Ok(Some(opened)) => {
-            text.extend_from_slice(&opened.state)?;
-            for group in &opened.groups {
-                text.push(b'/')?;
-                text.extend_from_slice(group)?;
-            }
-        }
-        Err(_) => text.extend_from_slice(b"failed")?,
+        Ok(None) | Err(OpenFault::NotAJournal) => b"nothing".to_vec(alloc),
+        Ok(Some(opened)) => told_of(alloc, opened),
+        Err(_) => b"failed".to_vec(alloc),
     }
-    Ok(text)
+}
+
+/// Whether there are so many groups, each with these bytes.
+pub fn are_groups(groups: &[Vec<u8>], count: usize, bytes: &[u8]) -> bool {
+    for group in groups {
+        if group.as_slice() != bytes {
+            return false;
+        }
+    }
+    groups.len() == count
+}
+
+/// A disk of two files with these bytes, all on the disk.
+pub fn disk_of(alloc: Global, first: &[u8], second: &[u8]) -> Option<MemoryDisk>
+    ensures seen { IfSome result (λ disk. memory_seen disk ≡ (first.now, second.now)) }
+    ensures durable { IfSome result (λ disk. Only (memory_seen disk) (memory_may_leave disk)) }
+{
+    let first = first.to_vec(alloc).ok()?;
+    let second = second.to_vec(alloc).ok()?;
+    Some(MemoryDisk::new(alloc, first, second))
 }
 
 /// Whether that is what the files may stand for where so many calls were answered, and at most one more was made.

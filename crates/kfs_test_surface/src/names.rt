@@ -43,7 +43,7 @@ pub mod migrate {
 
 /// Leases.
 pub mod lease {
-    pub use kfs_lease::{Act, LeaseFault, LeaseKind, Leases};
+    pub use kfs_lease::{Act, LeaseFault, LeaseKind, LeaseRow, LeaseRowFault, Leases};
 }
 
 /// Entries against a view.
@@ -67,8 +67,18 @@ pub mod plan {
 pub mod desk {
     pub use kfs_desk::{
         Act, ActFault, ActReply, Back, BeginBack, BeginFault, Desk, Docket, Done, Move, MoveFault,
-        Reply, SubmissionsBack, Unanswered, Why,
+        Reply, ResumeBack, SubmissionsBack, Unanswered, Why,
     };
+}
+
+/// Calls, answers and states as bytes.
+pub mod call {
+    pub use kfs_call::{
+        AnswerRow, Call, ClientRow, FaultRow, FieldFault, LeaseKind, LeaseRow, Move, StateFault,
+        StateRows, Told, decode_answer, decode_call, decode_state, encode_answer, encode_call,
+        encode_state,
+    };
+    pub use kfs_call_desk::{CallFault, Called, call};
 }
 
 /// Workers, scripts of their steps, and a desk that threads share.

@@ -1,5 +1,7 @@
 //! What each fault says of itself as an `Error`: the words of docs/FORMATS.md, where these have some.
 
+use kfs_call::{FieldFault, StateFault};
+use kfs_call_desk::CallFault;
 use kfs_desk::{ActFault, BeginFault, Unanswered, Why};
 use kfs_entry::SpellFault;
 use kfs_image::ReadFault;
@@ -48,6 +50,28 @@ fn faults_of_bytes(rt: HostRuntime) {
         (SpellFault::Trailing, "Trailing"),
         (SpellFault::BadRow(1, 0), "BadRow(1,0)"),
         (SpellFault::OutOfMemory, "memory"),
+    ];
+    assert!(rt; say(rt.alloc(), &faults));
+}
+
+#[test]
+fn faults_of_calls(rt: HostRuntime) {
+    let faults = [
+        (FieldFault::BadField(3), "BadField(3)"),
+        (FieldFault::Trailing, "Trailing"),
+        (FieldFault::OutOfMemory, "memory"),
+    ];
+    assert!(rt; say(rt.alloc(), &faults));
+    let faults = [
+        (StateFault::BadHeader, "BadHeader"),
+        (StateFault::BadRow(1, 0), "BadRow(1,0)"),
+        (StateFault::OutOfMemory, "memory"),
+    ];
+    assert!(rt; say(rt.alloc(), &faults));
+    let faults = [
+        (CallFault::BadCall(FieldFault::BadField(3)), "BadField(3)"),
+        (CallFault::OutOfMemory, "memory"),
+        (CallFault::DocketFull, "full"),
     ];
     assert!(rt; say(rt.alloc(), &faults));
 }

@@ -83,7 +83,7 @@ module _ (old new : Desk) (grows : Grows old new) where
 pub answer_stands : (old new : Desk) (legal : IsLegalDocket old.opening old.docket old.state) (submission : Submission) (again : _) (reply : Reply) → IsAnswered old submission again reply new → Grows old new × Stands new submission reply
 answer_stands old new legal submission again reply is =
     let read : IsRead is.row = subst (λ (call : Call). IsRead (record is.row { call = call })) (sym is.step.asked) is.step.read in
-    let leads = leads_on is.row old.opening old.state new.state old.docket legal read is.step.fits in
+    let leads = leads_on is.row old.opening old.state new.state old.docket legal read is.step.fits is.step.least in
     let legal_now : IsLegalDocket new.opening new.docket new.state = subst (λ opening. IsLegalDocket opening new.docket new.state) (sym is.opening) (subst (λ rows. IsLegalDocket old.opening rows new.state) (sym is.docket) leads) in
     let place = is.position in
     let count = length-append old.docket (is.row ∷ []) in
@@ -181,7 +181,7 @@ stays_legal desk new same legal = record {
 -- a row more, of a call that is no submission
 call_grows : (old new : Desk) (call : Call) (words : ℕ → Done) (reply : ActReply) → IsLegalDocket old.opening old.docket old.state → IsActed old call words reply new → Grows old new
 call_grows old new call words reply legal is =
-    let leads = leads_on is.row old.opening old.state new.state old.docket legal is.step.read is.step.fits in
+    let leads = leads_on is.row old.opening old.state new.state old.docket legal is.step.read is.step.fits is.step.least in
     record {
       on = record { opening = is.opening; limit = is.limit; rows = is.row ∷ []; docket = is.docket };
       legal = subst (λ opening. IsLegalDocket opening new.docket new.state) (sym is.opening) (subst (λ rows. IsLegalDocket old.opening rows new.state) (sym is.docket) leads);

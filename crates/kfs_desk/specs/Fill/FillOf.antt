@@ -22,6 +22,7 @@ use Rattle.kfs_image_nodes.specs.declared.net.Net.{Net}
 use Rattle.kfs_image.specs.declared.net.Fill.{Fill}
 use Rattle.kfs_image.specs.Net.{CanApply, applied}
 use Rattle.kfs_desk.specs.declared.fill.bytes.LogBytes.{LogBytes}
+use Rattle.kfs_desk.specs.History.Least.{AreLeast}
 use Rattle.kfs_desk.specs.Fill.Bytes.{entries_of, pieces_of}
 use Rattle.kfs_desk.specs.Fill.Fill.{AreCleared, AreRowsOf}
 
@@ -46,10 +47,11 @@ AreMadeZero heads pieces zero =
 abbrev pub places_of : {A : Type 0} → List (BlockRow A) → List ℕ
 places_of rows = map (λ r. r.place.place) rows
 
--- the rows are those of the written blocks, at places that can be chosen for them, and the runs have
--- the cleared blocks
+-- the rows are those of the written blocks, at places that can be chosen for them, the least that are
+-- free; and the runs have the cleared blocks
 pub record Fills {A : Type 0} (s : State) (entries : List Entry) (pieces : List Piece) (after : Tree ℕ) (marked_after : Tree Mark) (fill : Fill A) : Type 0 where
   pub chosen : are_chosen s (written_blocks marked_after) (places_of fill.rows.items) ≡ true
+  pub least : AreLeast s (places_of fill.rows.items)
   pub rows : AreRowsOf s.tree entries pieces (written_blocks marked_after) (places_of fill.rows.items) fill.rows.items
   pub cleared : AreCleared after marked_after fill.zero.items
 

@@ -12,13 +12,13 @@ ghost use Rattle.kfs_image_nodes.specs.Change.{reheaded};
 ghost use Rattle.kfs_desk.specs.Fill.Bytes.{pieces_of, BlocksAscend, HasPayloads};
 ghost use Rattle.kfs_desk.specs.Fill.FillOf.{AreMadeZero, AreWritten, IsFillOf, run_of, size_among, CanLandWith, HasLandedWith};
 ghost use Rattle.kfs_image.specs.Tier.Unused.{unused_places};
-ghost use Rattle.kfs_desk.specs.Fill.Places.{CanBeChosen};
 
 use crate::fill::bytes::LogBytes;
 use crate::fill::rows::block_rows;
 use kfs_image::{BlockRun, Fill, Image, Net, header_after, net_apply_moving};
+use kfs_image_nodes::NodeChanges;
 use kfs_pieces::{cleared_in, front_len, written_in};
-use kfs_types::{NodeRow, Piece};
+use kfs_types::Piece;
 use std::alloc::{AllocError, Allocator};
 
 /// The blocks that a log writes, ascending, and the runs of those that it makes zero.
@@ -29,7 +29,7 @@ struct FileBlocks<A: Allocator> {
 }
 
 /// The size of a file after the rows, 0 where there is no file.
-fn size_after<A: Allocator>(image: &Image<A>, nodes: &[NodeRow], number: u32) -> u64
+fn size_after<A: Allocator>(image: &Image<A>, nodes: &NodeChanges<'_, A>, number: u32) -> u64
     ensures { result ≡ size_among (reheaded image.now.heads nodes.now) number }
 {
     match header_after(image, nodes, number) {
@@ -86,7 +86,7 @@ fn file_blocks<A: Allocator + Copy>(
     alloc: A,
     image: &Image<A>,
     pieces: &[Piece],
-    nodes: &[NodeRow],
+    nodes: &NodeChanges<'_, A>,
 ) -> Result<FileBlocks<A>, AllocError>
     requires order { AreByNumber 0 pieces.now }
     requires whole { AllByRecursion PieceIsInRange pieces.now }
@@ -119,7 +119,7 @@ pub(crate) fn fill_of<A: Allocator + Copy>(
     alloc: A,
     image: &Image<A>,
     log: &LogBytes<'_>,
-    nodes: &[NodeRow],
+    nodes: &NodeChanges<'_, A>,
     spares: &mut Vec<Vec<u8, A>, A>,
 ) -> Result<Fill<A>, AllocError>
     requires payloads { HasPayloads log.now }
@@ -156,12 +156,13 @@ pub fn land_bytes<A: Allocator + Copy>(
     ensures ok { OnOk result (HasLandedWith image.old log.now net.now image.new) }
     ensures err { OnErr result (image.new ≡ image.old) }
 {
+    let nodes = NodeChanges::of(&alloc, net.nodes.as_slice())?;
     let mut spares = Vec::new(alloc);
     image.swap_spares(&mut spares);
-    let made = fill_of(alloc, image, log, net.nodes.as_slice(), &mut spares);
+    let made = fill_of(alloc, image, log, &nodes, &mut spares);
     image.swap_spares(&mut spares);
     let fill = made?;
-    net_apply_moving(alloc, image, net, fill)
+    net_apply_moving(alloc, image, net, &nodes, fill)
 }
 
 /// The `count` least free places of tier 0, or all of them where there are fewer. `Err` where memory is
@@ -171,8 +172,7 @@ pub(crate) fn free_places<A: Allocator>(
     image: &Image<A>,
     count: usize,
 ) -> Result<Vec<u32, A>, AllocError>
-    ensures least { IfOk result (λ places. places.items ≡ take count (unused_places image.now.sizes image.now.placement 0)) }
-    ensures chosen { IfOk result (λ places. CanBeChosen image.now.sizes image.now.placement places.items) }
+    ensures { IfOk result (λ places. places.items ≡ take count (unused_places image.now.sizes image.now.placement 0)) }
 {
     let size = image.tier_size(0);
     let mut places = Vec::with_capacity(alloc, count.min(image.free(0) as usize))?;

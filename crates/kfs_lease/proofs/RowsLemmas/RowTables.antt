@@ -26,7 +26,7 @@ other_way false true = refl
 other_way false false = refl
 
 -- two keys are one where they are with their parts turned
-turned_ties : (q k : ℕ × ℕ) → eq_by_cmp by_node.compare q (k.1, k.0) ≡ eq_by_cmp by_node.compare (q.1, q.0) k
+pub turned_ties : (q k : ℕ × ℕ) → eq_by_cmp by_node.compare q (k.1, k.0) ≡ eq_by_cmp by_node.compare (q.1, q.0) k
 turned_ties q k =
     both_equal (nat_cmp q.0 k.1) (nat_cmp q.1 k.0) ∙ other_way (is_eq (nat_cmp q.0 k.1)) (is_eq (nat_cmp q.1 k.0)) ∙ sym (both_equal (nat_cmp q.1 k.0) (nat_cmp q.0 k.1))
 

@@ -19,7 +19,7 @@ use Rattle.kfs_lease.proofs.RowsLemmas.RowTables.{tied}
 
 module _ {K V : Type 0} (R : Order K) (start : Bound K) (es : List (K × V)) (key : K) (value : V) (next : IsNextEntry R.compare start es key value) where
   -- a key that isn't behind the next entry is its key, or comes before the start, or has no entry
-  passed : (q : K) → is_from R.compare (Excluded key) q ≡ false → (P : Type 0) → (q ≡ key → P) → (is_from R.compare start q ≡ false → P) → (find R.compare q es ≡ None → P) → P
+  pub passed : (q : K) → is_from R.compare (Excluded key) q ≡ false → (P : Type 0) → (q ≡ key → P) → (is_from R.compare start q ≡ false → P) → (find R.compare q es ≡ None → P) → P
   passed q not_behind P here before nothing = at (R.compare q key) refl
     where
       lower : R.compare q key ≡ Less → (b : Bool) → is_from R.compare start q ≡ b → P
@@ -88,7 +88,7 @@ not_less Equal is = cc
 not_less Greater is = cc
 
 module _ {K : Type 0} (R : Order K) where
-  behind_is_less : (key q : K) → is_from R.compare (Excluded key) q ≡ true → R.compare key q ≡ Less
+  pub behind_is_less : (key q : K) → is_from R.compare (Excluded key) q ≡ true → R.compare key q ≡ Less
   behind_is_less key q behind = R.total.antisymm key q ∙ ap ordering_reverse (greater (R.compare q key) behind)
     where
       greater : (r : Ordering) → is_gt r ≡ true → r ≡ Greater
@@ -97,7 +97,7 @@ module _ {K : Type 0} (R : Order K) where
       greater Greater more = refl
 
   -- a key behind one that is from the start on is so, too
-  still_from : (start : Bound K) (key q : K) → R.compare key q ≡ Less → is_from R.compare start key ≡ true → (b : Bool) → is_from R.compare start q ≡ b → is_from R.compare start q ≡ true
+  pub still_from : (start : Bound K) (key q : K) → R.compare key q ≡ Less → is_from R.compare start key ≡ true → (b : Bool) → is_from R.compare start q ≡ b → is_from R.compare start q ≡ true
   still_from start key q less within true is = is
   still_from (Included first) key q less within false is = absurd (both_ways _ (ap (λ r. not (is_lt r)) (R.total.trans key q first less (not_less _ is))) within)
   still_from (Excluded last) key q less within false is = absurd (both_ways _ (upto R.total key q last (ap is_gt less) is) within)

@@ -34,7 +34,7 @@ pub struct Lease {
 }
 
 impl LeaseKind {
-    fn is_write(self) -> bool
+    pub(crate) fn is_write(self) -> bool
         ensures { result ≡ model.is_write (kind_of self) }
     {
         match self {

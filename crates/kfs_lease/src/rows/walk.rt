@@ -3,6 +3,7 @@ ghost use Rattle.std.specs.Prelude.{◌≡◌, ◌≤◌, IfSome, IfNone, OnOk};
 ghost use Rattle.kfs_model.specs.Lease.{live_at};
 ghost use Rattle.kfs_map_chunks.specs.Starts.{IsNextEntry};
 ghost use Rattle.kfs_lease.specs.Rows.Ending.{rows_left, start_on, AreLater, AreListed, IsFirstOther, NoneOn, NoOtherOn};
+ghost use Rattle.kfs_lease.specs.Rows.Listed.{NoneFrom};
 ghost use Rattle.kfs_lease.specs.Rows.Rows.{by_node, by_end, shown, without_node, EndsAreExact};
 
 use crate::rows::rows::{Ending, Lease, LeaseRows, RowEnd};
@@ -54,6 +55,18 @@ pub(crate) fn first_other<A: Allocator>(
     } else {
         Some(first)
     }
+}
+
+/// The first row from the start on, with its key, or none.
+pub(crate) fn next_row<A: Allocator>(
+    leases: &Chunks<(u32, u32), Lease, A>,
+    start: &Bound<(u32, u32)>,
+) -> Option<((u32, u32), Lease)>
+    ensures next { IfSome result (λ row. IsNextEntry by_node.compare start.now leases.now row.0 row.1) }
+    ensures none { IfNone result (NoneFrom leases.now start.now) }
+{
+    let (key, lease) = leases.next(start.as_ref())?;
+    Some((*key, *lease))
 }
 
 /// The first end from the start on, if it isn't above the moment.

@@ -1,5 +1,5 @@
 -- The answer to a line that asks for a plan.
-use Rattle.std.proofs.Common.{◌≡◌, ℕ, List, ◌++◌, Option, Some, None, option_map, Result, refl, sym, ap, subst, ◌∙◌}
+use Rattle.std.proofs.Common.{◌≡◌, ℕ, List, Option, Some, None, Result, refl, sym, subst}
 use Rattle.std.specs.Prelude.{OnOk, Vec, codes}
 use Rattle.std.proofs.lemmas.Result.{on_ok_weaker}
 use Rattle.kfs_model.specs.Access.{Client}

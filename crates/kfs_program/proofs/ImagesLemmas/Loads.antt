@@ -1,12 +1,11 @@
 -- What the line says of bytes: that they make an image, or why they make none.
-use Rattle.std.proofs.Common.{◌≡◌, ℕ, List, ◌++◌, refl, sym, subst, ap, ◌∙◌, inl, inr, Bool, true, false, Option, Some, None, Ok}
+use Rattle.std.proofs.Common.{◌≡◌, ℕ, List, ◌++◌, refl, sym, subst, ap, ◌∙◌, inl, inr, true, false, Option, Some, None, Ok}
 use Rattle.std.specs.Prelude.{codes, is_some}
 use Rattle.kfs_model.specs.Device.ShownTree.{DeviceImage}
 use Rattle.kfs_model.specs.Device.RawImage.{RawImage, image_of}
 use Rattle.kfs_model.specs.Device.Finding.{IsWellFormed, finding_of}
 use Rattle.kfs_model.specs.Device.Spelling.{ImageAnswer, BadImageHeader, ImageTrailing, BadImageRow}
 use Rattle.kfs_image.specs.Codec.Answers.{OnImageRefusal}
-use Rattle.kfs_image.specs.Codec.RawImages.{raw_of}
 use Rattle.kfs_image.specs.declared.codec.raw.RawImage.{RawImage as CodeRawImage}
 use Rattle.kfs_image.specs.declared.codec.fault.ImageFault.{ImageFault}
 use Rattle.kfs_image.specs.declared.codec.fault.ImageFault.TheVariants as faults

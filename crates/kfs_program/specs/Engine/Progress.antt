@@ -34,6 +34,15 @@ abbrev pub LineIsKept : {T : Type 0} → Result T EngineFault → Stage → (lin
 LineIsKept result stage line kept =
     MatchResult result (λ done. (kept ≡ line) × LineIsShort line) (λ fault. IsStopped fault stage line [] × (fault ≢ WriteFault))
 
+-- the line is answered with this text, from a stage to the next, or stopped at
+abbrev pub IsAnswered : {T : Type 0} → Result T EngineFault → Stage → (line : List ℕ) → Stage → (text : List ℕ) → Type 0
+IsAnswered (Ok done) before line after text = AnswersLine before line (text, after) × LineIsShort line
+IsAnswered (Err fault) before line after text = IsStopped fault before line text
+
+-- the same, if the line isn't too long
+abbrev pub IsAnsweredIfShort : {T : Type 0} → Result T EngineFault → Stage → (line : List ℕ) → Stage → (text : List ℕ) → Type 0
+IsAnsweredIfShort result before line after text = LineIsShort line → IsAnswered result before line after text
+
 module _ {A : Type 0} where
   -- the loop has come so far, and holds the beginning of the next line
   abbrev pub HasAnsweredSoFar : SessionLoop A → (rest input text : List ℕ) → Type 0
@@ -52,14 +61,13 @@ module _ {A : Type 0} where
   abbrev pub Ends : {T : Type 0} → SessionLoop A → Result T EngineFault → (more : List ℕ) → Type 0
   Ends before result more = (input text : List ℕ) → HasAnsweredSoFar before [] input text → IsSession (Unit {0}) result input (text ++ more)
 
-  -- the line is answered with this text, or stopped at
+  -- the same of two loops
   abbrev pub IsLineAnswered : {T : Type 0} → Result T EngineFault → SessionLoop A → (line : List ℕ) → SessionLoop A → (text : List ℕ) → Type 0
-  IsLineAnswered (Ok done) before line after text = AnswersLine (stage_of before.session) line (text, stage_of after.session) × LineIsShort line
-  IsLineAnswered (Err fault) before line after text = IsStopped fault (stage_of before.session) line text
+  IsLineAnswered result before line after text = IsAnswered result (stage_of before.session) line (stage_of after.session) text
 
   -- the line that the loop holds is answered with this text or stopped at, if it isn't too long
   abbrev pub IsHeldAnswered : {T : Type 0} → Result T EngineFault → (before after : SessionLoop A) → (text : List ℕ) → Type 0
-  IsHeldAnswered result before after text = LineIsShort before.line.items → IsLineAnswered result before before.line.items after text
+  IsHeldAnswered result before after text = IsAnsweredIfShort result (stage_of before.session) before.line.items (stage_of after.session) text
 
 -- what is written for a reply: the reply, or a refusal's line
 abbrev pub reply_written : {T : Type 0} → Result T Refusal → (reply : List ℕ) → List ℕ

@@ -1,7 +1,7 @@
 //! Cuts the input into lines, and writes the reply to each.
 ghost use Rattle.std.specs.Prelude.{◌≡◌, ◌++◌, [], codes, IsErrOf, OnOk};
 ghost use Rattle.kfs_program_command.specs.Command.{asked_by};
-ghost use Rattle.kfs_program.specs.Engine.Progress.{Ends, IsHeldAnswered, LineIsKept, IsLineAnswered, HasAnsweredSoFar, Takes, reply_written};
+ghost use Rattle.kfs_program.specs.Engine.Progress.{Ends, IsAnsweredIfShort, IsHeldAnswered, LineIsKept, IsLineAnswered, HasAnsweredSoFar, Takes, reply_written};
 ghost use Rattle.kfs_program.specs.Engine.Session.{AnswersLine};
 ghost use Rattle.kfs_program.specs.Engine.Views.{IsUndone, stage_of};
 ghost use Rattle.kfs_program_text.specs.HeldOutput.{contents_with};
@@ -73,7 +73,7 @@ impl<A: Allocator + Copy> SessionLoop<A> {
         Ok(writer.flush()?)
     }
 
-    /// Answers the line that ends with `part`.
+    /// Answers the line that ends with `part`. One that has no other part is read where it lies.
     fn end_line<W: Write>(
         &mut self,
         rt: &(impl Threads + Sync),
@@ -84,6 +84,9 @@ impl<A: Allocator + Copy> SessionLoop<A> {
         ensures first { writer.new.first ≡ writer.old.first }
         ensures cleared { OnOk result (self.new.line.items ≡ []) }
     {
+        if self.line.is_empty() && part.len() <= LINE_LIMIT {
+            return answer_line(&mut self.session, &mut self.reply, rt, part, writer);
+        }
         self.keep(part)?;
         self.answer(rt, writer)
     }
@@ -99,6 +102,7 @@ impl<A: Allocator + Copy> SessionLoop<A> {
         Ok(())
     }
 
+    /// Answers the line that is held, and holds none then.
     fn answer<W: Write>(
         &mut self,
         rt: &(impl Threads + Sync),
@@ -108,38 +112,61 @@ impl<A: Allocator + Copy> SessionLoop<A> {
         ensures first { writer.new.first ≡ writer.old.first }
         ensures cleared { self.new.line.items ≡ [] }
     {
-        let replied = self.reply(rt);
-        let written = writer.write(text_of(replied, &self.reply));
+        let answered = answer_line(&mut self.session, &mut self.reply, rt, &self.line, writer);
         self.line.clear();
-        Ok(written?)
+        answered
     }
+}
 
-    /// Answers the line. Where memory runs out, the verdict that it asks to land is given up.
-    fn reply(&mut self, rt: &(impl Threads + Sync)) -> Result<(), Refusal>
-        ensures session { AnswersLine (stage_of self.old.session) self.old.line.items (reply_written result self.new.reply.items, stage_of self.new.session) }
-        ensures line { self.new.line ≡ self.old.line }
-    {
-        match self.reply_in_room(rt) {
-            Ok(()) => Ok(()),
-            Err(Refusal::BadLine) => Err(Refusal::BadLine),
-            Err(Refusal::OutOfMemory) => {
-                self.session.give_up(&self.line);
-                Err(Refusal::OutOfMemory)
-            }
+/// Answers a line, and writes the reply, which is made in `reply`.
+fn answer_line<W: Write, A: Allocator + Copy>(
+    session: &mut Session<A>,
+    reply: &mut Vec<u8, A>,
+    rt: &(impl Threads + Sync),
+    line: &[u8],
+    writer: &mut HeldBack<'_, W, A>,
+) -> Result<(), EngineFault>
+    ensures session { Writes (contents_with W.contents writer.old) (contents_with W.contents writer.new) (IsAnsweredIfShort result (stage_of session.old) line.now (stage_of session.new)) }
+    ensures first { writer.new.first ≡ writer.old.first }
+{
+    let replied = reply_to(session, reply, rt, line);
+    writer.write(text_of(replied, reply))?;
+    Ok(())
+}
+
+/// Answers a line. Where memory runs out, the verdict that it asks to land is given up.
+fn reply_to<A: Allocator + Copy>(
+    session: &mut Session<A>,
+    reply: &mut Vec<u8, A>,
+    rt: &(impl Threads + Sync),
+    line: &[u8],
+) -> Result<(), Refusal>
+    ensures { AnswersLine (stage_of session.old) line.now (reply_written result reply.new.items, stage_of session.new) }
+{
+    match reply_in_room(session, reply, rt, line) {
+        Ok(()) => Ok(()),
+        Err(Refusal::BadLine) => Err(Refusal::BadLine),
+        Err(Refusal::OutOfMemory) => {
+            session.give_up(line);
+            Err(Refusal::OutOfMemory)
         }
     }
+}
 
-    /// Answers the line, with room for the reply made before anything changes.
-    fn reply_in_room(&mut self, rt: &(impl Threads + Sync)) -> Result<(), Refusal>
-        ensures ok { OnOk result (AnswersLine (stage_of self.old.session) self.old.line.items (self.new.reply.items, stage_of self.new.session)) }
-        ensures bad { IsErrOf result Refusal.BadLine → AnswersLine (stage_of self.old.session) self.old.line.items (line_of (codes "bad line"), stage_of self.new.session) }
-        ensures memory { IsErrOf result Refusal.OutOfMemory → IsUndone (asked_by self.old.line.items) (stage_of self.old.session) (stage_of self.new.session) }
-        ensures line { self.new.line ≡ self.old.line }
-    {
-        self.reply.clear();
-        self.reply.try_reserve(LONGEST_LINE)?;
-        self.session.answer(rt, &self.line, &mut self.reply)
-    }
+/// Answers a line, with room for the reply made before anything changes.
+fn reply_in_room<A: Allocator + Copy>(
+    session: &mut Session<A>,
+    reply: &mut Vec<u8, A>,
+    rt: &(impl Threads + Sync),
+    line: &[u8],
+) -> Result<(), Refusal>
+    ensures ok { OnOk result (AnswersLine (stage_of session.old) line.now (reply.new.items, stage_of session.new)) }
+    ensures bad { IsErrOf result Refusal.BadLine → AnswersLine (stage_of session.old) line.now (line_of (codes "bad line"), stage_of session.new) }
+    ensures memory { IsErrOf result Refusal.OutOfMemory → IsUndone (asked_by line.now) (stage_of session.old) (stage_of session.new) }
+{
+    reply.clear();
+    reply.try_reserve(LONGEST_LINE)?;
+    session.answer(rt, line, reply)
 }
 
 /// What is written for a reply: the reply itself, or a refusal's line.

@@ -136,6 +136,13 @@ at_or [] i a e = absurd (some-ne-none a (sym e))
 at_or (x ∷ xs) zero a e = sym (some-injective x a e)
 at_or (x ∷ xs) (suc i) a e = at_or xs i a e
 
+-- where a word behind the first three is set, these stay
+set_behind : (a b c : ℕ) (others : List ℕ) (i n : ℕ) → 3 ≤ i → (others' : List ℕ) × (set (a ∷ b ∷ c ∷ others) i n ≡ a ∷ b ∷ c ∷ others')
+set_behind a b c others zero n behind = absurd (omega arith)
+set_behind a b c others (suc zero) n behind = absurd (omega arith)
+set_behind a b c others (suc (suc zero)) n behind = absurd (omega arith)
+set_behind a b c others (suc (suc (suc i))) n behind = (set others i n, refl)
+
 -- a number that joins a list
 has_snoc : (xs : List ℕ) (x k : ℕ) → Has (xs ++ x ∷ []) k → Has xs k ⊎ (x ≡ k)
 has_snoc [] x k (inl e) = inr e
@@ -205,24 +212,25 @@ module _ {O D W : Type 0} (opening : D → O) (rows : D → List W) (legal : O �
       (at_set vs id i w u a)
 
   -- a step of one seat
-  moved : (s : St) (r : Rule s) (id : ℕ) (v w : V) (ws : List ℕ) (homes' : Homes) (docket' : List W) (next' turn' : ℕ) → get_elem? s.views id ≡ some v
-      → ws ≡ length docket' ∷ next' ∷ turn' ∷ [] → turn' ≤ next' → next' < 18446744073709551616 → legal (opening key) docket'
+  moved : (s : St) (r : Rule s) (id : ℕ) (v w : V) (ws others' : List ℕ) (homes' : Homes) (docket' : List W) (next' turn' : ℕ) → get_elem? s.views id ≡ some v
+      → ws ≡ length docket' ∷ next' ∷ turn' ∷ others' → turn' ≤ next' → next' < 18446744073709551616 → legal (opening key) docket'
       → L docket' record { words = ws; homes = homes'; views = set s.views id w }
       → F docket' next' turn' homes' w
       → ((j : ℕ) (u : V) → AreApart v u → F r.docket r.next r.turn s.homes u → F docket' next' turn' homes' u)
       → ((u : V) → AreApart v u → F r.docket r.next r.turn s.homes u → AreApart w u)
       → Rule record { words = ws; homes = homes'; views = set s.views id w }
-  moved s r id v w ws homes' docket' next' turn' at words order short lawful lies mine others apart = record {
+  moved s r id v w ws others' homes' docket' next' turn' at words order short lawful lies mine stay apart = record {
     docket = docket';
     next = next';
     turn = turn';
+    others = others';
     words = words;
     order = order;
     short = short;
     lawful = lawful;
     lies = lies;
     each = λ j u e. ⊎_elim (λ (t : (j ≡ id) × (w ≡ u)). subst (F docket' next' turn' homes') t.1 mine)
-        (λ (t : (j ≢ id) × (get_elem? s.views j ≡ some u)). others j u (r.apart id j v u (λ e. t.0 (sym e)) at t.1) (r.each j u t.1)) (at_set s.views id j w u e);
+        (λ (t : (j ≢ id) × (get_elem? s.views j ≡ some u)). stay j u (r.apart id j v u (λ e. t.0 (sym e)) at t.1) (r.each j u t.1)) (at_set s.views id j w u e);
     apart = apart_after s.views id w r.apart (λ j u ne e. apart u (r.apart id j v u (λ e. ne (sym e)) at e) (r.each j u e));
   }
 
@@ -265,7 +273,7 @@ module _ {O D W : Type 0} (opening : D → O) (rows : D → List W) (legal : O �
       → w.opening ≡ v.opening → w.own ≡ v.own → w.told ≡ v.told → StartsWith r.docket w.seen → (w.ended ≡ true → r.next ≡ 18446744073709551615) → S r.docket r.next r.turn s.homes w.seen w.stage
       → Rule (stepped s i (get_or s.words i 0) id cs w keeps)
   looked s r i id v w cs at served same opened own told begins spent now = let mine = r.each id v at in subst (λ (ws : List ℕ). Rule record { words = ws; homes = s.homes; views = set s.views id w }) (sym (set-get_or s.words i 0))
-      (moved s r id v w s.words s.homes r.docket r.next r.turn at r.words r.order r.short r.lawful (lies_on s r.docket id v w s.words at served r.lies)
+      (moved s r id v w s.words r.others s.homes r.docket r.next r.turn at r.words r.order r.short r.lawful (lies_on s r.docket id v w s.words at served r.lies)
       record {
         opened = λ o e. mine.opened o (sym opened ∙ e);
         begins = begins;
@@ -277,6 +285,20 @@ module _ {O D W : Type 0} (opening : D → O) (rows : D → List W) (legal : O �
       }
       (λ j u apart f. f)
       (λ u apart f. (λ t h. apart.0 t (same t h), λ k h. apart.1 k (subst (λ (z : List ℕ). Has z k) own h))))
+
+  -- Marking a word on which calls sleep, or taking the mark away: word 3 or a later one becomes whatever it does.
+  pub marks : (slots id : ℕ) (me : M) (i : ℕ) (f : ℕ → ℕ) → 3 ≤ i → Allows Rule slots id me i f (λ r m'. m' ≡ me)
+  marks slots id me i f behind s r _ at _ =
+      let v : V = me.0 in
+      let n : ℕ = f (get_or s.words i 0) in
+      let words' = set_behind (length r.docket) r.next r.turn r.others i n behind in (
+        v,
+        keeps,
+        tt,
+        moved s r id v v (set s.words i n) words'.0 s.homes r.docket r.next r.turn at (ap (λ (ws : List ℕ). set ws i n) r.words ∙ words'.1) r.order r.short r.lawful
+            (lies_on s r.docket id v v (set s.words i n) at (λ h. h) r.lies) (r.each id v at) (λ j u apart f. f) (λ u apart f. apart),
+        refl,
+      )
 
   -- Taking a ticket: a compare-exchange of word 1, from a ticket to the next one.
   pub draws : (slots id : ℕ) (me : M) (t : ℕ) → me.0.stage ≡ Idle → t < 18446744073709551615 → Allows Rule slots id me 1 (λ y. either (eqb y t) (t + 1) y) (TellsTicket (step slots 1 t (t + 1) none) me)
@@ -292,7 +314,7 @@ module _ {O D W : Type 0} (opening : D → O) (rows : D → List W) (legal : O �
         w,
         keeps,
         tt,
-        moved s r id v w (set s.words 1 (t + 1)) s.homes r.docket (t + 1) r.turn at (ap (λ (ws : List ℕ). set ws 1 (t + 1)) r.words) (omega arith) (omega arith) r.lawful
+        moved s r id v w (set s.words 1 (t + 1)) r.others s.homes r.docket (t + 1) r.turn at (ap (λ (ws : List ℕ). set ws 1 (t + 1)) r.words) (omega arith) (omega arith) r.lawful
             (lies_on s r.docket id v w (set s.words 1 (t + 1)) at (λ h. absurd (subst IsServed idle h)) r.lies)
             record { opened = mine.opened; begins = mine.begins; tells = mine.tells; own_rows = mine.own_rows; once = mine.once; spent = λ e. let m = mine.spent e in absurd (omega arith); is_at = (omega arith, omega arith) }
             (λ j u apart f. fits_on r.docket r.next r.turn s.homes r.docket (t + 1) r.turn s.homes u (starts_same r.docket r.docket refl) (omega arith) (λ e. absurd (omega arith))
@@ -343,7 +365,7 @@ module _ {O D W : Type 0} (opening : D → O) (rows : D → List W) (legal : O �
         takes 0 (Some d),
         ap (λ (z : Homes). get_elem? z 0) h.1,
         subst (λ (ws : List ℕ). Rule record { words = ws; homes = homes'; views = set s.views id w }) (sym (set-get_or s.words 2 0))
-            (moved s r id v w s.words homes' r.docket r.next r.turn at r.words r.order r.short r.lawful (inr (id, w, at_here s.views id v w at, tt))
+            (moved s r id v w s.words r.others homes' r.docket r.next r.turn at r.words r.order r.short r.lawful (inr (id, w, at_here s.views id v w at, tt))
             record { opened = mine.opened; begins = mine.begins; tells = mine.tells; own_rows = mine.own_rows; once = mine.once; spent = mine.spent; is_at = (is, omega arith, h.2, out, λ e. absurd (not_true e)) }
             (λ j u apart f. fits_on r.docket r.next r.turn s.homes r.docket r.next r.turn homes' u (starts_same r.docket r.docket refl) (omega arith) (λ e. e)
             (stage_on opening rows stands (opening key) r.docket r.next r.turn s.homes u.seen r.docket r.next r.turn homes' u.stage (none_else s r v u holds apart f) (omega arith)
@@ -381,8 +403,8 @@ module _ {O D W : Type 0} (opening : D → O) (rows : D → List W) (legal : O �
         w,
         keeps,
         tt,
-        moved s r id v w (set s.words 0 (n + 1)) s.homes docket' r.next r.turn at
-            (ap (λ (ws : List ℕ). set ws 0 (n + 1)) r.words ∙ (let e : n + 1 ≡ length docket' = omega arith in ap (λ (z : ℕ). z ∷ r.next ∷ r.turn ∷ []) e)) r.order r.short
+        moved s r id v w (set s.words 0 (n + 1)) r.others s.homes docket' r.next r.turn at
+            (ap (λ (ws : List ℕ). set ws 0 (n + 1)) r.words ∙ (let e : n + 1 ≡ length docket' = omega arith in ap (λ (z : ℕ). z ∷ r.next ∷ r.turn ∷ r.others) e)) r.order r.short
             (subst (λ (z : O). legal z docket') (mine.opened lawful.0 lawful.1) lawful.3) (inr (id, w, at_here s.views id v w at, tt))
             record {
               opened = mine.opened;
@@ -426,7 +448,7 @@ module _ {O D W : Type 0} (opening : D → O) (rows : D → List W) (legal : O �
         w,
         gives,
         tt,
-        moved s r id v w (set s.words 2 n) homes' r.docket r.next (r.turn + 1) at (ap (λ (ws : List ℕ). set ws 2 n) r.words ∙ ap (λ (z : ℕ). length r.docket ∷ r.next ∷ z ∷ []) up) (omega arith) r.short r.lawful
+        moved s r id v w (set s.words 2 n) r.others homes' r.docket r.next (r.turn + 1) at (ap (λ (ws : List ℕ). set ws 2 n) r.words ∙ ap (λ (z : ℕ). length r.docket ∷ r.next ∷ z ∷ r.others) up) (omega arith) r.short r.lawful
             (inl (d, home, record { kept = kept ∙ all; begun = opened.2 ∙ mine.opened opened.0 opened.1; led = led }))
             record { opened = mine.opened; begins = mine.begins; tells = mine.tells; own_rows = mine.own_rows; once = mine.once; spent = mine.spent; is_at = tt }
             (λ j u apart f. fits_on r.docket r.next r.turn s.homes r.docket r.next (r.turn + 1) homes' u (starts_same r.docket r.docket refl) (omega arith) (λ e. e)
@@ -447,6 +469,7 @@ module _ {O D W : Type 0} (opening : D → O) (rows : D → List W) (legal : O �
         docket = r.docket;
         next = r.next;
         turn = r.turn;
+        others = r.others;
         words = r.words;
         order = r.order;
         short = r.short;
@@ -463,12 +486,13 @@ module _ {O D W : Type 0} (opening : D → O) (rows : D → List W) (legal : O �
       }
 
   -- The table as it is made keeps the rule.
-  pub opens : (first : ℕ) → first < 18446744073709551616 → legal (opening key) (rows key) → stands key
-      → Rule (the_opening (length (rows key) ∷ first ∷ first ∷ []) (Some key ∷ []) (newcomer opening rows legal stands key))
-  opens first small lawful led = record {
+  pub opens : (first : ℕ) (others : List ℕ) → first < 18446744073709551616 → legal (opening key) (rows key) → stands key
+      → Rule (the_opening (length (rows key) ∷ first ∷ first ∷ others) (Some key ∷ []) (newcomer opening rows legal stands key))
+  opens first others small lawful led = record {
     docket = rows key;
     next = first;
     turn = first;
+    others = others;
     words = refl;
     order = omega arith;
     short = small;
@@ -519,6 +543,7 @@ module _ {O D W : Type 0} (opening : D → O) (rows : D → List W) (legal : O �
         docket = r.docket;
         next = r.next;
         turn = r.turn;
+        others = r.others;
         words = r.words;
         order = r.order;
         short = r.short;
@@ -567,7 +592,7 @@ module _ {O D W : Type 0} (opening : D → O) (rows : D → List W) (legal : O �
   closes id v ws xs f a b at1 at2 same =
       let s = f.0 in
       let r = f.1.0 in
-      let is : ws ≡ length r.docket ∷ r.next ∷ r.turn ∷ [] = sym f.2 ∙ r.words in
+      let is : ws ≡ length r.docket ∷ r.next ∷ r.turn ∷ r.others = sym f.2 ∙ r.words in
       let e1 : a ≡ r.next = some-injective a r.next (sym at1 ∙ ap (λ (l : List ℕ). get_elem? l 1) is) in
       let e2 : b ≡ r.turn = some-injective b r.turn (sym at2 ∙ ap (λ (l : List ℕ). get_elem? l 2) is) in
       ⊎_elim
@@ -587,11 +612,11 @@ module _ {O D W : Type 0} (opening : D → O) (rows : D → List W) (legal : O �
       r.lies
 
   -- The same of what the call that makes the table has at hand.
-  pub opens_at : (d : D) (count first : ℕ) (items : List (Option D)) → key ≡ d → count ≡ length (rows d) → items ≡ Some d ∷ [] → first < 18446744073709551616 → legal (opening d) (rows d) → stands d
-      → Rule (the_opening (count ∷ first ∷ first ∷ []) items (newcomer opening rows legal stands key))
-  opens_at d count first items k c e small lawful led = let P : D → Type 0 = λ z. legal (opening z) (rows z) in
-      subst (λ (z : ℕ × List (Option D)). Rule (the_opening (z.0 ∷ first ∷ first ∷ []) z.1 (newcomer opening rows legal stands key)))
-      (λ i. (sym (c ∙ ap (λ (z : D). length (rows z)) (sym k)) i, sym (e ∙ ap (λ (z : D). Some z ∷ []) (sym k)) i)) (opens first small (subst P (sym k) lawful) (subst stands (sym k) led))
+  pub opens_at : (d : D) (count first : ℕ) (others : List ℕ) (items : List (Option D)) → key ≡ d → count ≡ length (rows d) → items ≡ Some d ∷ [] → first < 18446744073709551616 → legal (opening d) (rows d) → stands d
+      → Rule (the_opening (count ∷ first ∷ first ∷ others) items (newcomer opening rows legal stands key))
+  opens_at d count first others items k c e small lawful led = let P : D → Type 0 = λ z. legal (opening z) (rows z) in
+      subst (λ (z : ℕ × List (Option D)). Rule (the_opening (z.0 ∷ first ∷ first ∷ others) z.1 (newcomer opening rows legal stands key)))
+      (λ i. (sym (c ∙ ap (λ (z : D). length (rows z)) (sym k)) i, sym (e ∙ ap (λ (z : D). Some z ∷ []) (sym k)) i)) (opens first others small (subst P (sym k) lawful) (subst stands (sym k) led))
 
   -- The same of what the call that closes the table has at hand.
   pub closed_with : (id : ℕ) (v : V) (ws : List ℕ) (xs : List (Option D)) → Final (Seen Rule id v) ws xs → (a b : ℕ) → get_elem? ws 1 ≡ some a → get_elem? ws 2 ≡ some b → a ≡ b → (o : Option D)

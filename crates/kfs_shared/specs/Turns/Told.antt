@@ -50,6 +50,10 @@ module _ {D O W : Type 0} (opening : D → O) (rows : D → List W) (stands : D 
   IsOut v t d me = (me ≡ (at_stage v (Served t d false), (0, Some d) ∷ [])) × StartsWith (rows d) v.seen × stands d × ((o : O) → v.opening ≡ Some o → opening d ≡ o)
 
 module _ {D O W : Type 0} where
+  -- Marking a word on which calls sleep, or taking the mark away: the pass learns nothing
+  abbrev pub TellsNothing : Step (Option D) → Me (Option D) (Known D O W) → ℕ → Me (Option D) (Known D O W) → Type 0
+  TellsNothing st m r m' = m' ≡ m
+
   -- Taking a ticket: where the number found is the one expected, it is the pass's ticket. Else, where it is 2^64 - 1, the pass
   -- has found that none is left
   abbrev pub TellsTicket : Step (Option D) → Me (Option D) (Known D O W) → ℕ → Me (Option D) (Known D O W) → Type 0

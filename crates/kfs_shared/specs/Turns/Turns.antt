@@ -1,6 +1,7 @@
 -- The rule of a table on which passes take turns with one object.
--- Word 0 is the length of the object's docket, word 1 the next ticket, and word 2 the ticket that is served. The one slot
--- has the object, or nothing while it is out with the pass that is served. A pass is a seat of the table.
+-- Word 0 is the length of the object's docket, word 1 the next ticket, and word 2 the ticket that is served. On the other nine
+-- calls sleep, and the rule asks nothing of them. The one slot has the object, or nothing while it is out with the pass that is
+-- served. A pass is a seat of the table.
 -- What the object is, the rule is told: how it was begun, the rows of its docket, which dockets are legal, and whether it
 -- stands where its docket leads.
 use Rattle.std.specs.Prelude.{◌≡◌, ◌≢◌, ℕ, ◌<◌, ◌≤◌, ◌⊎◌, true, false, List, [], ◌∷◌, length, slice_index, Option, Some}
@@ -15,9 +16,9 @@ use Rattle.kfs_shared.specs.declared.turns.known.Known.{Known}
 use Rattle.kfs_shared.specs.declared.turns.known.Stage.{Stage}
 use Rattle.kfs_shared.specs.declared.turns.known.Stage.TheVariants.{Idle, Waiting, Served}
 
--- the seat is one of this table, which has three words and one slot
+-- the seat is one of this table, which has twelve words and one slot
 abbrev pub SeatFits : (table seat : TableId) → Type 0
-SeatFits table seat = (seat ≡ table) × (table.words ≡ 3) × (table.slots ≡ 1)
+SeatFits table seat = (seat ≡ table) × (table.words ≡ 12) × (table.slots ≡ 1)
 
 module _ {D O W : Type 0} (opening : D → O) (rows : D → List W) (stands : D → Type 0) (start : O) (docket : List W) where
   -- the object was begun so, has this docket, and stands where the docket leads
@@ -51,13 +52,14 @@ module _ {D O W : Type 0} (opening : D → O) (rows : D → List W) (stands : D 
       ⊎ ((j : ℕ) × (v : Known D O W) × (get_elem? s.views j ≡ some v) × IsServed v.stage)
 
 module _ {D O W : Type 0} (opening : D → O) (rows : D → List W) (legal : O → List W → Type 0) (stands : D → Type 0) where
-  -- The rule between two steps. There is one legal docket. Its length, the next ticket and the turn are the three words; each
-  -- ticket is below 2^64 - 1. What each pass knows fits, and no two passes have one ticket or one row
+  -- The rule between two steps. There is one legal docket. Its length, the next ticket and the turn are the first three words;
+  -- the others are of any value. Each ticket is below 2^64 - 1. What each pass knows fits, and no two passes have one ticket or one row
   pub record KeepsTurns (key : D) (s : State (Option D) (Known D O W)) : Type 0 where
     pub docket : List W
     pub next : ℕ
     pub turn : ℕ
-    pub words : s.words ≡ length docket ∷ next ∷ turn ∷ []
+    pub others : List ℕ
+    pub words : s.words ≡ length docket ∷ next ∷ turn ∷ others
     pub order : turn ≤ next
     pub short : next < 18446744073709551616
     pub lawful : legal (opening key) docket

@@ -8,3 +8,9 @@ pub const NEXT: usize = 1;
 
 /// The place of the word that has the turn: the ticket that is served.
 pub const TURN: usize = 2;
+
+/// The place of the word on which calls sleep that have no ticket.
+pub const DOOR: usize = 3;
+
+/// The place of the first of the eight words on which calls sleep that have a ticket.
+pub const BELLS: usize = 4;

@@ -6,5 +6,5 @@ use Rattle.kfs_image.proofs.read.released_blocks.Goals as goal
 pub returns : goal.returns
 returns g c =
     subst (AreReleased c.args.nodes.now c.args.zero.now)
-    (sym (c.in_ok-extend_from_slice.ensures.items ∙ ap (λ runs. runs ++ c.args.zero.now) (c.in_ok-released.ensures ∙ ap (map behind) c.as_slice.ensures.value)))
-    (released_are c.args.nodes.now c.in_ok-edits.edits.items c.args.zero.now c.in_ok-edits.ensures.edits c.in_ok-edits.ensures.made)
+    (sym (c.in_ok-extend_from_slice.ensures.items ∙ ap (λ runs. runs ++ c.args.zero.now) c.in_ok-released.ensures))
+    (released_are c.args.nodes.now c.headers.result.now c.args.zero.now c.headers.ensures.are c.headers.ensures.says)

@@ -24,8 +24,7 @@ returns g c =
     let all : c.len.result ≡ length blocks.items = omega (arith, c.len.ensures, blocks.ok.0) in
     let few : c.len-2.result ≡ length places.items = omega (arith, c.len-2.ensures, places.ok.0) in
     is_fill image log c.args.nodes.now blocks.items places.items (record { rows = c.in_ok-rows.rows; zero = c.in_ok-blocks.blocks.zero }) c.in_ok-blocks.ensures.written c.in_ok-blocks.ensures.zero
-    (c.in_ok-places.ensures.least ∙ ap (λ n. take n (unused_places image.sizes image.placement 0)) all)
-    c.in_ok-places.ensures.chosen
+    (c.in_ok-places.ensures ∙ ap (λ n. take n (unused_places image.sizes image.placement 0)) all)
     (subst (λ ps. AreRowsOf (shown_tree image) (entries_of log) (pieces_of log) (take (length places.items) blocks.items) ps rows) c.as_slice.ensures.value
     (subst (λ n. AreRowsOf (shown_tree image) (entries_of log) (pieces_of log) (take n blocks.items) c.as_slice.result.now rows) few
     (subst (λ bs. AreRowsOf (shown_tree image) (entries_of log) (pieces_of log) (take c.len-2.result bs) c.as_slice.result.now rows) c.deref.ensures.value c.in_ok-rows.ensures)))

@@ -1,6 +1,4 @@
 use Rattle.std.proofs.Common.{◌+◌, ◌≤◌, length, subst, sym, arith}
-use Rattle.kfs_desk.specs.Fill.Places.{CanBeChosen}
-use Rattle.kfs_desk.proofs.FillLemmas.Chosen.{can_be_chosen}
 use Rattle.kfs_desk.proofs.FillLemmas.FreePlaces.{AreFound, found_next, found_enough, found_last, found_end}
 use Rattle.kfs_desk.proofs.fill.fill.free_places.Goals as goal
 use Rattle.kfs_desk.proofs.fill.fill.free_places.Goals.{then-loop-place-test+else-from-size, else-loop-place-test, then-loop-place-test+then-from-size+in_default}
@@ -12,8 +10,8 @@ loop-place-preserved g c = record {
   few = omega (arith, c.in_ok-push.ensures.len, c.len.ensures);
 }
 
-pub returns-clause-least : goal.returns-clause-least
-returns-clause-least g c =
+pub returns : goal.returns
+returns g c =
     let sizes = c.args.image.now.sizes in
     let placement = c.args.image.now.placement in
     let found = c.loop-place.places.items in
@@ -23,9 +21,3 @@ returns-clause-least g c =
       | else-loop-place-test w ↦ found_enough sizes placement found c.loop-place.from c.loop-place.invariant.found c.args.count (omega (arith, w.loop-place-test.false, c.len.ensures, few, c.loop-place.places.ok.0))
       | then-loop-place-test+then-from-size+in_default w ↦ found_last sizes placement found c.loop-place.from c.loop-place.invariant.found c.args.count few w.in_default.ensures.none
     ]
-
-pub returns-clause-chosen : goal.returns-clause-chosen
-returns-clause-chosen g c =
-    let sizes = c.args.image.now.sizes in
-    let placement = c.args.image.now.placement in
-    subst (CanBeChosen sizes placement) (sym (returns-clause-least g c)) (can_be_chosen sizes placement c.args.count)

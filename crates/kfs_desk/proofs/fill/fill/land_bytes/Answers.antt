@@ -4,10 +4,13 @@ use Rattle.kfs_image.specs.Net.{CanApply, applied}
 use Rattle.kfs_desk.specs.Fill.FillOf.{HasLandedWith, IsFillOf}
 use Rattle.kfs_desk.proofs.fill.fill.land_bytes.Goals as goal
 
-pub net_apply_moving-requires : goal.net_apply_moving-requires
-net_apply_moving-requires g c =
+pub net_apply_moving-requires-clause-nodes : goal.net_apply_moving-requires-clause-nodes
+net_apply_moving-requires-clause-nodes g c = c.in_ok-nodes.ensures ∙ c.as_slice.ensures.value
+
+pub net_apply_moving-requires-clause-can : goal.net_apply_moving-requires-clause-can
+net_apply_moving-requires-clause-can g c =
     let fill = c.in_ok-fill.fill in
-    let is = subst (λ nodes. IsFillOf c.swap_spares.new.self c.args.log.now nodes fill) c.as_slice.ensures.value c.in_ok-fill.ensures in
+    let is = subst (λ nodes. IsFillOf c.swap_spares.new.self c.args.log.now nodes fill) (c.in_ok-nodes.ensures ∙ c.as_slice.ensures.value) c.in_ok-fill.ensures in
     subst (CanApply c.args.net.now fill) (sym (c.swap_spares-2.ensures ∙ c.swap_spares.ensures))
     (c.requires.fits fill (subst (λ image. IsFillOf image c.args.log.now c.args.net.now.nodes.items fill) c.swap_spares.ensures is))
 
@@ -16,7 +19,7 @@ returns-clause-ok g c =
     let image = c.args.image.now in
     let fill = c.in_ok-fill.fill in
     let same : c.swap_spares-2.new.self ≡ image = c.swap_spares-2.ensures ∙ c.swap_spares.ensures in
-    let is = subst (λ nodes. IsFillOf c.swap_spares.new.self c.args.log.now nodes fill) c.as_slice.ensures.value c.in_ok-fill.ensures in
+    let is = subst (λ nodes. IsFillOf c.swap_spares.new.self c.args.log.now nodes fill) (c.in_ok-nodes.ensures ∙ c.as_slice.ensures.value) c.in_ok-fill.ensures in
     elim c.net_apply_moving.result as (λ r. OnOk r (c.net_apply_moving.new.image ≡ applied c.args.net.now fill c.swap_spares-2.new.self) → OnOk r (HasLandedWith image c.args.log.now c.args.net.now c.net_apply_moving.new.image)) [
       | Ok done ↦ λ made. record {
         fill = fill;

@@ -29,12 +29,12 @@ pub returns-clause-headers : goal.returns-clause-headers
 returns-clause-headers g c =
     let old = c.args.self.now in
     let new = c.change.new.self in
-    let headers = c.in_ok-headers.headers.items in
-    let made = c.in_ok-headers.ensures in
+    let headers = c.headers.result.now in
+    let made = c.headers.ensures in
     elim c.change.result as (λ r. OnOk r (new.headers ≡ rewritten old.headers headers) → OnOk r (heads_in new ≡ reheaded (heads_in old) c.args.nodes.now)) [
-      | Ok done ↦ λ edited. ap heads_of edited ∙ heads_made old.headers headers c.args.nodes.now made.edits made.made c.requires.before.0 c.requires.after.0
+      | Ok done ↦ λ edited. ap heads_of edited ∙ heads_made old.headers headers c.args.nodes.now made.are made.says c.requires.before.0 c.requires.after.0
       | Err e ↦ λ none. none
-    ] (subst (λ edits. OnOk c.change.result (new.headers ≡ rewritten old.headers edits)) c.as_slice.ensures.value c.change.ensures.headers)
+    ] c.change.ensures.headers
 
 pub returns-clause-names : goal.returns-clause-names
 returns-clause-names g c =

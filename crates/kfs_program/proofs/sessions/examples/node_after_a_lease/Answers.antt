@@ -29,7 +29,7 @@ returns c = (
       answer = record { position = 0; answer = Ok (Leased 1) };
       next = root_leased;
       below = λ full. cc;
-      acted = record { row = root_row; step = record { outcome = Ok 1; said = refl; asked = refl; read = tt; answered = refl; rejudged = refl; fits = refl }; position = refl; docket = refl; opening = refl; limit = refl };
+      acted = record { row = root_row; step = record { outcome = Ok 1; said = refl; asked = refl; read = tt; answered = refl; rejudged = refl; fits = refl; least = refl }; position = refl; docket = refl; opening = refl; limit = refl };
       is = refl;
     }),
     refl,

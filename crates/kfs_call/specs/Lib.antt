@@ -1,0 +1,12 @@
+pub mod Layout
+pub mod Call
+pub mod Views
+pub mod Reading
+pub mod Readers
+pub mod AnswerRow
+pub mod AnswerViews
+pub mod AnswerReaders
+pub mod StateRows
+pub mod StateReaders
+pub mod StateViews
+pub mod Examples

@@ -1,0 +1,2 @@
+-- Lemmas on calls that were made.
+pub mod Outcomes

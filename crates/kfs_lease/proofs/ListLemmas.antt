@@ -1,0 +1,10 @@
+pub mod ClientRows
+pub mod Faultless
+pub mod Found
+pub mod HandedIn
+pub mod Kept
+pub mod LastRow
+pub mod Lawful
+pub mod OfClients
+pub mod OneList
+pub mod WalkedRows
