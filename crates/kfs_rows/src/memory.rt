@@ -134,6 +134,16 @@ fn is_due<R: AllocGlobal + Threads + Sync>(
     }
 }
 
+/// The number of this growth where the line with this index has its end. The last line of a script may have
+/// none: it is kept till the input ends, which takes one growth more than a line that is read where it lies.
+fn growth_of_ended(lines: &[u8], index: usize, growth: u64) -> u64 {
+    let mut ended = lines.split_inclusive(|byte| *byte == b'\n');
+    match ended.nth(index) {
+        Some(line) if !line.ends_with(b"\n") => growth.saturating_sub(1),
+        _ => growth,
+    }
+}
+
 /// Whether the line for which memory ran out has its reply when it comes again. That of a verdict
 /// can't come again: the verdict is given up.
 fn is_due_again<R: AllocGlobal + Threads + Sync>(
@@ -152,7 +162,7 @@ fn is_due_again<R: AllocGlobal + Threads + Sync>(
     let line = line_at(case.lines(), index).ok_or(ScriptFault::Again(index))?;
     let lines = with_line(rt.alloc(), case.lines(), index, line)?;
     let replies = with_line(rt.alloc(), case.replies(), index, REFUSED)?;
-    let heap = Refusing::new(rt.alloc(), growth);
+    let heap = Refusing::new(rt.alloc(), growth_of_ended(case.lines(), index, growth));
     let again = run(rt, &heap, words, &lines);
     if again.status == DONE && again.written == replies {
         Ok(())
