@@ -109,6 +109,13 @@ impl Client {
         self.gid
     }
 
+    /// The supplementary groups, in the order in which they were handed in.
+    pub fn groups(&self) -> &[u32]
+        ensures { result.now ≡ self.now.groups }
+    {
+        self.groups.as_slice()
+    }
+
     /// Whether the client may read, write and search whatever a node's bits are.
     pub fn is_privileged(&self) -> bool
         ensures { result ≡ self.now.privileged }
