@@ -1,3 +1,5 @@
+pub mod Access
+pub mod AccessExamples
 pub mod Walks
 pub mod EntriesEntered
 pub mod Draft

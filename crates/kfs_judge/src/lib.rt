@@ -5,12 +5,16 @@
 //! what is read of them, and the checks of an entry), and `step` (each entry's checks and its change).
 #![tactic(auto)]
 
+mod access;
+#[doc(hidden)]
+pub mod access_examples;
 mod check;
 mod draft;
 pub mod laws;
 mod step;
 mod walk;
 
+pub use access::{Access, AccessFault};
 pub use check::{Keeping, KeptReads, Read, ReadAnswer, Reads, Reason, View};
 pub use kfs_image_nodes::Net;
 pub use kfs_pieces::FileSize;

@@ -5,7 +5,7 @@ mod faults;
 #[cfg(test)]
 mod growths;
 #[cfg(test)]
-mod images;
+pub mod images;
 #[cfg(test)]
 mod many;
 #[cfg(test)]

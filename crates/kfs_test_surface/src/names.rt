@@ -50,8 +50,8 @@ pub mod lease {
 pub mod judge {
     pub use kfs_judge::laws::{cells_decide, clean_is_allowed, marks_give_bytes};
     pub use kfs_judge::{
-        EntryFault, FileSize, Keeping, KeptReads, Net, Read, ReadAnswer, Reads, Reason, View, Walk,
-        judge_entries, judge_entries_keeping,
+        Access, AccessFault, EntryFault, FileSize, Keeping, KeptReads, Net, Read, ReadAnswer,
+        Reads, Reason, View, Walk, judge_entries, judge_entries_keeping,
     };
 }
 

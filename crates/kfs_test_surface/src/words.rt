@@ -5,7 +5,7 @@ use kfs_call_desk::CallFault;
 use kfs_desk::{ActFault, BeginFault, Unanswered, Why};
 use kfs_entry::SpellFault;
 use kfs_image::ReadFault;
-use kfs_judge::{EntryFault, Reason};
+use kfs_judge::{AccessFault, EntryFault, Reason};
 use kfs_lease::LeaseFault;
 use kfs_migrate::MoveFault;
 use kfs_mode::ClientFault;
@@ -244,6 +244,15 @@ fn faults_of_clients_and_images(rt: HostRuntime) {
         (ReadFault::IsDirectory, "IsDirectory"),
     ];
     assert!(rt; say(rt.alloc(), &reads));
+    let accesses = [
+        (AccessFault::UnknownClient, "UnknownClient"),
+        (AccessFault::NoSuchNode, "NoSuchNode"),
+        (AccessFault::NotDirectory, "NotDirectory"),
+        (AccessFault::IsDirectory, "IsDirectory"),
+        (AccessFault::NoSearch, "NoSearch"),
+        (AccessFault::NoRead, "NoRead"),
+    ];
+    assert!(rt; say(rt.alloc(), &accesses));
     let finding = Finding {
         rule: 10,
         number: 5,

@@ -41,7 +41,7 @@ pub fn moves_of<A: Allocator>(alloc: A, lines: &[MoveLine]) -> Option<Vec<Move, 
 }
 
 /// Whether the ten rules hold.
-fn is_right<A: Allocator + Copy>(alloc: A, raw: &RawImage<A>) -> bool
+pub fn is_right<A: Allocator + Copy>(alloc: A, raw: &RawImage<A>) -> bool
     ensures { IsTrue result → IsWellFormed (raw_of raw.now) }
 {
     match check_shape(alloc, raw) {
