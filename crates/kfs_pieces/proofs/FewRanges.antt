@@ -139,10 +139,11 @@ as_many_pieces (s ∷ ss) = omega (arith, as_many_pieces ss)
 
 growths_counted : (sizes : List FileSize) → filled_count (growths sizes) ≡ grown_count sizes
 growths_counted [] = refl
-growths_counted (s ∷ ss) =
-    let left = sum_by-cons (λ (s : ByteRange). cond (ltb s.start s.end) 1 0) (growth_of s) (growths ss) in
-    let right = sum_by-cons (λ (s : FileSize). cond (ltb s.before s.after) 1 0) s ss in
-    omega (arith, left, right, growths_counted ss)
+growths_counted (s ∷ ss) = at (ltb s.before s.after) refl (growths_counted ss) ∙ sym (sum_by-cons (λ (s : FileSize). cond (ltb s.before s.after) 1 0) s ss)
+  where
+    at : (b : Bool) → ltb s.before s.after ≡ b → filled_count (growths ss) ≡ grown_count ss → filled_count (cond b (growth_of s ∷ growths ss) (growths ss)) ≡ cond b 1 0 + grown_count ss
+    at true e rest = sum_by-cons (λ (s : ByteRange). cond (ltb s.start s.end) 1 0) (growth_of s) (growths ss) ∙ (λ i. cond (e i) 1 0 + rest i)
+    at false e rest = omega (arith, rest)
 
 few_put : (o : Option ByteRange) (ranges : List ByteRange) → length (put_before o ranges) ≤ length ranges + 1
 few_put None ranges = omega arith

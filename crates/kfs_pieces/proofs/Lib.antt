@@ -22,3 +22,4 @@ pub mod NeedCounted
 pub mod PiecesApart
 pub mod PiecesFollowed
 pub mod TouchedBlocks
+pub mod OneOver

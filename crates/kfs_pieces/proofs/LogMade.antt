@@ -1,9 +1,9 @@
 -- The ranges of a log's entries are what the log made, where the sizes are those of its run.
-use Rattle.std.proofs.Common.{◌≡◌, ℕ, ◌+◌, ◌-◌, ◌++◌, min, true, List, [], ◌∷◌, length, drop, length-drop, arith, map, Result, Ok, refl, sym, subst, ◌∙◌}
+use Rattle.std.proofs.Common.{◌≡◌, ℕ, ◌+◌, ◌-◌, ◌<◌, ◌++◌, ◌||◌, cond, ltb, eqb, eqb-true, min, Bool, true, false, List, [], ◌∷◌, length, drop, length-drop, arith, map, Result, Ok, refl, sym, subst, ◌∙◌}
 use Rattle.std.specs.Prelude.{IfOk}
 use Rattle.std.specs.List.{AllByRecursion, list_any}
 use Rattle.std.proofs.lemmas.List.{length-take-le}
-use Rattle.std.proofs.lemmas.Bool.{eq-eqb, or_left, or_right}
+use Rattle.std.proofs.lemmas.Bool.{eq-eqb, ltb-false, or_left, or_right}
 use Rattle.kfs_model.specs.LastCover.{file_size}
 use Rattle.kfs_model.specs.Run.{Mark}
 use Rattle.kfs_model.specs.Tree.{Tree}
@@ -15,14 +15,41 @@ use Rattle.kfs_pieces.specs.declared.log.FileSize.{FileSize}
 use Rattle.kfs_pieces.specs.declared.merge.Origin.TheVariants.{Zero, Payload}
 use Rattle.kfs_pieces.specs.declared.merge.ByteRange.{ByteRange}
 use Rattle.kfs_pieces.specs.Made.{AreMade, grown, made, reach_of}
-use Rattle.kfs_pieces.specs.Sizes.{AreSizes, growths, length_after, reach_in, reaches_file}
+use Rattle.kfs_pieces.specs.Sizes.{AreSizes, growth_of, growths, length_after, reach_in, reaches_file}
 
-growths_are : (before ends : ℕ → ℕ) (sizes : List FileSize) → AllByRecursion (λ (s : FileSize). (s.before ≡ before s.number) × (s.after ≡ ends s.number)) sizes
-    → growths sizes ≡ grown before ends (map (λ (s : FileSize). s.number) sizes)
+-- the sizes are those before and after the log
+abbrev AreOwn : (before ends : ℕ → ℕ) → List FileSize → Type 0
+AreOwn before ends sizes = AllByRecursion (λ (s : FileSize). (s.before ≡ before s.number) × (s.after ≡ ends s.number)) sizes
+
+-- the numbers of the files that grew
+abbrev grown_numbers : List FileSize → List ℕ
+grown_numbers [] = []
+grown_numbers (s ∷ ss) = cond (ltb s.before s.after) (s.number ∷ grown_numbers ss) (grown_numbers ss)
+
+growths_are : (before ends : ℕ → ℕ) (sizes : List FileSize) → AreOwn before ends sizes → growths sizes ≡ grown before ends (grown_numbers sizes)
 unfolding grown
 growths_are before ends [] own = refl
-growths_are before ends (s ∷ ss) own =
-    λ i. record { number = s.number; start = own.0.0 i; end = own.0.1 i; origin = Zero } ∷ growths_are before ends ss own.1 i
+growths_are before ends (s ∷ ss) own = at (ltb s.before s.after) (growths_are before ends ss own.1)
+  where
+    at : (b : Bool) → growths ss ≡ grown before ends (grown_numbers ss) → cond b (growth_of s ∷ growths ss) (growths ss) ≡ grown before ends (cond b (s.number ∷ grown_numbers ss) (grown_numbers ss))
+    at true rest = λ i. record { number = s.number; start = own.0.0 i; end = own.0.1 i; origin = Zero } ∷ rest i
+    at false rest = rest
+
+-- a file that grew is among them, if it is listed
+module _ (before ends : ℕ → ℕ) (n : ℕ) (more : before n < ends n) where
+  grown_listed : (sizes : List FileSize) → AreOwn before ends sizes → list_any (λ k. eqb n k) (map (λ (s : FileSize). s.number) sizes) ≡ true → list_any (λ k. eqb n k) (grown_numbers sizes) ≡ true
+  grown_listed [] own any = any
+  grown_listed (s ∷ ss) own any = at (eqb n s.number) refl (ltb s.before s.after) refl any (grown_listed ss own.1)
+    where
+      at : (a : Bool) → eqb n s.number ≡ a → (b : Bool) → ltb s.before s.after ≡ b → (a || list_any (λ k. eqb n k) (map (λ (s : FileSize). s.number) ss)) ≡ true
+          → (list_any (λ k. eqb n k) (map (λ (s : FileSize). s.number) ss) ≡ true → list_any (λ k. eqb n k) (grown_numbers ss) ≡ true)
+          → list_any (λ k. eqb n k) (cond b (s.number ∷ grown_numbers ss) (grown_numbers ss)) ≡ true
+      at true same true grew here late = or_left (eqb n s.number) (list_any (λ k. eqb n k) (grown_numbers ss)) same
+      at true same false grew here late =
+          let longer : before s.number < ends s.number = subst (λ k. before k < ends k) (eqb-true n s.number same) more in
+          absurd (omega (arith, longer, own.0.0, own.0.1, ltb-false s.before s.after grew))
+      at false other true grew here late = or_right (eqb n s.number) (list_any (λ k. eqb n k) (grown_numbers ss)) (late here)
+      at false other false grew here late = late here
 
 module _ (source : List ℕ) (sizes : List FileSize) (ends : ℕ → ℕ) where
   -- the file of an entry that reaches it has the size that is listed
@@ -56,8 +83,8 @@ module _ (source : List ℕ) (sizes : List FileSize) (ends : ℕ → ℕ) where
 pub log_made : (source : List ℕ) (sizes : List FileSize) (es : List (CodeEntry Span)) (tree : Tree ℕ) (after : Tree Mark) (ranges : List ByteRange) → AllByRecursion (IsWithin (length source)) es
     → AreSizes tree (map (entry_of source) es) after sizes → ranges ≡ growths sizes ++ made (length_after sizes) 0 (map reach_in es) → AreMade tree (map (entry_of source) es) after ranges
 log_made source sizes es tree after ranges within all is = record {
-  numbers = map (λ (s : FileSize). s.number) sizes;
-  grew = all.grew;
+  numbers = grown_numbers sizes;
+  grew = (λ n more. grown_listed (file_size tree) (file_size after) n more sizes all.own (all.grew n more));
   are = is ∙ (λ i. growths_are (file_size tree) (file_size after) sizes all.own i ++ reaches_are source sizes (file_size after) 0 es within all.reached i);
 }
 

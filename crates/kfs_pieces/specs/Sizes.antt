@@ -1,6 +1,6 @@
 -- The sizes of files before and after a log, and the byte ranges that its entries change below the
 -- sizes after.
-use Rattle.std.specs.Prelude.{◌≡◌, ℕ, ◌+◌, ◌-◌, ◌<◌, ◌≤◌, ◌==◌, min, Bool, false, List, [], ◌∷◌, length, map, Option, Some, None, IfOk, IsTrue, if◌then◌else◌}
+use Rattle.std.specs.Prelude.{◌≡◌, ℕ, ◌+◌, ◌-◌, ◌<◌, ◌≤◌, ◌==◌, nat_lt, min, Bool, false, List, [], ◌∷◌, length, map, Option, Some, None, IfOk, IsTrue, if◌then◌else◌}
 use Rattle.std.specs.List.{list_any, AllByRecursion}
 use Rattle.kfs_model.specs.Access.{Client}
 use Rattle.kfs_model.specs.Entry.{Entry, Create, Write, Truncate, Link, Unlink, Rename, Chmod, Regroup}
@@ -34,12 +34,14 @@ length_after (s ∷ ss) number = if s.number == number then s.after else length_
 abbrev pub IsSize : FileSize → Type 0
 IsSize s = s.after ≤ size_limit
 
--- the range by which a file grew
+-- the range between a file's sizes before and after
 abbrev pub growth_of : FileSize → ByteRange
 growth_of s = record { number = s.number; start = s.before; end = s.after; origin = Zero }
 
+-- the ranges by which files grew
 abbrev pub growths : List FileSize → List ByteRange
-growths sizes = map growth_of sizes
+growths [] = []
+growths (s ∷ ss) = if nat_lt s.before s.after then growth_of s ∷ growths ss else growths ss
 
 -- which bytes an entry of the code reaches
 abbrev pub reach_in : CodeEntry Span → Reach

@@ -15,7 +15,7 @@ use crate::merge::{ByteRange, Origin, last_of_all};
 use kfs_types::{Entry, Piece, Source, Span};
 use std::alloc::{AllocError, Allocator};
 
-/// The range by which a file grew; empty where it didn't.
+/// The range between a file's sizes before and after; empty where it didn't grow.
 fn growth(size: &FileSize) -> ByteRange
     requires { IsSize size.now }
     ensures made { result ≡ growth_of size.now }
@@ -65,8 +65,8 @@ fn reach(sizes: &[FileSize], index: u16, entry: &Entry<Span>) -> Option<ByteRang
     }
 }
 
-/// The ranges that a log changes: first what each listed file grew by, then what each Write and
-/// Truncate changes.
+/// The ranges that a log changes: first what each listed file grew by, if it did, then what each Write
+/// and Truncate changes.
 fn ranges_of<A: Allocator>(
     alloc: A,
     sizes: &[FileSize],
@@ -81,7 +81,9 @@ fn ranges_of<A: Allocator>(
 {
     let mut out = Vec::new(alloc);
     for size in sizes {
-        out.push(growth(size))?;
+        if size.before < size.after {
+            out.push(growth(size))?;
+        }
     }
     for (index, entry) in entries.iter().enumerate() {
         if let Some(range) = reach(sizes, index as u16, entry) {

@@ -1,6 +1,6 @@
 //! Lists of byte ranges, one laid over another. A range of bytes of one file that one entry of a log
 //! made.
-ghost use Rattle.std.specs.Prelude.{◌≡◌, ◌≤◌, ◌*◌, ◌++◌, IfOk, ℕ, List, [], ◌∷◌};
+ghost use Rattle.std.specs.Prelude.{◌≡◌, ◌<◌, ◌≤◌, ◌*◌, ◌++◌, IfOk, ℕ, List, [], ◌∷◌};
 ghost use Rattle.kfs_pieces.specs.ByteRanges.{AreFrom, begins_before, cut_below, cut_from, ends_by, last_origin, merged, origin_at};
 ghost use Rattle.std.specs.List.{AllByRecursion};
 ghost use Rattle.kfs_pieces.specs.Made.{IsFit};
@@ -135,6 +135,9 @@ pub fn last_of_all<A: Allocator + Copy>(
     match ranges {
         [] => Ok(Vec::new(alloc)),
         [range] => alone(alloc, range),
+        [lower, upper] if lower.start < lower.end && upper.start < upper.end => {
+            one_over(alloc, lower, upper)
+        }
         _ => {
             let middle = ranges.len() / 2;
             let earlier = last_of_all(alloc, &ranges[..middle])?;
@@ -156,6 +159,23 @@ fn alone<A: Allocator>(alloc: A, range: &ByteRange) -> Result<Vec<ByteRange, A>,
     if range.start < range.end {
         out.push(*range)?;
     }
+    Ok(out)
+}
+
+/// One range laid over another; neither is empty. As each is a list in order, no list is made of it.
+fn one_over<A: Allocator>(
+    alloc: A,
+    lower: &ByteRange,
+    upper: &ByteRange,
+) -> Result<Vec<ByteRange, A>, AllocError>
+    requires lower { lower.now.start < lower.now.end }
+    requires upper { upper.now.start < upper.now.end }
+    ensures order { IfOk result (λ out. AreFrom 0 0 out.items) }
+    ensures says { IfOk result (λ out. (number place : ℕ) → origin_at out.items number place ≡ last_origin (lower.now ∷ upper.now ∷ []) number place) }
+    ensures fit { IfOk result (λ out. IsFit lower.now → IsFit upper.now → AllByRecursion IsFit out.items) }
+    ensures few { IfOk result (λ out. edge_count 0 0 out.items ≤ 2 * filled_count (lower.now ∷ upper.now ∷ [])) }
+{
+    let out = laid_over(alloc, &[*lower], &[*upper])?;
     Ok(out)
 }
 
