@@ -13,7 +13,7 @@ use Rattle.kfs_image_nodes.specs.Indexes.{AreNames, IsCounted, ArePositive, Coun
 use Rattle.kfs_image_nodes.proofs.Counts.{count-changed}
 use Rattle.kfs_model.proofs.TableLaws.{get-changed}
 
-turned : (a b : ℕ) → (a == b) ≡ eq_by_cmp nat_cmp b a
+pub turned : (a b : ℕ) → (a == b) ≡ eq_by_cmp nat_cmp b a
 turned a b = unsigned_ties a b ∙ (eq_by_cmp_equiv nat_cmp_total).symm a b
 
 both_equal : (a b : Ordering) → is_eq (ordering_then a b) ≡ (is_eq a && is_eq b)
@@ -21,7 +21,7 @@ both_equal Less b = refl
 both_equal Equal b = refl
 both_equal Greater b = refl
 
-turned_pair : (v n dir d : ℕ) → ((v == n) && (dir == d)) ≡ eq_by_cmp (pairs numbers numbers).compare (n, d) (v, dir)
+pub turned_pair : (v n dir d : ℕ) → ((v == n) && (dir == d)) ≡ eq_by_cmp (pairs numbers numbers).compare (n, d) (v, dir)
 turned_pair v n dir d =
     ap (λ b. b && (dir == d)) (turned v n) ∙ ap (λ b. eq_by_cmp nat_cmp n v && b) (turned dir d) ∙ sym (both_equal (nat_cmp n v) (nat_cmp d dir))
 
@@ -48,8 +48,8 @@ module _ {K : Type 0} {R : Order K} where
   pub counted_less : (t : Table R ℕ) (k : K) (now : Option ℕ) → unwrap_or now 0 + 1 ≡ count_at t k → (q : K) → count_at (changed t k now) q + cond (eq_by_cmp R.compare q k) 1 0 ≡ count_at t q
   counted_less t k now less q = changed_each (λ new old tied. unwrap_or new 0 + cond tied 1 0 ≡ unwrap_or old 0) t k now less (λ there. omega arith) q
 
-  pub counted_more : (t : Table R ℕ) (k : K) (now : Option ℕ) → unwrap_or now 0 ≡ count_at t k + 1 → (q : K) → count_at (changed t k now) q ≡ count_at t q + cond (eq_by_cmp R.compare q k) 1 0
-  counted_more t k now more q = changed_each (λ new old tied. unwrap_or new 0 ≡ unwrap_or old 0 + cond tied 1 0) t k now more (λ there. omega arith) q
+  pub counted_more : (t : Table R ℕ) (k : K) (now : Option ℕ) (step : ℕ) → unwrap_or now 0 ≡ count_at t k + step → (q : K) → count_at (changed t k now) q ≡ count_at t q + cond (eq_by_cmp R.compare q k) step 0
+  counted_more t k now step more q = changed_each (λ new old tied. unwrap_or new 0 ≡ unwrap_or old 0 + cond tied step 0) t k now more (λ there. omega arith) q
 
   -- counts that show are above 0 where one is set that is
   pub still_positive : (t : Table R ℕ) (k : K) (now : Option ℕ) → ((count : ℕ) → now ≡ Some count → 0 < count) → ArePositive t → ArePositive (changed t k now)

@@ -4,6 +4,7 @@ pub mod EditAt
 mod FreshRows
 pub mod HeaderPages
 pub mod Holders
+mod HowOften
 pub mod InOrder
 pub mod Indexes
 pub mod NameEdits

@@ -41,11 +41,11 @@ module _ {K : Type 0} {R : Order K} (t : Table R ℕ) (old new : BTreeMap K (Opt
   seen_less less said q =
       ap (λ (u : Table R ℕ). count_at u q + cond (eq_by_cmp R.compare q k) 1 0) (overlaid_set t old new k now said) ∙ counted_less (overlaid t old.entries) k now less q
 
-  -- a count that was set to one more
-  pub seen_more : unwrap_or now 0 ≡ count_at (overlaid t old.entries) k + 1
+  -- a count that was set to so many more
+  pub seen_more : (step : ℕ) → unwrap_or now 0 ≡ count_at (overlaid t old.entries) k + step
       → ((q : K) → get_slot R.compare new q ≡ cond (eq_by_cmp R.compare q k) (Some now) (get_slot R.compare old q))
-      → (q : K) → count_at (overlaid t new.entries) q ≡ count_at (overlaid t old.entries) q + cond (eq_by_cmp R.compare q k) 1 0
-  seen_more more said q = ap (λ (u : Table R ℕ). count_at u q) (overlaid_set t old new k now said) ∙ counted_more (overlaid t old.entries) k now more q
+      → (q : K) → count_at (overlaid t new.entries) q ≡ count_at (overlaid t old.entries) q + cond (eq_by_cmp R.compare q k) step 0
+  seen_more step more said q = ap (λ (u : Table R ℕ). count_at u q) (overlaid_set t old new k now said) ∙ counted_more (overlaid t old.entries) k now step more q
 
   -- counts seen are above 0 where one was set that is
   pub seen_positive : ((count : ℕ) → now ≡ Some count → 0 < count)

@@ -1,48 +1,49 @@
 -- The tables of name rows that ascend, made of one row after another.
-use Rattle.std.proofs.Common.{◌≡◌, ℕ, ◌+◌, ◌≤◌, ◌==◌, ◌&&◌, Bool, cond, T, List, [], ◌∷◌, length, drop, Some, count_by, refl, sym, ap, subst, ◌∙◌, arith}
-use Rattle.std.proofs.lemmas.List.{drop_all}
+use Rattle.std.proofs.Common.{◌≡◌, ℕ, ◌==◌, ◌&&◌, Bool, cond, T, List, [], ◌∷◌, Some, count_by, map, refl, sym, ap, subst, ◌∙◌, arith}
 use Rattle.std.proofs.lemmas.List.Sums.{sum_by-cons}
 use Rattle.std.specs.declared.cmp.Ordering.{Ordering}
 use Rattle.std.specs.declared.cmp.Ordering.TheVariants.{Less, Equal, Greater}
-use Rattle.std.specs.Ordering.{is_eq}
+use Rattle.std.specs.Ordering.{is_eq, nat_cmp, eq_by_cmp}
 use Rattle.std.specs.List.{AllByRecursion}
 use Rattle.std.specs.FinMap.Entries.{find, is_sorted}
 use Rattle.kfs_types.specs.declared.plan.NameRow.{NameRow}
-use Rattle.kfs_model.specs.Table.{Order, Table, numbers, empty, get}
+use Rattle.kfs_model.specs.Table.{Table, numbers, get}
 use Rattle.kfs_model.specs.Tree.{name_order}
 use Rattle.kfs_map_chunks.specs.Tables.{table}
 use Rattle.kfs_map_chunks.proofs.Tables.{get-table, entries-table}
-use Rattle.kfs_image_nodes.specs.Indexes.{by_node, count_at, IsCounted}
-use Rattle.kfs_image_nodes.specs.SortedRows.{name_entry, name_entries, CountEntries}
+use Rattle.kfs_image_nodes.specs.Indexes.{by_node, count_at, IsCounted, ArePositive}
+use Rattle.kfs_image_nodes.specs.SortedRows.{name_entry, name_entries, dir_of, uplink_of}
+use Rattle.kfs_image_nodes.proofs.Indexes.{turned, turned_pair}
 
 abbrev Entry : Type 0
 Entry = (ℕ × List ℕ) × ℕ
 
-module _ (passes : Entry → Bool) where
-  -- how many entries pass, with one row more counted
-  pub one_counted : (rows : List NameRow) (i : ℕ) (row : NameRow) (old new step all : ℕ) → drop i rows ≡ row ∷ drop (i + 1) rows → new ≡ old + step → step ≡ cond (passes (name_entry row)) 1 0
-      → old + count_by passes (name_entries (drop i rows)) ≡ all → new + count_by passes (name_entries (drop (i + 1) rows)) ≡ all
-  one_counted rows i row old new step all next more stepped so_far =
-      let left = ap (λ rest. count_by passes (name_entries rest)) next in
-      let first = sum_by-cons (λ e. cond (passes e) 1 0) (name_entry row) (name_entries (drop (i + 1) rows)) in
-      omega (arith, left, first, more, stepped, so_far)
+-- as many parts of rows pass as entries of the rows, where a part passes exactly where the entry does
+counted_alike : {K : Type 0} (p : K → Bool) (part : NameRow → K) (passes : Entry → Bool) → ((row : NameRow) → p (part row) ≡ passes (name_entry row)) → (rows : List NameRow) → count_by p (map part rows) ≡ count_by passes (name_entries rows)
+counted_alike p part passes same [] = refl
+counted_alike p part passes same (row ∷ rows) =
+    let left = sum_by-cons (λ k. cond (p k) 1 0) (part row) (map part rows) in
+    let right = sum_by-cons (λ e. cond (passes e) 1 0) (name_entry row) (name_entries rows) in
+    let first = ap {B = ℕ} (λ b. cond b 1 0) (same row) in
+    omega (arith, left, right, first, counted_alike p part passes same rows)
 
-  pub all_counted : (rows : List NameRow) (i : ℕ) (count all : ℕ) → length rows ≤ i → count + count_by passes (name_entries (drop i rows)) ≡ all → count ≡ all
-  all_counted rows i count all past so_far = let none = ap (λ rest. count_by passes (name_entries rest)) (drop_all i rows past) in omega (arith, none, so_far)
-
-pub none_at : {K : Type 0} (R : Order K) (key : K) → count_at {R = R} empty key ≡ 0
-unfolding get
-none_at R key = refl
-
--- counts of the entries are those of their table
-pub counted_rows : (rows : List NameRow) (tally : Table numbers ℕ) (ways : Table by_node ℕ) → T (is_sorted name_order.compare (name_entries rows)) → CountEntries (name_entries rows) tally ways
+-- how often the rows have each directory, and each uplink, are the counts of the table of their entries
+pub counted_rows : (rows : List NameRow) (tally : Table numbers ℕ) (ways : Table by_node ℕ) → T (is_sorted name_order.compare (name_entries rows)) → ((d : ℕ) → count_at tally d ≡ count_by (λ k. eq_by_cmp nat_cmp d k) (map dir_of rows))
+    → ArePositive ways
+    → ((q : ℕ × ℕ) → count_at ways q ≡ count_by (λ k. eq_by_cmp by_node.compare q k) (map uplink_of rows))
     → IsCounted (table name_order (name_entries rows)) tally ways
-counted_rows rows tally ways sorted count =
+counted_rows rows tally ways sorted dirs positive uplinks =
     let entries = entries-table name_order (name_entries rows) sorted in
     record {
-      positive = count.positive;
-      counts = λ d. count.counts d ∙ sym (ap (λ es. count_by (λ (e : Entry). e.0.0 == d) es) entries);
-      uplinks = λ n d. count.uplinks n d ∙ sym (ap (λ es. count_by (λ (e : Entry). (e.1 == n) && (e.0.0 == d)) es) entries);
+      positive = positive;
+      counts = λ d.
+          dirs d
+          ∙ counted_alike (λ k. eq_by_cmp nat_cmp d k) dir_of (λ (e : Entry). e.0.0 == d) (λ row. sym (turned row.dir d)) rows
+          ∙ sym (ap (λ es. count_by (λ (e : Entry). e.0.0 == d) es) entries);
+      uplinks = λ n d.
+          uplinks (n, d)
+          ∙ counted_alike (λ k. eq_by_cmp by_node.compare (n, d) k) uplink_of (λ (e : Entry). (e.1 == n) && (e.0.0 == d)) (λ row. sym (turned_pair row.number n row.dir d)) rows
+          ∙ sym (ap (λ es. count_by (λ (e : Entry). (e.1 == n) && (e.0.0 == d)) es) entries);
     }
 
 -- what holds of each row's key holds of each key of the table

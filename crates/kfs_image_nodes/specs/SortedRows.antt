@@ -1,8 +1,12 @@
--- Name rows as entries of the map of names.
-use Rattle.std.specs.Prelude.{◌≡◌, ℕ, ◌==◌, ◌&&◌, List, map, count_by}
+-- Name rows as entries of the map of names, and how often a key stands in a list.
+use Rattle.std.specs.Prelude.{◌≡◌, ℕ, ◌<◌, Bool, false, List, [], ◌∷◌, Option, Some, None, map, unwrap_or, count_by}
+use Rattle.std.specs.Ordering.{eq_by_cmp}
 use Rattle.kfs_types.specs.declared.plan.NameRow.{NameRow}
-use Rattle.kfs_model.specs.Table.{Table, numbers}
-use Rattle.kfs_image_nodes.specs.Indexes.{by_node, count_at, ArePositive}
+use Rattle.kfs_model.specs.Table.{Order, numbers, empty}
+use Rattle.kfs_map_chunks.specs.declared.entries.KeyEdit.{KeyEdit}
+use Rattle.kfs_map_chunks.specs.Edits.{edited}
+use Rattle.kfs_map_chunks.specs.Overlays.{overlaid}
+use Rattle.kfs_image_nodes.specs.Indexes.{count_at}
 
 -- the entry of a row: its name leads to its number
 abbrev pub name_entry : NameRow → (ℕ × List ℕ) × ℕ
@@ -11,8 +15,24 @@ name_entry row = ((row.dir, row.name), row.number)
 abbrev pub name_entries : List NameRow → List ((ℕ × List ℕ) × ℕ)
 name_entries rows = map name_entry rows
 
--- the counts of directories' names and of uplinks are those of the entries; an uplink whose count is 0 isn't listed
-pub record CountEntries (entries : List ((ℕ × List ℕ) × ℕ)) (tally : Table numbers ℕ) (ways : Table by_node ℕ) : Type 0 where
-  pub positive : ArePositive ways
-  pub counts : (directory : ℕ) → count_at tally directory ≡ count_by (λ e. e.0.0 == directory) entries
-  pub uplinks : (number directory : ℕ) → count_at ways (number, directory) ≡ count_by (λ e. (e.1 == number) && (e.0.0 == directory)) entries
+-- the directory of a row, and the uplink that its name is: its number, and its directory
+abbrev pub dir_of : NameRow → ℕ
+dir_of row = row.dir
+
+abbrev pub uplink_of : NameRow → ℕ × ℕ
+uplink_of row = (row.number, row.dir)
+
+-- the count that is set for a directory, over no counts
+abbrev pub tallied_at : List (ℕ × Option ℕ) → ℕ → ℕ
+tallied_at said directory = count_at {R = numbers} (overlaid empty said) directory
+
+module _ {K : Type 0} (R : Order K) where
+  -- whether the first of the later keys is the same
+  abbrev pub goes_on : K → (later : List K) → Bool
+  goes_on key [] = false
+  goes_on key (next ∷ later) = eq_by_cmp R.compare next key
+
+  -- the edits of an empty map say how often each key stands in the list
+  pub record SayHowOften (keys : List K) (edits : List (KeyEdit K ℕ)) : Type 0 where
+    pub positive : (q : K) (count : ℕ) → edited R.compare edits q None ≡ Some count → 0 < count
+    pub counts : (q : K) → unwrap_or (edited R.compare edits q None) 0 ≡ count_by (λ k. eq_by_cmp R.compare q k) keys

@@ -1,19 +1,21 @@
 //! The tables of name rows that ascend: each row is written once, and no table is searched for its name.
-ghost use Rattle.std.specs.Prelude.{◌≡◌, [], T, All, IfOk, map};
+ghost use Rattle.std.specs.Prelude.{◌≡◌, ℕ, T, All, IfOk, count_by, map};
 ghost use Rattle.std.specs.FinMap.Entries.{is_sorted};
-ghost use Rattle.kfs_model.specs.Table.{empty};
+ghost use Rattle.std.specs.List.Sorted.{IsSorted};
+ghost use Rattle.std.specs.Ordering.{eq_by_cmp, nat_cmp};
+ghost use Rattle.kfs_model.specs.Table.{numbers};
 ghost use Rattle.kfs_model.specs.Tree.{name_order};
 ghost use Rattle.kfs_model.specs.Spelling.{IsName};
+ghost use Rattle.kfs_map_chunks.specs.Edits.{KeysAscend};
 ghost use Rattle.kfs_map_chunks.specs.Tables.{table};
 ghost use Rattle.kfs_image_nodes.specs.Indexes.{by_node, IsCounted};
-ghost use Rattle.kfs_image_nodes.specs.NameEdits.{counts_seen, ways_seen};
 ghost use Rattle.kfs_image_nodes.specs.NodeEdits.{IsNumber};
-ghost use Rattle.kfs_image_nodes.specs.SortedRows.{name_entry, name_entries, CountEntries};
+ghost use Rattle.kfs_image_nodes.specs.SortedRows.{name_entry, name_entries, dir_of, uplink_of, tallied_at, goes_on, SayHowOften};
 
 use crate::name_edits::number_edits;
 use crate::rows::name_key;
-use crate::tallies::Tallies;
-use kfs_map_chunks::{ChunkList, Chunks, Key, key_edits};
+use crate::tallies::add;
+use kfs_map_chunks::{ChunkList, Chunks, Key, KeyEdit, Overlay, push_above};
 use kfs_map_pages::Pages;
 use kfs_types::{Name, NameRow, Nothing};
 use std::alloc::{AllocError, Allocator};
@@ -71,28 +73,106 @@ pub(crate) fn counts_of<A: Allocator + Clone>(
 {
     let mut counts = Pages::new(alloc.clone()?)?;
     let mut uplinks = Chunks::new(alloc.clone()?);
-    let tallies = tallied(alloc, &counts, &uplinks, rows)?;
-    let count_edits = number_edits(alloc, &tallies.counts)?;
-    let uplink_edits = key_edits(alloc, &tallies.uplinks)?;
+    let tally = directory_counts(alloc, rows)?;
+    let count_edits = number_edits(alloc, &tally)?;
+    let uplink_edits = uplink_counts(alloc, rows)?;
     counts.change_then(count_edits.as_slice(), &mut Nothing)?;
     uplinks.change_then(uplink_edits.as_slice(), &mut Nothing)?;
     Ok(NameCounts { counts, uplinks })
 }
 
-/// The counts of the rows' names, laid over empty maps.
-fn tallied<A: Allocator + Clone>(
+/// How many names each directory has. A directory is looked up once for each run of its rows.
+fn directory_counts<A: Allocator + Clone>(
     alloc: &A,
-    counts: &Pages<u64, A>,
-    uplinks: &Chunks<(u32, u32), u64, A>,
     rows: &[NameRow],
-) -> Result<Tallies<A>, AllocError>
-    requires counts { counts.now ≡ empty }
-    requires uplinks { uplinks.now ≡ [] }
-    ensures { IfOk result (λ tallies. CountEntries (name_entries rows.now) (counts_seen tallies counts.now) (ways_seen tallies uplinks.now)) }
+) -> Result<Overlay<u32, u64, A>, AllocError>
+    ensures { IfOk result (λ tally. (d : ℕ) → tallied_at tally.latest.entries d ≡ count_by (λ k. eq_by_cmp nat_cmp d k) (map dir_of rows.now)) }
 {
-    let mut tallies = Tallies::new(alloc)?;
-    for row in rows {
-        tallies.enter(counts, uplinks, row.dir, Some(row.number))?;
+    // Tells the prover that a count of rows fits 64 bits.
+    let _many = rows.len();
+    let mut tally = Overlay::new(alloc.clone()?);
+    let mut run = 0;
+    let mut left = rows;
+    while let Some((row, rest)) = left.split_first() {
+        run += 1;
+        if !is_in_run(row, rest) {
+            add(&mut tally, row.dir, run)?;
+            run = 0;
+        }
+        left = rest;
     }
-    Ok(tallies)
+    Ok(tally)
+}
+
+/// Whether the first of the later rows is of the same directory.
+fn is_in_run(row: &NameRow, later: &[NameRow]) -> bool
+    ensures { result ≡ goes_on numbers row.now.dir (map dir_of later.now) }
+{
+    match later.first() {
+        Some(next) => next.dir.cmp(&row.dir).is_eq(),
+        None => false,
+    }
+}
+
+/// How many names of each directory lead to each node, as edits that make an empty map say so. They are
+/// sorted as a list, where a map would be searched for each.
+fn uplink_counts<A: Allocator + Clone>(
+    alloc: &A,
+    rows: &[NameRow],
+) -> Result<Vec<KeyEdit<(u32, u32), u64>, A>, AllocError>
+    ensures ascend { IfOk result (λ edits. KeysAscend by_node.compare edits.items) }
+    ensures said { IfOk result (λ edits. SayHowOften by_node (map uplink_of rows.now) edits.items) }
+{
+    let mut uplinks = uplinks_of(alloc, rows)?;
+    uplinks.sort_unstable();
+    let edits = how_often(alloc, uplinks.as_slice())?;
+    Ok(edits)
+}
+
+/// The uplinks of the rows' names, each as its node's number and its directory's.
+fn uplinks_of<A: Allocator + Clone>(
+    alloc: &A,
+    rows: &[NameRow],
+) -> Result<Vec<(u32, u32), A>, AllocError>
+    ensures { IfOk result (λ made. made.items ≡ map uplink_of rows.now) }
+{
+    let mut made = Vec::with_capacity(alloc.clone()?, rows.len())?;
+    for row in rows {
+        made.push((row.number, row.dir))?;
+    }
+    Ok(made)
+}
+
+/// How often each uplink stands in the list, which ascends.
+fn how_often<A: Allocator + Clone>(
+    alloc: &A,
+    uplinks: &[(u32, u32)],
+) -> Result<Vec<KeyEdit<(u32, u32), u64>, A>, AllocError>
+    requires { IsSorted by_node.compare uplinks.now }
+    ensures ascend { IfOk result (λ edits. KeysAscend by_node.compare edits.items) }
+    ensures said { IfOk result (λ edits. SayHowOften by_node uplinks.now edits.items) }
+{
+    let mut edits = Vec::with_capacity(alloc.clone()?, uplinks.len())?;
+    let mut run = 0;
+    let mut left = uplinks;
+    while let Some((uplink, rest)) = left.split_first() {
+        run += 1;
+        if !is_same_first(uplink, rest) {
+            // It is above the others, since the list ascends.
+            let _above = push_above(&mut edits, *uplink, Some(run))?;
+            run = 0;
+        }
+        left = rest;
+    }
+    Ok(edits)
+}
+
+/// Whether the first of the later uplinks is the same.
+fn is_same_first(uplink: &(u32, u32), later: &[(u32, u32)]) -> bool
+    ensures { result ≡ goes_on by_node uplink.now later.now }
+{
+    match later.first() {
+        Some(next) => next.cmp(uplink).is_eq(),
+        None => false,
+    }
 }

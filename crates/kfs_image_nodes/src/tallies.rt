@@ -1,10 +1,12 @@
 //! The counts of names while rows change them: how many names each directory has, and how many of them
 //! lead to each node.
-ghost use Rattle.std.specs.Prelude.{◌≡◌, ℕ, ◌+◌, ◌<◌, [], OnOk, IfOk, Some, unwrap_or};
+ghost use Rattle.std.specs.Prelude.{◌≡◌, ℕ, ◌+◌, ◌<◌, [], OnOk, IfOk, Some, unwrap_or, if◌then◌else◌};
+ghost use Rattle.std.specs.Ordering.{eq_by_cmp, nat_cmp};
 ghost use Rattle.kfs_model.specs.Table.{get};
 ghost use Rattle.kfs_image_nodes.specs.Indexes.{CountsFewer, CountsMore, CountsMoved, count_at, count_step, uplink_step, ArePositive};
 ghost use Rattle.kfs_image_nodes.specs.NameEdits.{counts_seen, ways_seen};
 ghost use Rattle.kfs_image_nodes.specs.Overlays.{IsOneMore};
+ghost use Rattle.kfs_image_nodes.specs.SortedRows.{tallied_at};
 
 use kfs_map_chunks::{Chunks, Near, Overlay};
 use kfs_map_pages::Pages;
@@ -100,7 +102,7 @@ impl<A: Allocator + Clone> Tallies<A> {
     }
 
     /// Counts one name of the directory more, if the name now leads to a node.
-    pub(crate) fn enter(
+    fn enter(
         &mut self,
         counts: &Pages<u64, A>,
         uplinks: &Chunks<(u32, u32), u64, A>,
@@ -134,6 +136,23 @@ fn add_one<K: Ord + Copy, A: Allocator + Clone>(
         overlay.set(key, one_more(before)?)?;
         return Ok(());
     }
+    Ok(())
+}
+
+/// Adds so many to the count of a key, laid over no other counts. A count over 64 bits can't occur, since
+/// memory doesn't hold so many names; it would be answered as `Err`.
+pub(crate) fn add<A: Allocator + Clone>(
+    overlay: &mut Overlay<u32, u64, A>,
+    key: u32,
+    more: u64,
+) -> Result<(), AllocError>
+    ensures { OnOk result ((q : ℕ) → tallied_at overlay.new.latest.entries q ≡ tallied_at overlay.old.latest.entries q + (if eq_by_cmp nat_cmp q key then more else 0)) }
+{
+    let before = overlay.get_or(&key, None).unwrap_or(0);
+    let Some(now) = before.checked_add(more) else {
+        return Err(AllocError);
+    };
+    overlay.set(key, Some(now))?;
     Ok(())
 }
 

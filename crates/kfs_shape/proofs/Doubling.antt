@@ -1,11 +1,11 @@
 -- Lists of where numbers lead, in more and more steps up.
-use Rattle.std.proofs.Common.{◌≡◌, ◌≢◌, ℕ, zero, suc, ◌+◌, ◌-◌, ◌<◌, ◌≤◌, ◌==◌, Bool, true, false, cond, List, map, slice_get, Option, Some, None, option_map, refl, sym, ap, subst, ◌∙◌, arith, eq-eqb, eqb-true}
+use Rattle.std.proofs.Common.{◌≡◌, ◌≢◌, ℕ, zero, suc, ◌+◌, ◌-◌, ◌<◌, ◌≤◌, ◌==◌, Bool, true, false, cond, List, [], ◌∷◌, length, get_or, map, slice_get, Option, Some, None, option_map, refl, sym, ap, subst, ◌∙◌, arith, nat_le, leb-true, leb-false, eq-eqb, eqb-true}
 use Rattle.std.proofs.lemmas.Bool.{ne_eqb}
 use Rattle.std.proofs.lemmas.Option.{slice_get-map}
 use Rattle.std.proofs.lemmas.Map.Steps.{length-le_from_distinct_below}
 use Rattle.kfs_model.specs.Soundness.{Climbs}
 use Rattle.kfs_model.proofs.Climb.{passed, passed_long, climb_from, passed_once}
-use Rattle.kfs_shape.specs.Climbs.{ancestor_at, ancestor_from, is_root}
+use Rattle.kfs_shape.specs.Climbs.{ancestor_at, ancestor_from, is_root, not_elsewhere, EndAtRoot}
 
 -- ---- a list that leads on
 
@@ -15,6 +15,20 @@ up_map ancestors others n = ap (λ o. elim o [ None ↦ None | Some up ↦ up ])
     at : (o : Option (Option ℕ)) → elim (option_map (ancestor_from ancestors) o) [ None ↦ None | Some up ↦ up ] ≡ ancestor_from ancestors (elim o [ None ↦ None | Some up ↦ up ])
     at None = refl
     at (Some up) = refl
+
+-- each element of the list leads nowhere, or to the root
+pub ends_each : (ancestors : List (Option ℕ)) → ((k : ℕ) → k < length ancestors → not_elsewhere (get_or ancestors k None) ≡ true) → EndAtRoot ancestors
+ends_each [] each n = refl
+ends_each (up ∷ ups) each zero = each 0 (omega arith)
+ends_each (up ∷ ups) each (suc n) = ends_each ups (λ k within. each (suc k) (omega (arith, within))) n
+
+-- what holds below a number, and of it, holds up to it
+pub one_further : (P : ℕ → Type 0) (i : ℕ) → ((k : ℕ) → k < i → P k) → P i → (k : ℕ) → k < i + 1 → P k
+one_further P i below here k within = at (nat_le i k) refl
+  where
+    at : (b : Bool) → nat_le i k ≡ b → P k
+    at true reached = let same : i ≡ k = omega (arith, leb-true i k reached, within) in subst P same here
+    at false short = below k (leb-false i k short)
 
 module _ (parent : ℕ → Option ℕ) (root_end : parent 1 ≡ None) where
   -- the list leads up, and as far as so many steps on each climb to the root
@@ -61,6 +75,38 @@ module _ (parent : ℕ → Option ℕ) (root_end : parent 1 ≡ None) where
           let (others, rest) = leads.sound k m is in
           joined steps n k m climb others rest
 
+  -- ---- the root
+
+  from_the_root : (power : ℕ) (ancestors : List (Option ℕ)) → LeadsBy power ancestors → (n : ℕ) → is_root (ancestor_at ancestors n) ≡ true → (steps : ℕ) × Climbs parent steps n 1
+  from_the_root power ancestors leads n root = at (ancestor_at ancestors n) refl root
+    where
+      at : (o : Option ℕ) → ancestor_at ancestors n ≡ o → is_root o ≡ true → (steps : ℕ) × Climbs parent steps n 1
+      at None is root = cc
+      at (Some m) is root = leads.sound n 1 (is ∙ ap Some (eqb-true m 1 root))
+
+  tells : (power : ℕ) (ancestors : List (Option ℕ)) → LeadsBy power ancestors → (n : ℕ) (reaches : Bool) → ((steps : ℕ) → Climbs parent steps n 1 → is_root (ancestor_at ancestors n) ≡ true)
+      → (reaches ≡ true → (steps : ℕ) × Climbs parent steps n 1)
+      → ((steps : ℕ) → Climbs parent steps n 1 → reaches ≡ true) → is_root (ancestor_at ancestors n) ≡ reaches
+  tells power ancestors leads n reaches led found only =
+      same (is_root (ancestor_at ancestors n)) reaches
+      (λ root. let (steps, climb) = from_the_root power ancestors leads n root in only steps climb)
+      (λ reached. let (steps, climb) = found reached in led steps climb)
+    where
+      same : (a b : Bool) → (a ≡ true → b ≡ true) → (b ≡ true → a ≡ true) → a ≡ b
+      same true b there back = sym (there refl)
+      same false true there back = back refl
+      same false false there back = refl
+
+  -- the test of a climb, by a list that leads nowhere but to the root
+  pub end_tells : (power : ℕ) (ancestors : List (Option ℕ)) → EndAtRoot ancestors → LeadsBy power ancestors → (n : ℕ) (reaches : Bool) → (reaches ≡ true → (steps : ℕ) × Climbs parent steps n 1)
+      → ((steps : ℕ) → Climbs parent steps n 1 → reaches ≡ true) → is_root (ancestor_at ancestors n) ≡ reaches
+  end_tells power ancestors ends leads n reaches found only = tells power ancestors leads n reaches led found only
+    where
+      led : (steps : ℕ) → Climbs parent steps n 1 → is_root (ancestor_at ancestors n) ≡ true
+      led steps climb =
+          let (m, is, rest) = leads.far n steps climb in
+          ap is_root is ∙ sym (ap not_elsewhere is) ∙ ends n
+
   -- ---- as many as a climb can have
 
   module _ (in_range : (k up : ℕ) → parent k ≡ Some up → k < 65537) where
@@ -82,22 +128,7 @@ module _ (parent : ℕ → Option ℕ) (root_end : parent 1 ≡ None) where
         let here : m ≡ 1 = subst (λ s. Climbs parent s m 1) none rest in
         ap is_root is ∙ eq-eqb m 1 here
 
-    from_the_root : (power : ℕ) (ancestors : List (Option ℕ)) → LeadsBy power ancestors → (n : ℕ) → is_root (ancestor_at ancestors n) ≡ true → (steps : ℕ) × Climbs parent steps n 1
-    from_the_root power ancestors leads n root = at (ancestor_at ancestors n) refl root
-      where
-        at : (o : Option ℕ) → ancestor_at ancestors n ≡ o → is_root o ≡ true → (steps : ℕ) × Climbs parent steps n 1
-        at None is root = cc
-        at (Some m) is root = leads.sound n 1 (is ∙ ap Some (eqb-true m 1 root))
-
     -- the test of a climb, by such a list
     pub root_tells : (power : ℕ) (ancestors : List (Option ℕ)) → 65536 ≤ power → LeadsBy power ancestors → (n : ℕ) (reaches : Bool) → (reaches ≡ true → (steps : ℕ) × Climbs parent steps n 1)
         → ((steps : ℕ) → Climbs parent steps n 1 → reaches ≡ true) → is_root (ancestor_at ancestors n) ≡ reaches
-    root_tells power ancestors enough leads n reaches found only =
-        same (is_root (ancestor_at ancestors n)) reaches
-        (λ root. let (steps, climb) = from_the_root power ancestors leads n root in only steps climb)
-        (λ reached. let (steps, climb) = found reached in to_the_root power ancestors enough leads n steps climb)
-      where
-        same : (a b : Bool) → (a ≡ true → b ≡ true) → (b ≡ true → a ≡ true) → a ≡ b
-        same true b there back = sym (there refl)
-        same false true there back = back refl
-        same false false there back = refl
+    root_tells power ancestors enough leads n reaches found only = tells power ancestors leads n reaches (λ steps climb. to_the_root power ancestors enough leads n steps climb) found only

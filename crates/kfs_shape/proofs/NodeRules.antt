@@ -1,5 +1,5 @@
 -- Tests of node rows by counts of names and by where climbs lead are the tests of the rules.
-use Rattle.std.proofs.Common.{◌≡◌, ℕ, ◌<◌, ◌≤◌, ◌||◌, List, [], ◌∷◌, map, Option, Some, None, ap, refl, arith}
+use Rattle.std.proofs.Common.{◌≡◌, ℕ, ◌≤◌, ◌||◌, List, [], ◌∷◌, map, Option, Some, None, ap, refl}
 use Rattle.std.specs.List.{AllByRecursion}
 use Rattle.kfs_model.specs.Sight.{is_file}
 use Rattle.kfs_model.specs.Tree.{name_count}

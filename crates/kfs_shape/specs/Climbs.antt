@@ -1,5 +1,5 @@
 -- For each number the ancestor that a list leads it to.
-use Rattle.std.specs.Prelude.{◌≡◌, ℕ, ◌<◌, ◌==◌, ◌&&◌, ◌||◌, Bool, false, List, length, slice_get, Option, Some, None, if◌then◌else◌}
+use Rattle.std.specs.Prelude.{◌≡◌, ℕ, ◌<◌, ◌==◌, ◌&&◌, ◌||◌, Bool, true, false, List, length, slice_get, Option, Some, None, if◌then◌else◌}
 use Rattle.kfs_model.specs.Table.{option_or}
 use Rattle.kfs_model.specs.Sight.{is_file}
 use Rattle.kfs_model.specs.Device.RawImage.{RawNode, RawImage}
@@ -26,6 +26,15 @@ pub record LeadsFirst (old new : List (Option ℕ)) (taken : Bool) (number up : 
 abbrev pub is_root : Option ℕ → Bool
 is_root None = false
 is_root (Some number) = number == 1
+
+-- whether this leads nowhere, or to the root
+abbrev pub not_elsewhere : Option ℕ → Bool
+not_elsewhere None = true
+not_elsewhere (Some number) = number == 1
+
+-- the list leads no number elsewhere than to the root
+abbrev pub EndAtRoot : List (Option ℕ) → Type 0
+EndAtRoot ancestors = (number : ℕ) → not_elsewhere (ancestor_at ancestors number) ≡ true
 
 -- whether the node is a file, or the list leads it to the root
 abbrev pub top_test : List (Option ℕ) → RawNode → Test

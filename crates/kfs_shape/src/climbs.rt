@@ -1,9 +1,9 @@
 //! Rule 7: from each directory a climb along the parents reaches the root.
-ghost use Rattle.std.specs.Prelude.{◌≡◌, ◌||◌, ◌<◌, ◌≤◌, ℕ, IfOk, None, length, map, Some, true};
+ghost use Rattle.std.specs.Prelude.{◌≡◌, ◌||◌, ◌<◌, ◌≤◌, ℕ, IfOk, IsTrue, None, length, map, Some, true};
 ghost use Rattle.kfs_model.specs.Sight.{is_directory, is_file};
 ghost use Rattle.kfs_model.specs.Device.Rules.{rule_1, rule_4, rule_7, reaches_root};
 ghost use Rattle.kfs_model.specs.Device.Finding.{least_failed};
-ghost use Rattle.kfs_shape.specs.Climbs.{ancestor_at, ancestor_from, is_root, top_test, LeadsFirst, ParentsOf};
+ghost use Rattle.kfs_shape.specs.Climbs.{ancestor_at, ancestor_from, is_root, not_elsewhere, top_test, EndAtRoot, LeadsFirst, ParentsOf};
 ghost use Rattle.kfs_shape.specs.Heads.{head_at, ShowsHeads};
 ghost use Rattle.kfs_image.specs.Codec.RawImages.{raw_node_of, raw_of};
 
@@ -111,9 +111,34 @@ fn tops<A: Allocator + Copy>(
 {
     let mut ancestors = parents(alloc, raw, headers)?;
     for _ in 0..DOUBLINGS {
+        if end_at_root(&ancestors) {
+            return Ok(ancestors);
+        }
         ancestors = doubled(alloc, &ancestors)?;
     }
     Ok(ancestors)
+}
+
+/// Whether the list leads no number elsewhere than to the root. Then it leads none any further.
+fn end_at_root(ancestors: &[Option<u32>]) -> bool
+    ensures { IsTrue result → EndAtRoot ancestors.now }
+{
+    for up in ancestors {
+        if !is_at_root(*up) {
+            return false;
+        }
+    }
+    true
+}
+
+/// Whether this leads nowhere, or to the root.
+fn is_at_root(up: Option<u32>) -> bool
+    ensures { result ≡ not_elsewhere up }
+{
+    match up {
+        Some(number) => number == ROOT,
+        None => true,
+    }
 }
 
 /// Whether the node is a file, or leads to the root.

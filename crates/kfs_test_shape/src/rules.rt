@@ -70,7 +70,7 @@ fn growths(
 fn each_growth_refused_in_turn(rt: HostRuntime) {
     let of_a_right_one = growths(&rt, &[RIGHT], Ok(()));
     assert!(&rt;
-        20 < of_a_right_one && of_a_right_one < MANY,
+        5 < of_a_right_one && of_a_right_one < MANY,
         "{of_a_right_one}"
     );
     let shared = Finding {
@@ -80,7 +80,7 @@ fn each_growth_refused_in_turn(rt: HostRuntime) {
     let parts = broken(9, 9);
     let of_the_last_rule = growths(&rt, &parts, Err(ShapeFault::Found(shared)));
     assert!(&rt;
-        20 < of_the_last_rule && of_the_last_rule < MANY,
+        5 < of_the_last_rule && of_the_last_rule < MANY,
         "{of_the_last_rule}"
     );
 }

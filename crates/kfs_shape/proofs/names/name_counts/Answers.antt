@@ -1,4 +1,4 @@
-use Rattle.std.proofs.Common.{◌+◌, ◌==◌, cond, length, sym, ap, ◌∙◌, arith}
+use Rattle.std.proofs.Common.{◌==◌, length, ap, ◌∙◌, arith}
 use Rattle.kfs_model.proofs.Counts.{is_tally}
 use Rattle.kfs_shape.specs.NameCounts.{count_in, leads_to}
 use Rattle.kfs_shape.proofs.NameCounts.{zero_counts, counted_rest, counted_end, at_most}

@@ -18,7 +18,7 @@ returns-in_ok-add_one-2-clause-counts g c = λ q.
     let old = c.args.self.now.counts.latest in
     let made = c.in_ok-add_one.ensures in
     let seen = read_seen counts old c.args.dir c.copied.result (c.copied.ensures ∙ c.get.ensures) in
-    seen_more counts old c.add_one.new.overlay.latest c.args.dir made.now (made.more ∙ ap (λ o. unwrap_or o 0 + 1) seen) made.set q
+    seen_more counts old c.add_one.new.overlay.latest c.args.dir made.now 1 (made.more ∙ ap (λ o. unwrap_or o 0 + 1) seen) made.set q
     ∙ ap (λ to. count_at (counts_seen c.args.self.now counts) q + count_step c.args.dir to q) (sym c.in-Some.is)
 
 pub returns-in_ok-add_one-2-clause-uplinks : goal.returns-in_ok-add_one-2-clause-uplinks
@@ -28,5 +28,5 @@ returns-in_ok-add_one-2-clause-uplinks g c = λ q.
     let way : ℕ × ℕ = (c.in-Some.number, c.args.dir) in
     let made = c.in_ok-add_one-2.ensures in
     let seen = read_seen (table by_node uplinks) old way c.copied-there.result (c.copied-there.ensures ∙ c.get_near.ensures ∙ sym (get-table by_node uplinks way)) in
-    seen_more (table by_node uplinks) old c.add_one-in-Some.new.overlay.latest way made.now (made.more ∙ ap (λ o. unwrap_or o 0 + 1) seen) made.set q
+    seen_more (table by_node uplinks) old c.add_one-in-Some.new.overlay.latest way made.now 1 (made.more ∙ ap (λ o. unwrap_or o 0 + 1) seen) made.set q
     ∙ ap (λ to. count_at (ways_seen c.args.self.now uplinks) q + uplink_step c.args.dir to q) (sym c.in-Some.is)
