@@ -272,6 +272,12 @@ void kfs_close(struct kfs *handle);
 uint32_t kfs_submit(struct kfs *handle, uint32_t client, const uint8_t *log, size_t log_len,
                     const uint8_t *plan, size_t plan_len, struct kfs_reply *reply);
 
+/* Makes the log's plan against the desk's state now (kfs_plan), and submits both (kfs_submit). Where there is
+ * no plan, the reply tells the fault of the log: an unknown client, bytes that are no log of this client, or
+ * the first entry that is refused. */
+uint32_t kfs_do(struct kfs *handle, uint32_t client, const uint8_t *log, size_t log_len,
+                struct kfs_reply *reply);
+
 /* Has `view` hold a view of the desk's state now; what it held is freed then. It shares the desk's tables
  * and doesn't change when the desk goes on. A view that is kept makes the desk copy what it changes.
  * Whatever isn't KFS_DONE leaves `view` as it was. */
@@ -315,6 +321,11 @@ uint32_t kfs_migrate(struct kfs *handle, const struct kfs_move *moves, size_t mo
 
 /* The header of a node, or KFS_NOTHING. */
 uint32_t kfs_node(struct kfs *handle, uint32_t number, struct kfs_node *node);
+
+/* The number to which a name of the directory leads. KFS_NOTHING: it has no such name, or is no directory.
+ * KFS_REFUSED: the bytes are no name. No check is made of who looks. */
+uint32_t kfs_find(struct kfs *handle, uint32_t directory, const uint8_t *name, size_t name_len,
+                  uint32_t *number);
 
 /* The least name of the directory above `after`, or the least of all where after_len is 0: its bytes
  * into the front of `name` (255 are always enough), its length, and the number that it leads to.

@@ -172,6 +172,14 @@ impl Desk {
         Ok(reply.into())
     }
 
+    /// Makes the plan of a client's log against the state now, and submits both. Where there is none, the reply
+    /// tells the fault of the log.
+    pub fn submit_log(&mut self, client: u32, log: &[u8]) -> Result<Reply, Error> {
+        let mut reply = raw::Reply::default();
+        done(unsafe { raw::kfs_do(&mut self.0 .0, client, log.as_ptr(), log.len(), &mut reply) })?;
+        Ok(reply.into())
+    }
+
     /// A view of the state now.
     pub fn look(&mut self) -> Result<View, Error> {
         let mut view = Held(Handle::EMPTY);
@@ -219,6 +227,13 @@ impl Desk {
         let mut node = Node::default();
         done(unsafe { raw::kfs_node(&mut self.0 .0, number, &mut node) })?;
         Ok(node)
+    }
+
+    /// The number to which a name of the directory leads.
+    pub fn find(&mut self, directory: u32, name: &[u8]) -> Result<u32, Error> {
+        let mut number = 0;
+        done(unsafe { raw::kfs_find(&mut self.0 .0, directory, name.as_ptr(), name.len(), &mut number) })?;
+        Ok(number)
     }
 
     /// The names of a directory, in order, with the numbers that they lead to.
