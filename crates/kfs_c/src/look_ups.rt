@@ -48,7 +48,7 @@ fn find_node(desk: &Desk<Global>, number: u32, node: &mut NodeNumbers) -> u32
 }
 
 /// Tells the number to which a name of the directory leads. `NOTHING` where it has no such name, or where it
-/// is no directory; `REFUSED` where the bytes are no name. Who asks isn't checked.
+/// is no directory; `REFUSED` where the bytes are no name. Who asks isn't checked (`kfs_may`).
 #[unsafe(no_mangle)]
 pub extern "C" fn kfs_find(
     alloc: Global,

@@ -315,7 +315,25 @@ impl Desk {
     }
 }
 
+/// What a client may ask of a node.
+#[derive(Clone, Copy, Debug, PartialEq, Eq)]
+pub enum Access {
+    /// To look a name of the directory up.
+    FindName = 1,
+    /// To list the directory's names.
+    ListNames = 2,
+    /// To read the file's bytes.
+    ReadBytes = 3,
+}
+
 impl View {
+    /// Whether the client may do so with the node. `Refused` with a `KFS_MAY_` code where it may not.
+    pub fn may(&mut self, access: Access, client: u32, number: u32) -> Result<(), Error> {
+        let mut fault = Fault::default();
+        let status = unsafe { raw::kfs_may(&mut self.0 .0, access as u32, client, number, &mut fault) };
+        checked(status, fault)
+    }
+
     /// Judges a client's log and plan against the view. Touches no desk.
     pub fn judge(&mut self, client: u32, log: &[u8], plan: &[u8]) -> Result<Verdict, Error> {
         let mut verdict = Held(Handle::EMPTY);
