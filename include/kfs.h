@@ -145,6 +145,16 @@ enum {
     KFS_MOVE_TOO_MANY = 5
 };
 
+/* Of kfs_may, the first that applies. */
+enum {
+    KFS_MAY_UNKNOWN_CLIENT = 1, /* the desk was begun without this client */
+    KFS_MAY_NO_SUCH_NODE = 2,
+    KFS_MAY_NOT_DIRECTORY = 3,  /* for names */
+    KFS_MAY_IS_DIRECTORY = 4,   /* for bytes */
+    KFS_MAY_NO_SEARCH = 5,      /* for a name */
+    KFS_MAY_NO_READ = 6         /* for all names, and for bytes */
+};
+
 /* Of kfs_open and kfs_load. */
 enum {
     KFS_OPEN_SIZES = 1,   /* a tier has over 65,536 blocks */
@@ -152,6 +162,13 @@ enum {
     KFS_OPEN_CLIENTS = 3, /* client `index`; reason: 1 its number is an earlier one's, 2 so is a number of its grant */
     KFS_OPEN_IMAGE = 4,   /* the bytes are no image; reason: 1 header, 2 row `index`, 3 bytes remain */
     KFS_OPEN_RULE = 5     /* the image breaks rule `reason`, 1 to 10, at node `index` */
+};
+
+/* What kfs_may is asked, of a node. */
+enum {
+    KFS_FIND_NAME = 1,  /* to look a name of the directory up: search permission */
+    KFS_LIST_NAMES = 2, /* to list the directory's names: read permission */
+    KFS_READ_BYTES = 3  /* to read the file's bytes: read permission */
 };
 
 /* A client. It may give the numbers first to last to new nodes, each 1 to 65,536; none where first is
@@ -272,6 +289,12 @@ void kfs_close(struct kfs *handle);
 uint32_t kfs_submit(struct kfs *handle, uint32_t client, const uint8_t *log, size_t log_len,
                     const uint8_t *plan, size_t plan_len, struct kfs_reply *reply);
 
+/* Makes the log's plan against the desk's state now (kfs_plan), and submits both (kfs_submit). Where there is
+ * no plan, the reply tells the fault of the log: an unknown client, bytes that are no log of this client, or
+ * the first entry that is refused. */
+uint32_t kfs_do(struct kfs *handle, uint32_t client, const uint8_t *log, size_t log_len,
+                struct kfs_reply *reply);
+
 /* Has `view` hold a view of the desk's state now; what it held is freed then. It shares the desk's tables
  * and doesn't change when the desk goes on. A view that is kept makes the desk copy what it changes.
  * Whatever isn't KFS_DONE leaves `view` as it was. */
@@ -311,10 +334,23 @@ uint32_t kfs_tick(struct kfs *handle, uint64_t moment, struct kfs_act *reply);
 uint32_t kfs_migrate(struct kfs *handle, const struct kfs_move *moves, size_t moves_len,
                      struct kfs_act *reply);
 
-/* ---- look-ups. The desk is as it was, and no row is added. Only kfs_save takes memory. */
+/* ---- look-ups. The desk or the view is as it was, and no row is added. Only kfs_save takes memory. */
 
 /* The header of a node, or KFS_NOTHING. */
 uint32_t kfs_node(struct kfs *handle, uint32_t number, struct kfs_node *node);
+
+/* The number to which a name of the directory leads. KFS_NOTHING: it has no such name, or is no directory.
+ * KFS_REFUSED: the bytes are no name. No check is made of who looks: ask kfs_may for KFS_FIND_NAME. */
+uint32_t kfs_find(struct kfs *handle, uint32_t directory, const uint8_t *name, size_t name_len,
+                  uint32_t *number);
+
+/* Whether the client may do what `access` says with the node, by the permission bits that the view shows
+ * (POSIX.1-2017, XBD 4.5); a privileged client may. Only this node's bits count, and none of the directories
+ * above it: along a path ask for KFS_FIND_NAME at each directory. KFS_DONE: it may. KFS_REFUSED: it may not,
+ * and `fault` has a KFS_MAY_ code. KFS_NOTHING: `access` is none of the three. The handle is a view's, so
+ * the desk's mutex isn't needed. */
+uint32_t kfs_may(struct kfs *view, uint32_t access, uint32_t client, uint32_t number,
+                 struct kfs_fault *fault);
 
 /* The least name of the directory above `after`, or the least of all where after_len is 0: its bytes
  * into the front of `name` (255 are always enough), its length, and the number that it leads to.
@@ -324,7 +360,7 @@ uint32_t kfs_name(struct kfs *handle, uint32_t directory, const uint8_t *after, 
                   uint8_t *name, size_t name_len, size_t *len, uint32_t *number);
 
 /* Bytes of a file from `start` on, as pread(): `count` tells how many, 0 at the file's end. No check is
- * made of who reads. KFS_NOTHING: no such node. KFS_DIRECTORY: the node is one. */
+ * made of who reads: ask kfs_may for KFS_READ_BYTES. KFS_NOTHING: no such node. KFS_DIRECTORY: the node is one. */
 uint32_t kfs_read(struct kfs *handle, uint32_t number, uint64_t start,
                   uint8_t *buffer, size_t buffer_len, size_t *count);
 
@@ -400,6 +436,19 @@ static inline int kfs_reply_errno(const struct kfs_reply *reply)
     if (reply->kind == KFS_YES) return 0;
     if (reply->kind == KFS_NO_ROOM) return ENOSPC;
     return reply->fault.code == KFS_ENTRY ? kfs_errno(reply->fault.reason) : EIO;
+}
+
+/* An errno for a fault of kfs_may. */
+static inline int kfs_may_errno(uint32_t code)
+{
+    switch (code) {
+    case KFS_MAY_NO_SUCH_NODE: return ENOENT;
+    case KFS_MAY_NOT_DIRECTORY: return ENOTDIR;
+    case KFS_MAY_IS_DIRECTORY: return EISDIR;
+    case KFS_MAY_NO_SEARCH:
+    case KFS_MAY_NO_READ: return EACCES;
+    default: return EIO;
+    }
 }
 
 /* An errno for what a call answers; 0 for KFS_DONE. */

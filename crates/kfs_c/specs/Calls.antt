@@ -1,4 +1,4 @@
--- What a call of the desk over the boundary comes to, other than a submission.
+-- What a call of the desk over the boundary comes to, other than a submission of a plan.
 use Rattle.std.specs.Prelude.{◌≡◌, ◌↔◌, ℕ, Bool, Option, List, map, IsFalse, if◌then◌else◌}
 use Rattle.std.specs.Global.{Global}
 use Rattle.kfs_model.specs.Judgement.{State}
@@ -15,6 +15,8 @@ use Rattle.kfs_desk.specs.Docket.{is_rejudged}
 use Rattle.kfs_desk.specs.Machine.{Desk, IsActed, IsAnswered, IsCurrent}
 use Rattle.kfs_desk.specs.Verdict.Verdict.{IsVerdictOn, verdict_of}
 use Rattle.kfs_c.specs.Holding.{OnVerdict}
+use Rattle.kfs_c.specs.Reading.{IsPlanTaken}
+use Rattle.kfs_c.specs.Submission.Submission.{IsSubmitted}
 use Rattle.kfs_c.specs.Submission.Told.{reply_told}
 use Rattle.kfs_c.specs.declared.held.Held.{Held}
 use Rattle.kfs_c.specs.declared.submission.numbers.ReplyNumbers.{ReplyNumbers}
@@ -40,6 +42,10 @@ IsJudged seen client log plan judged = IsVerdictOn seen (submission_with client 
 -- some answer of the desk to the call, as it is told
 abbrev pub IsCalled : Call → (words : ℕ → Done) → ActNumbers → (old new : Desk) → Type 0
 IsCalled call words told old new = (answer : ActReply) × IsActed old call words answer new × (told ≡ act_told answer)
+
+-- some answer of the desk to the log and the plan that is taken for it
+abbrev pub IsLogSubmitted : (client : ℕ) (log : List ℕ) → ReplyNumbers → (old new : Desk) → Type 0
+IsLogSubmitted client log told old new = (plan : List ℕ) × IsPlanTaken client log plan old × IsSubmitted client log plan told old new
 
 abbrev pub kind_of_lease : (write : Bool) → LeaseKind
 kind_of_lease write = if write then WriteLease else ReadLease

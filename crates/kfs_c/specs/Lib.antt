@@ -2,6 +2,7 @@ pub mod Calls
 pub mod Handle
 pub mod Holding
 pub mod Opening
+pub mod Permissions
 pub mod Reading
 pub mod Told
 pub mod Loose

@@ -1,12 +1,13 @@
 -- What is read from a desk.
-use Rattle.std.specs.Prelude.{◌≡◌, ◌⊎◌, ◌<◌, ℕ, List, ◌++◌, take, drop, length, false, IsTrue, Some, None}
+use Rattle.std.specs.Prelude.{◌≡◌, ◌⊎◌, ◌<◌, ℕ, List, [], ◌++◌, take, drop, length, false, IsTrue, Some, None}
 use Rattle.std.specs.Cmp.Lexicographic.{slice_cmp}
 use Rattle.std.specs.Ordering.{is_lt, nat_cmp}
 use Rattle.std.specs.declared.cmp.Ordering.TheVariants.{Less}
 use Rattle.kfs_model.specs.Access.{Client}
 use Rattle.kfs_model.specs.Lease.{row_of}
 use Rattle.kfs_model.specs.Sight.{is_directory}
-use Rattle.kfs_model.specs.Spelling.{IsName}
+use Rattle.kfs_model.specs.PlanRow.{Plan}
+use Rattle.kfs_model.specs.Spelling.{IsName, plan_bytes}
 use Rattle.kfs_image.specs.Tier.Unused.{unused_places}
 use Rattle.kfs_model.specs.Table.{get}
 use Rattle.kfs_model.specs.Tree.{NameTable, content_of, headers, target}
@@ -29,6 +30,14 @@ HasNoNode number desk = get (headers desk.state.tree) number ≡ None
 -- the node with this number is a directory of the desk's tree
 abbrev pub IsDirectoryAt : (number : ℕ) → Desk → Type 0
 IsDirectoryAt number desk = IsTrue (is_directory (get (headers desk.state.tree) number))
+
+-- the name of the directory leads to the number
+abbrev pub LeadsTo : (directory : ℕ) (name : List ℕ) (number : ℕ) → Desk → Type 0
+LeadsTo directory name number desk = target desk.state.tree.names directory name ≡ Some number
+
+-- the bytes are a name, and lead nowhere in the directory
+abbrev pub LacksName : (directory : ℕ) (name : List ℕ) → Desk → Type 0
+LacksName directory name desk = IsName name × (target desk.state.tree.names directory name ≡ None)
 
 -- a buffer begins with these bytes, and is as it was behind them
 abbrev pub BeginsWith : (bytes old new : List ℕ) → (count : ℕ) → Type 0
@@ -59,6 +68,10 @@ IsUnplaced number block desk = get desk.state.placement (number, block) ≡ None
 abbrev pub free_places : (tier : ℕ) → Desk → ℕ
 free_places tier desk = length (unused_places desk.state.sizes desk.state.placement tier)
 
+-- the plan of version 1 that says that nothing differs
+abbrev pub no_rows : Plan
+no_rows = record { version = 1; names = []; nodes = []; pieces = [] }
+
 -- the bytes are a right plan for the log of the desk's client with this number, over the desk's tree
 abbrev pub IsPlanFor : (number : ℕ) (log bytes : List ℕ) → Desk → Type 0
 IsPlanFor number log bytes desk =
@@ -70,6 +83,14 @@ LacksPlan client log desk = HasNoPlan client desk.state.tree log
 
 abbrev pub HasNoPlanFor : (number : ℕ) (log : List ℕ) → Desk → Type 0
 HasNoPlanFor number log desk = (client : Client) × (row_of desk.state.clients number ≡ Some client) × LacksPlan client log desk
+
+-- the desk has no such client, or the client has no plan for the log
+abbrev pub IsWithoutPlan : (number : ℕ) (log : List ℕ) → Desk → Type 0
+IsWithoutPlan number log desk = (row_of desk.state.clients number ≡ None) ⊎ HasNoPlanFor number log desk
+
+-- the plan with which a log is handed in: a right one, or one of no rows where there is none
+abbrev pub IsPlanTaken : (number : ℕ) (log bytes : List ℕ) → Desk → Type 0
+IsPlanTaken number log bytes desk = IsPlanFor number log bytes desk ⊎ (IsWithoutPlan number log desk × (bytes ≡ plan_bytes no_rows))
 
 -- the buffer begins with such a plan
 abbrev pub IsPlanned : (number : ℕ) (log old new : List ℕ) (count : ℕ) → Desk → Type 0

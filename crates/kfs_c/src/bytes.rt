@@ -16,7 +16,8 @@ use kfs_plan_maker::make_plan;
 use std::alloc::{AllocError, Global};
 
 /// Why no plan is made.
-enum Unplanned {
+#[derive(Clone, Copy)]
+pub(crate) enum Unplanned {
     /// Memory was refused.
     NoMemory,
     /// The desk has no such client.
@@ -178,7 +179,7 @@ fn plan(
 
 /// The plan of the log of the client with this number. The view is dropped here, so that a landing
 /// finds nothing shared.
-fn plan_for(
+pub(crate) fn plan_for(
     alloc: Global,
     desk: &Desk<Global>,
     number: u32,

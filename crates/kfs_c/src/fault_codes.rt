@@ -1,4 +1,4 @@
-//! The numbers of faults of openings, calls for leases and moves, as C knows them. Each has its name in
+//! The numbers of faults of openings, calls for leases, moves and permissions, as C knows them. Each has its name in
 //! `include/kfs.h`, with `KFS_` before it. The reasons of an opening have none: the header says them in
 //! words.
 
@@ -47,6 +47,26 @@ pub(crate) const MOVE_OVERLAP: u32 = 4;
 
 /// There are more moves than a call may have.
 pub(crate) const MOVE_TOO_MANY: u32 = 5;
+
+// Of who may look names up, list them and read.
+
+/// The view has no such client.
+pub(crate) const MAY_UNKNOWN_CLIENT: u32 = 1;
+
+/// No such node.
+pub(crate) const MAY_NO_SUCH_NODE: u32 = 2;
+
+/// The node is no directory.
+pub(crate) const MAY_NOT_DIRECTORY: u32 = 3;
+
+/// The node is a directory.
+pub(crate) const MAY_IS_DIRECTORY: u32 = 4;
+
+/// Search isn't permitted.
+pub(crate) const MAY_NO_SEARCH: u32 = 5;
+
+/// Reading isn't permitted.
+pub(crate) const MAY_NO_READ: u32 = 6;
 
 // Of openings.
 

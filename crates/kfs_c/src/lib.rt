@@ -15,6 +15,7 @@ mod look_ups;
 pub mod loose;
 mod numbers;
 mod opening;
+mod permissions;
 mod slot;
 mod submission;
 mod told;

@@ -96,3 +96,23 @@ macro_rules! on_desk {
         }
     }};
 }
+
+/// Makes a call of the view that the handle holds, and answers its status. Else as for `on_desk`.
+#[macro_export]
+macro_rules! on_view {
+    ($alloc:ident, $handle:ident, &$view:ident => $call:expr) => {{
+        match $crate::slot::take_out($alloc, $handle) {
+            Some(held) => {
+                let status = match &*held {
+                    $crate::held::Held::View($view) => $call,
+                    $crate::held::Held::Desk(_) | $crate::held::Held::Verdict(_) => {
+                        $crate::loose::status::WRONG_KIND
+                    }
+                };
+                $crate::slot::put_in($alloc, $handle, held);
+                status
+            }
+            None => $crate::loose::status::closed(),
+        }
+    }};
+}

@@ -9,9 +9,9 @@ ghost use Rattle.kfs_c.specs.Submission.Submission.{IsFull};
 use crate::handle::Handle;
 use crate::held::Held;
 use crate::loose::status::{DONE, NO_MEMORY, WRONG_KIND, closed};
-use crate::on_desk;
 use crate::slot::{put_in, take_out};
 use crate::submission::{ReplyNumbers, reply_numbers, why_number};
+use crate::{on_desk, on_view};
 use kfs_desk::{Desk, DeskView};
 use kfs_plan::{Judged, Submission};
 use std::alloc::Global;
@@ -65,15 +65,7 @@ pub extern "C" fn kfs_judge(
     ensures known { result ≤ status.wrong_kind }
     ensures range { result < status.closed → result ≤ status.no_memory }
 {
-    let Some(held) = take_out(alloc, view) else {
-        return closed();
-    };
-    let status = match &*held {
-        Held::View(seen) => judge(alloc, seen, client, log, plan, verdict),
-        Held::Desk(_) | Held::Verdict(_) => WRONG_KIND,
-    };
-    put_in(alloc, view, held);
-    status
+    on_view!(alloc, view, &seen => judge(alloc, seen, client, log, plan, verdict))
 }
 
 fn judge(

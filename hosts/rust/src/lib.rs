@@ -172,6 +172,14 @@ impl Desk {
         Ok(reply.into())
     }
 
+    /// Makes the plan of a client's log against the state now, and submits both. Where there is none, the reply
+    /// tells the fault of the log.
+    pub fn submit_log(&mut self, client: u32, log: &[u8]) -> Result<Reply, Error> {
+        let mut reply = raw::Reply::default();
+        done(unsafe { raw::kfs_do(&mut self.0 .0, client, log.as_ptr(), log.len(), &mut reply) })?;
+        Ok(reply.into())
+    }
+
     /// A view of the state now.
     pub fn look(&mut self) -> Result<View, Error> {
         let mut view = Held(Handle::EMPTY);
@@ -219,6 +227,13 @@ impl Desk {
         let mut node = Node::default();
         done(unsafe { raw::kfs_node(&mut self.0 .0, number, &mut node) })?;
         Ok(node)
+    }
+
+    /// The number to which a name of the directory leads.
+    pub fn find(&mut self, directory: u32, name: &[u8]) -> Result<u32, Error> {
+        let mut number = 0;
+        done(unsafe { raw::kfs_find(&mut self.0 .0, directory, name.as_ptr(), name.len(), &mut number) })?;
+        Ok(number)
     }
 
     /// The names of a directory, in order, with the numbers that they lead to.
@@ -300,7 +315,25 @@ impl Desk {
     }
 }
 
+/// What a client may ask of a node.
+#[derive(Clone, Copy, Debug, PartialEq, Eq)]
+pub enum Access {
+    /// To look a name of the directory up.
+    FindName = 1,
+    /// To list the directory's names.
+    ListNames = 2,
+    /// To read the file's bytes.
+    ReadBytes = 3,
+}
+
 impl View {
+    /// Whether the client may do so with the node. `Refused` with a `KFS_MAY_` code where it may not.
+    pub fn may(&mut self, access: Access, client: u32, number: u32) -> Result<(), Error> {
+        let mut fault = Fault::default();
+        let status = unsafe { raw::kfs_may(&mut self.0 .0, access as u32, client, number, &mut fault) };
+        checked(status, fault)
+    }
+
     /// Judges a client's log and plan against the view. Touches no desk.
     pub fn judge(&mut self, client: u32, log: &[u8], plan: &[u8]) -> Result<Verdict, Error> {
         let mut verdict = Held(Handle::EMPTY);

@@ -92,6 +92,7 @@ extern "C" {
         handle: *mut Handle, client: u32, log: *const u8, log_len: usize, plan: *const u8, plan_len: usize,
         reply: *mut Reply,
     ) -> u32;
+    pub fn kfs_do(handle: *mut Handle, client: u32, log: *const u8, log_len: usize, reply: *mut Reply) -> u32;
     pub fn kfs_look(handle: *mut Handle, view: *mut Handle) -> u32;
     pub fn kfs_judge(
         view: *mut Handle, client: u32, log: *const u8, log_len: usize, plan: *const u8, plan_len: usize,
@@ -109,6 +110,8 @@ extern "C" {
     pub fn kfs_tick(handle: *mut Handle, moment: u64, reply: *mut Act) -> u32;
     pub fn kfs_migrate(handle: *mut Handle, moves: *const Move, moves_len: usize, reply: *mut Act) -> u32;
     pub fn kfs_node(handle: *mut Handle, number: u32, node: *mut Node) -> u32;
+    pub fn kfs_find(handle: *mut Handle, directory: u32, name: *const u8, name_len: usize, number: *mut u32) -> u32;
+    pub fn kfs_may(view: *mut Handle, access: u32, client: u32, number: u32, fault: *mut Fault) -> u32;
     pub fn kfs_name(
         handle: *mut Handle, directory: u32, after: *const u8, after_len: usize, name: *mut u8, name_len: usize,
         len: *mut usize, number: *mut u32,

@@ -1,6 +1,7 @@
 //! A worker's view of a desk, and the verdicts that it makes from it.
 ghost use Rattle.std.specs.Prelude.{◌≡◌, IfErr, IfOk};
 ghost use Rattle.kfs_plan.specs.Judging.{submission_of};
+ghost use Rattle.kfs_desk.specs.Machine.{IsViewOf};
 ghost use Rattle.kfs_desk.specs.Verdict.Verdict.{IsVerdictOn, verdict_of};
 
 use crate::Desk;
@@ -41,6 +42,14 @@ impl<A: Allocator + Copy> DeskView<A> {
             view: desk.view()?,
             seen: Snapshot::of(desk),
         })
+    }
+
+    /// The view itself, which shows the state that was seen: for look-ups, and for who may look names up,
+    /// list them and read (`View::may_find`, `may_list`, `may_read`). Takes no memory.
+    pub fn view(&self) -> &View<A>
+        ensures { IsViewOf result.now self.now }
+    {
+        &self.view
     }
 
     /// Judges a submission against the state that was seen. The submission comes back only where memory
