@@ -50,6 +50,9 @@ impl<A: Allocator + Copy> Shared<Desk<A>, A> {
     /// Waits for its turn. Condition: the pass is one of this desk. Where no ticket is left, all
     /// submissions come back for `TurnsSpent`, and there is no view. Else a view is refused with
     /// `OutOfMemory` alone.
+    ///
+    /// The verdicts go once the turn has ended. Where memory is refused for a list of them, each goes in
+    /// the turn.
     pub fn land_each<L: Landing<Judged<A>, SharedBack<A>>, R: Wait>(
         &self,
         rt: &R,
