@@ -1,3 +1,4 @@
+pub mod Again
 pub mod Beginning
 pub mod Docket
 pub mod Grants

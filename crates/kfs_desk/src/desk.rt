@@ -1,5 +1,5 @@
 //! The desk: it owns the image and the leases, and lands what was judged right.
-ghost use Rattle.std.specs.Prelude.{◌≡◌, ◌↔◌, ◌⊎◌, false, ◌+◌, ◌≤◌, ◌<◌, ◌++◌, ◌∷◌, [], IfOk, IfErr, OnErr, OnOk, IsErrOf, IsFalse, IsTrue, Ok, Err, None, Some, length, option_map};
+ghost use Rattle.std.specs.Prelude.{◌≡◌, ◌↔◌, ◌⊎◌, false, ◌+◌, ◌≤◌, ◌<◌, ◌++◌, ◌∷◌, [], IfOk, IfErr, OnErr, OnOk, IsErrOf, IsFalse, IsTrue, Ok, Err, None, Some, is_some, length, option_map};
 ghost use Rattle.kfs_model.specs.Order.{IsInOrder};
 ghost use Rattle.kfs_model.specs.Machine as machine;
 ghost use Rattle.kfs_model.specs.Machine.{opening};
@@ -17,6 +17,7 @@ ghost use Rattle.kfs_model.specs.Device.ShownTree.{IsLawful, shown_tree};
 ghost use Rattle.kfs_image.specs.Image as images;
 ghost use Rattle.kfs_judge.specs.Check.View.{clients_of, contents_of, leases_of};
 ghost use Rattle.kfs_plan.specs.Judging.{IsVerdict, submission_of, submission_with};
+ghost use Rattle.kfs_desk.specs.Again.{latest};
 ghost use Rattle.kfs_desk.specs.Landing.{AnswersOutcome, CanLand, leases_left};
 ghost use Rattle.kfs_desk.specs.Machine.{AreShown, IsAnswered, IsBackFor, IsCallOf, IsChangeOf, IsCurrent, IsImageOf, IsMigrated, IsViewOf, RunsThrough, SeeTheSame, call_of, done_by, number_of, opened_at, outcome_at, state_at};
 ghost use Rattle.kfs_desk.specs.Docket.{is_rejudged};
@@ -36,7 +37,7 @@ use kfs_judge::View;
 use kfs_lease::{LeaseFault, LeaseKind, Leases};
 use kfs_migrate::{Move, MoveFault, apply_moves, check_moves};
 use kfs_mode::Client;
-use kfs_plan::{Back, Judged, Outcome, Submission, Why, judge, judge_bytes};
+use kfs_plan::{Back, Judged, Outcome, Submission, Why, judge_bytes};
 use std::alloc::{AllocError, Allocator};
 use std::marker::Model;
 use std::sync::Arc;
@@ -65,6 +66,16 @@ impl<A: Allocator> Model for Desk<A> {
     ghost view = { λ d. shown (record { image = d.image; clients = d.clients.value.items; leases = d.leases.value; opening = d.opening; docket = d.docket; limit = d.limit }) };
 
     ghost invariant = { λ d. IsDesk (record { image = d.image; clients = d.clients.value.items; leases = d.leases.value; opening = d.opening; docket = d.docket; limit = d.limit }) };
+}
+
+/// The answer to a verdict that its caller keeps.
+#[doc(hidden)]
+#[derive(Drop)]
+pub struct Landed<A: Allocator> {
+    /// The answer.
+    pub reply: Reply,
+    /// What was found of the submission, if it was judged again. It is for the caller to drop.
+    pub again: Option<Outcome<A>>,
 }
 
 impl<A: Allocator + Copy> Desk<A> {
@@ -317,7 +328,7 @@ impl<A: Allocator + Copy> Desk<A> {
             position,
             false,
             log,
-            outcome,
+            &outcome,
         )?;
         let after = ShownState::of(&self.image, &self.clients, &self.leases);
         let handed_in = HandedIn { client, log, plan };
@@ -350,38 +361,48 @@ impl<A: Allocator + Copy> Desk<A> {
         // The docket is legal, whatever the answer.
         ensures legal { IsLegalDocket self.new.opening self.new.docket self.new.state }
     {
+        match self.land_keeping(&judged) {
+            Ok(landed) => Ok(landed.reply),
+            Err(why) => {
+                let (submission, _outcome) = judged.into_parts();
+                Err(Back { submission, why })
+            }
+        }
+    }
+
+    /// The same for a verdict that the caller keeps. Nothing of it is given back to the allocator here. So
+    /// a caller for whom others wait can let them go on first. `Err` where the docket is full or memory is
+    /// refused; nothing has changed then.
+    #[doc(hidden)]
+    pub fn land_keeping(&mut self, judged: &Judged<A>) -> Result<Landed<A>, Why>
+        ensures full { IsErrOf result Why.DocketFull ↔ (length self.old.docket ≡ self.old.limit) }
+        ensures answered { IfOk result (λ landed. IsAnswered self.old (submission_of judged.now.submission) (is_rejudged landed.reply) landed.reply self.new) }
+        ensures rejudged { IfOk result (λ landed. IsFalse (is_rejudged landed.reply) ↔ IsCurrent self.old.state judged.now) }
+        ensures err { OnErr result (self.new ≡ self.old) }
+
+        // The docket is legal, whatever the answer.
+        ensures legal { IsLegalDocket self.new.opening self.new.docket self.new.state }
+    {
         if self.is_full() {
-            let (submission, _outcome) = judged.into_parts();
-            let why = Why::DocketFull;
-            return Err(Back { submission, why });
+            return Err(Why::DocketFull);
         }
         let position = self.docket.len();
         let before = ShownState::of(&self.image, &self.clients, &self.leases);
-        let (judged, rejudged) = current(
-            self.alloc,
-            &self.image,
-            &self.leases,
-            &self.clients,
-            judged,
-        )?;
-        let (submission, outcome) = judged.into_parts();
-        let landed = land(
+        let again = found_again(self.alloc, &self.image, &self.leases, &self.clients, judged)?;
+        let rejudged = again.is_some();
+        let reply = land(
             self.alloc,
             &mut self.image,
             &mut self.leases,
             position,
             rejudged,
-            submission.log.as_slice(),
-            outcome,
-        );
-        let reply = match landed {
-            Ok(reply) => reply,
-            Err(why) => return Err(Back { submission, why }),
-        };
+            judged.submission().log.as_slice(),
+            latest(judged, &again),
+        )?;
         let after = ShownState::of(&self.image, &self.clients, &self.leases);
-        let handed_in = HandedIn::of(&submission);
+        let handed_in = HandedIn::of(judged.submission());
         add_answer(&mut self.docket, &before, &handed_in, &reply, &after);
-        Ok(reply)
+        Ok(Landed { reply, again })
     }
 
     /// Hands in submissions one after another, and answers each in its place: with a reply, or with the
@@ -463,33 +484,46 @@ fn outcome<A: Allocator + Copy>(
     judge_bytes(alloc, &view, client, log, plan)
 }
 
-/// A verdict that holds in the state now, and whether it was revalidated: the given one if it holds,
-/// else a new one. The view is dropped here, so that landing finds nothing shared.
-fn current<A: Allocator + Copy>(
+/// What is found of the verdict's submission in the state now, if the verdict doesn't hold there. The
+/// view is dropped here, so that landing finds nothing shared.
+fn found_again<A: Allocator + Copy>(
     alloc: A,
     image: &Image<A>,
     leases: &Arc<Leases<A>, A>,
     clients: &Arc<Vec<Client, A>, A>,
-    judged: Judged<A>,
-) -> Result<(Judged<A>, bool), Back<A>>
+    judged: &Judged<A>,
+) -> Result<Option<Outcome<A>>, Why>
     requires distinct { ClientsAreDistinct clients.now.value.items }
-    ensures verdict { IfOk result (λ p. IsVerdict (state_at image.now clients.now.value.items leases.now.value) (submission_of judged.submission) p.0.outcome) }
-    ensures submission { IfOk result (λ p. p.0.submission ≡ judged.submission) }
-    ensures again { IfOk result (λ p. IsFalse p.1 ↔ IsCurrent (state_at image.now clients.now.value.items leases.now.value) judged) }
-    ensures back { IfErr result (λ back. back.submission ≡ judged.submission) }
-    ensures memory { IfErr result (λ back. back.why ≡ Why.OutOfMemory) }
+    ensures verdict { IfOk result (λ again. IsVerdict (state_at image.now clients.now.value.items leases.now.value) (submission_of judged.now.submission) (latest judged.now.outcome again)) }
+    ensures again { IfOk result (λ again. IsFalse (is_some again) ↔ IsCurrent (state_at image.now clients.now.value.items leases.now.value) judged.now) }
+    ensures memory { IfErr result (λ why. why ≡ Why.OutOfMemory) }
     ensures lawful { IsLawful image.now }
 {
-    let Ok(view) = view_of(image, leases, clients) else {
-        let (submission, _outcome) = judged.into_parts();
-        let why = Why::OutOfMemory;
-        return Err(Back { submission, why });
-    };
+    let view = view_of(image, leases, clients)?;
     if judged.holds_in(&view) {
-        return Ok((judged, false));
+        return Ok(None);
     }
-    let (submission, _outcome) = judged.into_parts();
-    Ok((judge(alloc, &view, submission)?, true))
+    let submission = judged.submission();
+    let outcome = outcome(
+        alloc,
+        image,
+        leases,
+        clients,
+        submission.client,
+        submission.log.as_slice(),
+        submission.plan.as_slice(),
+    )?;
+    Ok(Some(outcome))
+}
+
+/// The outcome that was found again, or else that of the verdict.
+fn latest<'a, A: Allocator>(judged: &'a Judged<A>, again: &'a Option<Outcome<A>>) -> &'a Outcome<A>
+    ensures { result.now ≡ latest judged.now.outcome again.now }
+{
+    match again {
+        Some(outcome) => outcome,
+        None => judged.outcome(),
+    }
 }
 
 /// A view of these.
@@ -593,11 +627,11 @@ fn land<A: Allocator + Copy>(
     position: u32,
     rejudged: bool,
     source: &[u8],
-    outcome: Outcome<A>,
+    outcome: &Outcome<A>,
 ) -> Result<Reply, Why>
-    requires { CanLand image.old source.now outcome }
-    ensures answer { IfOk result (λ reply. AnswersOutcome image.old source.now position rejudged outcome reply image.new) }
-    ensures leases { IfOk result (λ reply. leases.new.value ≡ leases_left leases.old.value outcome reply) }
+    requires { CanLand image.old source.now outcome.now }
+    ensures answer { IfOk result (λ reply. AnswersOutcome image.old source.now position rejudged outcome.now reply image.new) }
+    ensures leases { IfOk result (λ reply. leases.new.value ≡ leases_left leases.old.value outcome.now reply) }
     ensures memory { IfErr result (λ why. why ≡ Why.OutOfMemory) }
     ensures err { OnErr result ((image.new ≡ image.old) × (leases.new.value ≡ leases.old.value)) }
 {
@@ -607,12 +641,12 @@ fn land<A: Allocator + Copy>(
             plan,
             net,
             need,
-        } => (log, plan, net, need),
+        } => (log, plan, net, *need),
         Outcome::No(fault) => {
             return Ok(Reply::No {
                 position,
                 rejudged,
-                fault,
+                fault: *fault,
             });
         }
     };
@@ -630,7 +664,7 @@ fn land<A: Allocator + Copy>(
         entries: &log.entries,
         pieces: &plan.pieces,
     };
-    change_state(alloc, image, leases, &bytes, &net)?;
+    change_state(alloc, image, leases, &bytes, net)?;
     Ok(Reply::Yes {
         position,
         rejudged,

@@ -19,6 +19,8 @@ mod verdict;
 
 pub use back::{BeginBack, ResumeBack};
 pub use desk::Desk;
+#[doc(hidden)]
+pub use desk::Landed;
 pub use history::Docket;
 #[doc(hidden)]
 pub use history::OneRow;

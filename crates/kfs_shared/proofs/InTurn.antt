@@ -6,19 +6,21 @@ use Rattle.kfs_desk.specs.Beginning.{Beginning}
 use Rattle.kfs_desk.specs.Docket.{position_of}
 use Rattle.kfs_plan.specs.Judged.{Judged}
 use Rattle.kfs_desk.specs.declared.history.answers.Reply.{Reply}
-use Rattle.kfs_shared.specs.Calls.{HasAdded, IsLanding, IsUnanswered}
+use Rattle.kfs_desk.specs.declared.desk.Landed.{Landed}
+use Rattle.kfs_shared.specs.Calls.{HasAdded, IsLanding, IsUnanswered, answer_of}
 use Rattle.kfs_shared.specs.Landings.{IsAnswered, HasLanded, HaveLanded}
 use Rattle.kfs_shared.specs.declared.want.SharedBack.{SharedBack}
+use Rattle.kfs_shared.specs.declared.want.SharedWant.{SharedWant}
 use Rattle.kfs_shared.specs.Turns.Lists.{StartsWith}
 use Rattle.kfs_shared.proofs.TurnsLemmas.Lists.{starts_same, starts_trans}
 use Rattle.kfs_shared.proofs.Landed.{unanswered_begins, unanswered_whatever}
 
 -- what a landing in a turn says of its answer
-pub is_answered : {A : Type 0} (beginning : Beginning) (ended : Bool) (judged : Judged A) (s0 s1 : List Row) (o0 o1 : List ℕ) (r : Result Reply (SharedBack A))
-    → IfOk r (λ reply. HasAdded beginning s0 o0 (position_of reply) (IsLanding judged reply) s1 o1) → IfErr r (λ back. back.submission ≡ judged.submission) → IfErr r (λ back. IsUnanswered beginning back.why s0 s1 ended) → OnErr r (o1 ≡ o0)
+pub is_answered : {A : Type 0} (beginning : Beginning) (ended : Bool) (judged : Judged A) (s0 s1 : List Row) (o0 o1 : List ℕ) (landed : Result (Landed A) SharedWant) (r : Result Reply (SharedBack A)) → r ≡ answer_of judged.submission landed
+    → IfOk landed (λ l. HasAdded beginning s0 o0 (position_of l.reply) (IsLanding judged l.reply) s1 o1) → IfErr landed (λ why. IsUnanswered beginning why s0 s1 ended) → OnErr landed (o1 ≡ o0)
     → IsAnswered beginning ended judged s0 o0 r s1 o1
-is_answered beginning ended judged s0 s1 o0 o1 (Ok reply) ok back err own = ok
-is_answered beginning ended judged s0 s1 o0 o1 (Err left) ok back err own = (back, err, own)
+is_answered beginning ended judged s0 s1 o0 o1 (Ok l) r is ok err own = subst (λ a. IsAnswered beginning ended judged s0 o0 a s1 o1) (sym is) ok
+is_answered beginning ended judged s0 s1 o0 o1 (Err why) r is ok err own = subst (λ a. IsAnswered beginning ended judged s0 o0 a s1 o1) (sym is) (refl, err, own)
 
 module _ {A L : Type 0} (beginning : Beginning) (answered : L → Result Reply (SharedBack A) → L → Type 0) where
   -- several, and then several more

@@ -1,6 +1,6 @@
 -- What a turn tells, from what the desk says of its call.
 use Rattle.std.proofs.Common.{◌≡◌, ℕ, Bool, false, true, List, [], ◌∷◌, ◌++◌, length, Option, Some, Result, Ok, Err, refl, sym, ap, subst, ◌∙◌, append_assoc}
-use Rattle.std.specs.Prelude.{IfOk, IfErr}
+use Rattle.std.specs.Prelude.{IfOk, IfErr, OnErr}
 use Rattle.std.proofs.lemmas.Bool.{both_ways}
 use Rattle.kfs_model.specs.Judgement.{State}
 use Rattle.kfs_model.specs.Machine.{Row}
@@ -14,7 +14,11 @@ use Rattle.kfs_shared.specs.declared.turns.known.Stage.TheVariants.{Served}
 use Rattle.kfs_shared.specs.Turns.Lists.{StartsWith}
 use Rattle.kfs_shared.proofs.TurnsLemmas.Lists.{starts_same, starts_trans}
 use Rattle.kfs_shared.proofs.TurnsLemmas.Steps.{one_said}
-use Rattle.kfs_shared.specs.Calls.{HasAdded, IsUnanswered, IsViewAfter}
+use Rattle.kfs_plan.specs.declared.submission.Submission.{Submission}
+use Rattle.kfs_desk.specs.declared.desk.Landed.{Landed}
+use Rattle.kfs_desk.specs.declared.history.answers.Reply.{Reply}
+use Rattle.kfs_shared.specs.Calls.{HasAdded, IsUnanswered, IsViewAfter, answer_of}
+use Rattle.kfs_shared.specs.declared.want.SharedBack.{SharedBack}
 use Rattle.kfs_shared.specs.declared.want.SharedWant.{SharedWant}
 use Rattle.kfs_shared.specs.declared.want.SharedWant.TheVariants.{OutOfMemory, DocketFull, TurnsSpent}
 
@@ -114,6 +118,24 @@ pub answered_err : {T E : Type 0} (beginning : Beginning) (s0 s1 s2 s3 : List Ro
     → IfErr r (λ e. IsUnanswered beginning (why e) s1 s2 false) → IfErr r (λ e. IsUnanswered beginning (why e) s0 s3 ended)
 answered_err beginning s0 s1 s2 s3 ended why (Ok t) begins sees is = is
 answered_err beginning s0 s1 s2 s3 ended why (Err e) begins sees is = subst (λ rows. IsUnanswered beginning (why e) s0 rows ended) (sym sees) (unanswered_from beginning (why e) s0 s1 s2 ended begins is)
+
+-- ---- the answer to a verdict that its caller kept
+
+pub answer_ok : {A : Type 0} (P : Reply → Type 0) (submission : Submission A) (landed : Result (Landed A) SharedWant) (r : Result Reply (SharedBack A)) → r ≡ answer_of submission landed → IfOk landed (λ l. P l.reply) → IfOk r P
+answer_ok P submission (Ok l) r is told = subst (λ a. IfOk a P) (sym is) told
+answer_ok P submission (Err why) r is told = subst (λ a. IfOk a P) (sym is) told
+
+pub answer_err : {A : Type 0} (P : SharedWant → Type 0) (submission : Submission A) (landed : Result (Landed A) SharedWant) (r : Result Reply (SharedBack A)) → r ≡ answer_of submission landed → IfErr landed P → IfErr r (λ back. P back.why)
+answer_err P submission (Ok l) r is told = subst (λ a. IfErr a (λ back. P back.why)) (sym is) told
+answer_err P submission (Err why) r is told = subst (λ a. IfErr a (λ back. P back.why)) (sym is) told
+
+pub answer_back : {A : Type 0} (submission : Submission A) (landed : Result (Landed A) SharedWant) (r : Result Reply (SharedBack A)) → r ≡ answer_of submission landed → IfErr r (λ back. back.submission ≡ submission)
+answer_back submission (Ok l) r is = subst (λ a. IfErr a (λ back. back.submission ≡ submission)) (sym is) tt
+answer_back submission (Err why) r is = subst (λ a. IfErr a (λ back. back.submission ≡ submission)) (sym is) refl
+
+pub answer_same : {A : Type 0} (P : Type 0) (submission : Submission A) (landed : Result (Landed A) SharedWant) (r : Result Reply (SharedBack A)) → r ≡ answer_of submission landed → OnErr landed P → OnErr r P
+answer_same P submission (Ok l) r is told = subst (λ a. OnErr a P) (sym is) told
+answer_same P submission (Err why) r is told = subst (λ a. OnErr a P) (sym is) told
 
 -- ---- a view within a turn, said of the pass before the turn and after it
 

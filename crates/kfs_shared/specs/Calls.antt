@@ -1,5 +1,5 @@
 -- What a call of a shared desk tells: which rows its pass has seen then, which are its own, and what its answer means.
-use Rattle.std.specs.Prelude.{◌≡◌, ◌↔◌, ℕ, Bool, true, List, [], ◌∷◌, ◌++◌, length, IsFalse}
+use Rattle.std.specs.Prelude.{◌≡◌, ◌↔◌, ℕ, Bool, true, List, [], ◌∷◌, ◌++◌, length, IsFalse, Result, Ok, Err}
 use Rattle.kfs_model.specs.Judgement.{State}
 use Rattle.kfs_model.specs.Machine.{Row}
 use Rattle.kfs_desk.specs.History.Legal.{IsLegalDocket}
@@ -7,12 +7,15 @@ use Rattle.kfs_lease.specs.declared.act.Act.{Act}
 use Rattle.kfs_judge.specs.declared.check.view.View.{View}
 use Rattle.kfs_plan.specs.Judged.{Judged}
 use Rattle.kfs_plan.specs.Judging.{submission_of}
+use Rattle.kfs_plan.specs.declared.submission.Submission.{Submission}
+use Rattle.kfs_desk.specs.declared.desk.Landed.{Landed}
 use Rattle.kfs_desk.specs.declared.history.answers.ActReply.{ActReply}
 use Rattle.kfs_desk.specs.declared.history.answers.Reply.{Reply}
 use Rattle.kfs_desk.specs.Beginning.{Beginning, IsDocketFrom}
 use Rattle.kfs_desk.specs.Docket.{is_rejudged}
 use Rattle.kfs_desk.specs.Machine.{AnswerMeans, IsCurrent, IsCallStep, IsStep, IsViewOf, call_of, done_by}
 use Rattle.kfs_shared.specs.Turns.Lists.{StartsWith}
+use Rattle.kfs_shared.specs.declared.want.SharedBack.{SharedBack}
 use Rattle.kfs_shared.specs.declared.want.SharedWant.{SharedWant}
 use Rattle.kfs_shared.specs.declared.want.SharedWant.TheVariants.{OutOfMemory, DocketFull, TurnsSpent}
 
@@ -38,6 +41,11 @@ pub record IsLanding {A : Type 0} (judged : Judged A) (reply : Reply) (before : 
   pub step : IsStep before (submission_of judged.submission) reply row after
   pub meaning : AnswerMeans before (submission_of judged.submission) reply after
   pub rejudged : IsFalse (is_rejudged reply) ↔ IsCurrent before judged
+
+-- the answer to a verdict that its caller kept: the reply, or the submission with the reason
+abbrev pub answer_of : {A : Type 0} → Submission A → Result (Landed A) SharedWant → Result Reply (SharedBack A)
+answer_of submission (Ok landed) = Ok landed.reply
+answer_of submission (Err why) = Err record { submission = submission; why = why }
 
 -- the row is the call for leases with this answer, and leads from the one state to the other
 abbrev pub IsActing : Act → ActReply → (before : State) → Row → (after : State) → Type 0

@@ -1,7 +1,7 @@
 //! A landing at a shared desk.
 ghost use Rattle.std.specs.Prelude.{◌≡◌, IfOk, IfErr, OnErr};
 ghost use Rattle.kfs_desk.specs.Docket.{position_of};
-ghost use Rattle.kfs_shared.specs.Calls.{IsLanding};
+ghost use Rattle.kfs_shared.specs.Calls.{IsLanding, answer_of};
 ghost use Rattle.kfs_shared.specs.Passes.{IsPassOf, IsTurnOf, own, own_in};
 ghost use Rattle.kfs_shared.specs.Sharing.{AddsNone, AddsNoneIn, AddsRow, AddsRowIn};
 
@@ -9,8 +9,8 @@ use crate::docketed::Docketed;
 use crate::pass::{Pass, Shared, Turn};
 use crate::seats::add_last;
 use crate::want::{SharedBack, SharedWant};
-use kfs_desk::{Desk, Reply};
-use kfs_plan::{Back, Judged, Why};
+use kfs_desk::{Desk, Landed, Reply};
+use kfs_plan::{Judged, Why};
 use std::alloc::Allocator;
 use std::sync::Wait;
 
@@ -38,9 +38,11 @@ impl<A: Allocator + Copy> Shared<Desk<A>, A> {
         let Some(turn) = self.begin_turn(rt, pass) else {
             return Err(unlanded(judged));
         };
-        let (turn, answer) = turn.land(self, judged);
+        let (turn, answer) = turn.land(self, &judged);
         self.end_turn(pass, turn);
-        answer
+        // The verdict goes here, where the turn has ended: no call waits for what it gives back.
+        let mut kept = Vec::new(self.alloc);
+        answer_of(judged, answer, &mut kept)
     }
 }
 
@@ -49,26 +51,52 @@ pub fn unlanded<A: Allocator>(judged: Judged<A>) -> SharedBack<A>
     ensures submission { result.submission ≡ judged.submission }
     ensures why { result.why ≡ SharedWant.TurnsSpent }
 {
+    back_of(judged, SharedWant::TurnsSpent)
+}
+
+/// What comes back of a verdict that isn't answered for this reason.
+fn back_of<A: Allocator>(judged: Judged<A>, why: SharedWant) -> SharedBack<A>
+    ensures submission { result.submission ≡ judged.submission }
+    ensures why { result.why ≡ why }
+{
     let (submission, _outcome) = judged.into_parts();
-    let why = SharedWant::TurnsSpent;
     SharedBack { submission, why }
 }
 
+/// The reply to a verdict, or what comes back. A verdict that is answered goes to the list, if that has
+/// room. Else it goes at once.
+pub fn answer_of<A: Allocator>(
+    judged: Judged<A>,
+    landed: Result<Landed<A>, SharedWant>,
+    answered: &mut Vec<Judged<A>, A>,
+) -> Result<Reply, SharedBack<A>>
+    ensures { result ≡ answer_of judged.submission landed }
+{
+    let reply = match landed {
+        Ok(landed) => landed.reply,
+        Err(why) => return Err(back_of(judged, why)),
+    };
+    if answered.len() < answered.capacity() {
+        // It can't fail, since the list has room. If it did, the verdict would go.
+        let _ = answered.push(judged);
+    }
+    Ok(reply)
+}
+
 impl<A: Allocator + Copy> Turn<Desk<A>> {
-    /// Lands a verdict, as `Desk::land` does. The answer is a row of the docket, the turn's own. Without
-    /// one the submission comes back. Condition: the turn is one of this desk.
+    /// Lands a verdict that the caller keeps, as `Desk::land_keeping` does. The answer is a row of the
+    /// docket, the turn's own. Condition: the turn is one of this desk.
     pub fn land(
         self,
         shared: &Shared<Desk<A>, A>,
-        judged: Judged<A>,
-    ) -> (Turn<Desk<A>>, Result<Reply, SharedBack<A>>)
+        judged: &Judged<A>,
+    ) -> (Turn<Desk<A>>, Result<Landed<A>, SharedWant>)
         requires { IsTurnOf shared.now self }
         ensures turn { IsTurnOf shared.now result.0 }
-        ensures ok { IfOk result.1 (λ reply. AddsRowIn shared.now self result.0 (position_of reply) (IsLanding judged reply)) }
+        ensures ok { IfOk result.1 (λ landed. AddsRowIn shared.now self result.0 (position_of landed.reply) (IsLanding judged.now landed.reply)) }
 
-        // A refusal hands the submission back, and the turn has the rows that it had.
-        ensures back { IfErr result.1 (λ back. back.submission ≡ judged.submission) }
-        ensures err { IfErr result.1 (λ back. AddsNoneIn shared.now self result.0 back.why) }
+        // Without an answer the turn has the rows that it had.
+        ensures err { IfErr result.1 (λ why. AddsNoneIn shared.now self result.0 why) }
         ensures own { OnErr result.1 (own_in result.0 ≡ own_in self) }
     {
         let Turn { seat, object } = self;
@@ -76,18 +104,17 @@ impl<A: Allocator + Copy> Turn<Desk<A>> {
         let mut desk = object;
         // Tells the prover that the docket is legal and leads to the state.
         let _rows = desk.row_count();
-        match desk.land(judged) {
-            Ok(reply) => {
+        match desk.land_keeping(judged) {
+            Ok(landed) => {
                 let object = add_last(&shared.table.shared, &mut seat, desk);
-                (Turn { seat, object }, Ok(reply))
+                (Turn { seat, object }, Ok(landed))
             }
-            Err(Back { submission, why }) => {
+            Err(why) => {
                 let why = match why {
                     Why::OutOfMemory => SharedWant::OutOfMemory,
                     Why::DocketFull => SharedWant::DocketFull,
                 };
-                let back = SharedBack { submission, why };
-                (Turn { seat, object: desk }, Err(back))
+                (Turn { seat, object: desk }, Err(why))
             }
         }
     }

@@ -4,7 +4,7 @@ ghost use Rattle.kfs_shared.specs.Landings.{AreHandedBack, IsHandedBack, LandsEa
 ghost use Rattle.kfs_shared.specs.Passes.{IsPassOf, IsTurnOf};
 ghost use Rattle.kfs_shared.specs.Sharing.{ShowsNone, ShowsSeen};
 
-use crate::land::unlanded;
+use crate::land::{answer_of, unlanded};
 use crate::pass::{Pass, Shared, Turn};
 use crate::want::{SharedBack, SharedWant};
 use kfs_desk::{Desk, Reply};
@@ -50,6 +50,9 @@ impl<A: Allocator + Copy> Shared<Desk<A>, A> {
     /// Waits for its turn. Condition: the pass is one of this desk. Where no ticket is left, all
     /// submissions come back for `TurnsSpent`, and there is no view. Else a view is refused with
     /// `OutOfMemory` alone.
+    ///
+    /// The verdicts go once the turn has ended. Where memory is refused for a list of them, each goes in
+    /// the turn.
     pub fn land_each<L: Landing<Judged<A>, SharedBack<A>>, R: Wait>(
         &self,
         rt: &R,
@@ -63,15 +66,25 @@ impl<A: Allocator + Copy> Shared<Desk<A>, A> {
         ensures err { IfErr result (λ why. ShowsNone self.now pass.old pass.new why) }
         ensures not_full { IfErr result (λ why. why ≢ SharedWant.DocketFull) }
     {
+        let mut landed = room_for(self.alloc, landings.len());
         let Some(turn) = self.begin_turn(rt, pass) else {
             hand_back(landings);
             return Err(SharedWant::TurnsSpent);
         };
-        let turn = land_in(self, turn, landings);
+        let turn = land_in(self, turn, landings, &mut landed);
         let view = turn.view(self);
         self.end_turn(pass, turn);
         view
     }
+}
+
+/// A list for so many verdicts that have landed, which are to go once the turn has ended. It has no room
+/// where memory is refused.
+fn room_for<A: Allocator>(alloc: A, count: usize) -> Vec<Judged<A>, A> {
+    let mut landed = Vec::new(alloc);
+    // Without room a verdict goes at once, which answers the same.
+    let _ = landed.reserve(count);
+    landed
 }
 
 /// Lands the verdict in the turn, if there is one.
@@ -79,6 +92,7 @@ fn land_one<A: Allocator + Copy, L: Landing<Judged<A>, SharedBack<A>>>(
     shared: &Shared<Desk<A>, A>,
     turn: Turn<Desk<A>>,
     landing: &mut L,
+    landed: &mut Vec<Judged<A>, A>,
 ) -> Turn<Desk<A>>
     requires { IsTurnOf shared.now turn }
     ensures turn { IsTurnOf shared.now result }
@@ -87,7 +101,8 @@ fn land_one<A: Allocator + Copy, L: Landing<Judged<A>, SharedBack<A>>>(
     let Some(judged) = landing.give() else {
         return turn;
     };
-    let (turn, answer) = turn.land(shared, judged);
+    let (turn, reply) = turn.land(shared, &judged);
+    let answer = answer_of(judged, reply, landed);
     landing.keep(answer);
     turn
 }
@@ -97,6 +112,7 @@ fn land_in<A: Allocator + Copy, L: Landing<Judged<A>, SharedBack<A>>>(
     shared: &Shared<Desk<A>, A>,
     turn: Turn<Desk<A>>,
     landings: &mut [L],
+    landed: &mut Vec<Judged<A>, A>,
 ) -> Turn<Desk<A>>
     requires { IsTurnOf shared.now turn }
     ensures turn { IsTurnOf shared.now result }
@@ -106,12 +122,12 @@ fn land_in<A: Allocator + Copy, L: Landing<Judged<A>, SharedBack<A>>>(
         return turn;
     }
     if landings.len() == 1 {
-        return land_one(shared, turn, &mut landings[0]);
+        return land_one(shared, turn, &mut landings[0], landed);
     }
     let half = landings.len() / 2;
     let (earlier, later) = landings.split_at_mut(half);
-    let turn = land_in(shared, turn, earlier);
-    land_in(shared, turn, later)
+    let turn = land_in(shared, turn, earlier, landed);
+    land_in(shared, turn, later, landed)
 }
 
 /// Gives the submission of the verdict back, if there is one.

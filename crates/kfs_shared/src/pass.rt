@@ -15,6 +15,7 @@ use std::snapshot::Snapshot;
 #[derive(Drop)]
 pub struct Shared<D: Docketed, A: Allocator> {
     pub(crate) table: Table<Option<D>, Known<D, D::Opening, D::Row>, Snapshot<D>, Turns, A>,
+    pub(crate) alloc: A,
     ghost sized: { (table.shared.table_id.words ≡ 12) × (table.shared.table_id.slots ≡ 1) },
 }
 

@@ -37,7 +37,7 @@ impl<D: Docketed, A: Allocator + Copy> Shared<D, A> {
             slots,
             &about,
         ) {
-            Ok((table, seat)) => Ok((Shared { table }, Pass { seat, rows })),
+            Ok((table, seat)) => Ok((Shared { table, alloc }, Pass { seat, rows })),
             Err(refused) => Err(only(refused.slots)),
         }
     }
@@ -98,7 +98,7 @@ impl<D: Docketed, A: Allocator> Shared<D, A> {
         ensures ok { IfOk result (λ object. IsEndOf self pass object) }
         ensures unreturned { IfErr result (λ _. IsLeftUnreturned self pass) }
     {
-        let Shared { table } = self;
+        let Shared { table, alloc: _ } = self;
         let Pass { seat, rows: _ } = pass;
         let mut closed = table.close_with(seat);
         let next = closed.word(1);

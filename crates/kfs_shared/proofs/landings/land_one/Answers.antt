@@ -9,5 +9,5 @@ pub returns-clause-landed : goal.returns-clause-landed
 returns-clause-landed g c =
     let b = started beginning_of c.args.shared.now in
     one_given b (KeepsAnswer g.L.Landing.number g.L.Landing.keeps) _ (g.L.Landing.verdict c.args.landing.now) c.in-Some.judged (seen_in c.args.turn) (seen_in c.land-turn.result.0) (own_in c.args.turn) (own_in c.land-turn.result.0)
-    c.args.landing.now c.keep.new.self c.land-turn.result.1 (sym c.in-Some.ensures.verdict) (c.keep.ensures.number ∙ c.in-Some.ensures.number, c.keep.ensures.kept)
-    (is_answered b _ c.in-Some.judged (seen_in c.args.turn) (seen_in c.land-turn.result.0) (own_in c.args.turn) (own_in c.land-turn.result.0) c.land-turn.result.1 c.land-turn.ensures.ok c.land-turn.ensures.back c.land-turn.ensures.err c.land-turn.ensures.own)
+    c.args.landing.now c.keep.new.self c.answer_of-answer.result (sym c.in-Some.ensures.verdict) (c.keep.ensures.number ∙ c.in-Some.ensures.number, c.keep.ensures.kept)
+    (is_answered b _ c.in-Some.judged (seen_in c.args.turn) (seen_in c.land-turn.result.0) (own_in c.args.turn) (own_in c.land-turn.result.0) c.land-turn.result.1 c.answer_of-answer.result c.answer_of-answer.ensures c.land-turn.ensures.ok c.land-turn.ensures.err c.land-turn.ensures.own)
