@@ -10,7 +10,6 @@ use Rattle.kfs_model.specs.Limits.{group_limit}
 use Rattle.kfs_model.proofs.FirstAnswer.{first_is, none_more, none_from_each}
 use Rattle.kfs_mode.specs.declared.client.ClientFault.TheVariants.{TooManyGroups, BadGrant}
 use Rattle.kfs_call.specs.StateRows.{IsClientRow}
-use Rattle.kfs_restore.specs.Saved.{HasManyGroups}
 use Rattle.kfs_restore.specs.Restored.{Refusal, BadClient, client_refusal, clients_refusal}
 
 -- ---- one row

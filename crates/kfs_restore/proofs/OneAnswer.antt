@@ -1,5 +1,5 @@
 -- Bytes come to one answer: what it must be is a function of them.
-use Rattle.std.proofs.Common.{◌≡◌, ◌⊎◌, inl, inr, ℕ, List, ◌++◌, Option, Some, None, option_map, Result, Ok, Err, sym, ap, subst, ◌∙◌}
+use Rattle.std.proofs.Common.{◌≡◌, inl, inr, ℕ, List, ◌++◌, Option, Some, None, option_map, Result, Ok, Err, sym, ap, subst, ◌∙◌}
 use Rattle.std.specs.List.{flat_map}
 use Rattle.kfs_model.specs.Judgement.{State}
 use Rattle.kfs_model.specs.Spelling.{IsBytes}
@@ -7,7 +7,7 @@ use Rattle.kfs_model.specs.Device.RawImage.{RawImage}
 use Rattle.kfs_model.specs.Device.Spelling.{ImageSpellingFault}
 use Rattle.kfs_model.proofs.RowsRead.{IsBytes-behind}
 use Rattle.kfs_model.proofs.DeviceLemmas.OneImageAnswer.{one_image_answer}
-use Rattle.kfs_call.specs.StateRows.{StateRows, StateFault, StateAnswer, state_header, state_header_of, client_bytes, lease_bytes, state_bytes}
+use Rattle.kfs_call.specs.StateRows.{StateRows, StateFault, StateAnswer, state_header, state_header_of, client_bytes, lease_bytes}
 use Rattle.kfs_call.proofs.OneStateAnswer.{one_state_answer}
 use Rattle.kfs_desk.specs.Machine.{Desk}
 use Rattle.kfs_restore.specs.Restored.{Refusal, Refused, RestoreFault, FollowsImage, FollowsState, RestoreAnswer, unless}

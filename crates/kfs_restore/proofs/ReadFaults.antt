@@ -1,5 +1,5 @@
 -- Why bytes were not read, as it is told.
-use Rattle.std.proofs.Common.{◌≡◌, inl, inr, ℕ, List, Result, Ok, Err, refl}
+use Rattle.std.proofs.Common.{inl, inr, ℕ, List, Ok, Err, refl}
 use Rattle.kfs_model.specs.Device.Spelling as images
 use Rattle.kfs_model.specs.Device.Spelling.{ImageAnswer}
 use Rattle.kfs_image.specs.Codec.Answers.{OnImageRefusal}

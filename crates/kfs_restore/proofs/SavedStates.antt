@@ -1,9 +1,8 @@
 -- A state that is saved is what its bytes come to.
-use Rattle.std.proofs.Common.{◌≡◌, ℕ, List, [], ◌∷◌, map, Option, None, option_map, Result, Ok, refl, sym, ap, subst, ◌∙◌}
+use Rattle.std.proofs.Common.{◌≡◌, ℕ, List, [], ◌∷◌, map, None, option_map, Ok, refl, sym, ap, subst, ◌∙◌}
 use Rattle.kfs_model.specs.Header.{Header}
 use Rattle.kfs_model.specs.Judgement.{State}
 use Rattle.kfs_model.specs.Lease.{Leases}
-use Rattle.kfs_model.specs.Spelling.{IsBytes}
 use Rattle.kfs_model.specs.Table.{Table, numbers, get}
 use Rattle.kfs_model.specs.Tree.{headers}
 use Rattle.kfs_model.specs.Device.Canonical.{canonical_bytes, image_bytes}

@@ -1,4 +1,4 @@
-use Rattle.std.proofs.Common.{◌≡◌, map, ap, ◌∙◌, arith}
+use Rattle.std.proofs.Common.{map, ap, ◌∙◌, arith}
 use Rattle.kfs_lease.specs.ShownLists.{row_shown}
 use Rattle.kfs_call.specs.StateRows.{state_bytes}
 use Rattle.kfs_call.specs.StateViews.{client_shown, lease_shown}

@@ -1,4 +1,4 @@
-use Rattle.std.proofs.Common.{◌≡◌, ⊎_elim, inr, option_map, refl, ap}
+use Rattle.std.proofs.Common.{⊎_elim, inr, option_map, refl, ap}
 use Rattle.kfs_restore.specs.Restored.{BadClients, Refused}
 use Rattle.kfs_restore.proofs.restoring.desk_with.Goals as goal
 

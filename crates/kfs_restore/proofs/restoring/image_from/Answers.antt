@@ -1,4 +1,4 @@
-use Rattle.std.proofs.Common.{◌≡◌, inr, option_map, refl, ap, subst}
+use Rattle.std.proofs.Common.{inr, option_map, refl, ap, subst}
 use Rattle.kfs_fsck.specs.Faults.{Tells}
 use Rattle.kfs_shape.specs.Findings.{finding_shown}
 use Rattle.kfs_restore.specs.Restored.{BrokenRule, Refused}

@@ -1,4 +1,4 @@
-use Rattle.std.proofs.Common.{◌≡◌, ⊎_elim, List, map, option_map, sym, ap, subst, ◌∙◌}
+use Rattle.std.proofs.Common.{⊎_elim, List, map, option_map, sym, ap, subst, ◌∙◌}
 use Rattle.kfs_model.specs.Header.{Header}
 use Rattle.kfs_model.specs.Table.{Table, numbers, get}
 use Rattle.kfs_image_nodes.specs.Contents.{Contents}

@@ -1,4 +1,4 @@
-use Rattle.std.proofs.Common.{◌≡◌, All, map, subst, ap, ◌∙◌}
+use Rattle.std.proofs.Common.{map, subst, ap, ◌∙◌}
 use Rattle.std.proofs.lemmas.List.Elements.{All-more}
 use Rattle.kfs_call.specs.StateRows.{IsClientRow}
 use Rattle.kfs_call.specs.StateViews.{client_shown}

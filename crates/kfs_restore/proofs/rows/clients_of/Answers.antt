@@ -1,6 +1,6 @@
-use Rattle.std.proofs.Common.{◌≡◌, ◌∷◌, [], ◌++◌, Some, None, inr, map, take, option_map, refl, sym, ap, subst, ◌∙◌}
+use Rattle.std.proofs.Common.{◌∷◌, [], ◌++◌, inr, map, take, option_map, refl, sym, ap, ◌∙◌}
 use Rattle.kfs_call.specs.StateViews.{client_shown}
-use Rattle.kfs_restore.specs.Restored.{BadClient, Refused, client_refusal, clients_refusal}
+use Rattle.kfs_restore.specs.Restored.{BadClient, Refused, client_refusal}
 use Rattle.kfs_restore.proofs.ClientRows.{first_refusal, grown, none_yet}
 use Rattle.kfs_restore.proofs.rows.clients_of.Goals as goal
 
