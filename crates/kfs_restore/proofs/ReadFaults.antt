@@ -1,0 +1,26 @@
+-- Why bytes were not read, as it is told.
+use Rattle.std.proofs.Common.{inl, inr, ℕ, List, Ok, Err, refl}
+use Rattle.kfs_model.specs.Device.Spelling as images
+use Rattle.kfs_model.specs.Device.Spelling.{ImageAnswer}
+use Rattle.kfs_image.specs.Codec.Answers.{OnImageRefusal}
+use Rattle.kfs_image.specs.declared.codec.fault.ImageFault.{ImageFault}
+use Rattle.kfs_image.specs.declared.codec.fault.ImageFault.TheVariants as image_faults
+use Rattle.kfs_call.specs.StateRows as states
+use Rattle.kfs_call.specs.StateRows.{StateRows, StateAnswer}
+use Rattle.kfs_call.specs.StateViews.{OnStateAnswer}
+use Rattle.kfs_call.specs.declared.state_fault.StateFault.{StateFault}
+use Rattle.kfs_call.specs.declared.state_fault.StateFault.TheVariants as state_faults
+use Rattle.kfs_restore.specs.Restored.{BadImage, BadState, RestoreAnswer}
+use Rattle.kfs_restore.specs.Told.{OnRefused, image_told, state_told}
+
+module _ (source : List ℕ) where
+  pub state_refused : {V : Type 0} (view : V → StateRows) (fault : StateFault) → OnStateAnswer view (StateAnswer source) (Err fault) → OnRefused (λ refusal. RestoreAnswer source (Err refusal)) (state_told fault)
+  state_refused view state_faults.BadHeader found = inr (BadState states.BadHeader, refl, (Err states.BadHeader, found, refl))
+  state_refused view (state_faults.BadRow part k) found = inr (BadState (states.BadRow part k), refl, (Err (states.BadRow part k), found, refl))
+  state_refused view state_faults.OutOfMemory found = inl refl
+
+  pub image_refused : (s : StateRows) → StateAnswer source (Ok s) → (fault : ImageFault) → OnImageRefusal (ImageAnswer s.image) fault → OnRefused (λ refusal. RestoreAnswer source (Err refusal)) (image_told fault)
+  image_refused s is image_faults.BadImageHeader found = inr (BadImage images.BadImageHeader, refl, (Ok s, is, (Err images.BadImageHeader, found, refl)))
+  image_refused s is (image_faults.BadImageRow k) found = inr (BadImage (images.BadImageRow k), refl, (Ok s, is, (Err (images.BadImageRow k), found, refl)))
+  image_refused s is image_faults.ImageTrailing found = inr (BadImage images.ImageTrailing, refl, (Ok s, is, (Err images.ImageTrailing, found, refl)))
+  image_refused s is image_faults.OutOfMemory found = inl refl

@@ -1,0 +1,4 @@
+pub mod Saved
+pub mod Restored
+pub mod Told
+pub mod Laws
