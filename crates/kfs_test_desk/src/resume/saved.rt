@@ -1,0 +1,105 @@
+//! What is kept of a desk, and the desk that goes on from it.
+ghost use Rattle.std.specs.Prelude.{IsTrue};
+ghost use Rattle.kfs_model.specs.Device.Finding.{IsWellFormed};
+ghost use Rattle.kfs_image.specs.Codec.RawImages.{raw_of};
+
+use crate::desks::client;
+use kfs_desk::Desk;
+use kfs_image::{Image, RawImage, decode_image, encode_image};
+use kfs_lease::{LeaseKind, LeaseRow, Leases};
+use kfs_mode::Client;
+use kfs_shape::check_shape;
+use std::alloc::{Allocator, Global};
+
+/// More rows than any docket here has.
+pub const ROOM: u32 = 100;
+
+/// What is kept of a desk.
+#[derive(Drop)]
+pub struct Saved {
+    /// The image's bytes.
+    pub image: Vec<u8>,
+    pub clients: Vec<Client>,
+    pub leases: Vec<LeaseRow>,
+    pub moment: u64,
+}
+
+/// A lease as a row of a list.
+pub const fn row(number: u32, client: u32, kind: LeaseKind, end: u64) -> LeaseRow {
+    LeaseRow {
+        number,
+        client,
+        kind,
+        end,
+    }
+}
+
+/// Client 7, which may make nodes, and the clients 8 and 9, which may not.
+pub fn three_clients<A: Allocator + Copy>(alloc: A) -> Option<Vec<Client, A>> {
+    let (first, second, third) = (client(7, 65_536), client(8, 1), client(9, 1));
+    vec![in alloc; first.ok()?, second.ok()?, third.ok()?].ok()
+}
+
+/// Copies of the clients.
+fn copied<A: Allocator + Copy>(alloc: A, clients: &[Client]) -> Option<Vec<Client, A>> {
+    let mut copies = Vec::new(alloc);
+    for client in clients {
+        copies.push(client.clone().ok()?).ok()?;
+    }
+    Some(copies)
+}
+
+/// What is kept of the desk.
+pub fn saved(alloc: Global, desk: &Desk<Global>) -> Option<Saved> {
+    Some(Saved {
+        image: encode_image(alloc, desk.image()).ok()?,
+        clients: copied(alloc, desk.clients())?,
+        leases: desk.leases().rows().ok()?,
+        moment: desk.leases().moment(),
+    })
+}
+
+/// Whether the same is kept of both.
+pub fn are_same(one: &Saved, other: &Saved) -> bool {
+    one.image.as_slice() == other.image.as_slice()
+        && one.clients.as_slice() == other.clients.as_slice()
+        && one.leases.as_slice() == other.leases.as_slice()
+        && one.moment == other.moment
+}
+
+/// Whether the ten rules hold.
+fn is_right<A: Allocator + Copy>(alloc: A, raw: &RawImage<A>) -> bool
+    ensures { IsTrue result → IsWellFormed (raw_of raw.now) }
+{
+    match check_shape(alloc, raw) {
+        Ok(()) => true,
+        Err(_fault) => false,
+    }
+}
+
+/// The image with these bytes.
+pub fn image_in<A: Allocator + Copy>(alloc: A, bytes: &[u8]) -> Option<Image<A>> {
+    let raw = decode_image(alloc, bytes).ok()?;
+    if !is_right(alloc, &raw) {
+        return None;
+    }
+    Image::from_raw(alloc, raw).ok()
+}
+
+/// A desk that goes on from what was kept.
+pub fn resumed(alloc: Global, saved: &Saved) -> Option<Desk<Global>> {
+    let image = image_in(alloc, saved.image.as_slice())?;
+    let clients = copied(alloc, saved.clients.as_slice())?;
+    let rows = saved.leases.as_slice();
+    let leases = Leases::from_rows(alloc, image.shape(), &clients, rows, saved.moment).ok()?;
+    Desk::resume(alloc, image, clients, leases, ROOM).ok()
+}
+
+/// A desk that goes on from there with other clients, and the leases that are left to them.
+pub fn resumed_for(alloc: Global, saved: &Saved, others: Vec<Client>) -> Option<Desk<Global>> {
+    let image = image_in(alloc, saved.image.as_slice())?;
+    let (clients, rows) = (saved.clients.as_slice(), saved.leases.as_slice());
+    let all = Leases::from_rows(alloc, image.shape(), clients, rows, saved.moment).ok()?;
+    let leases = all.of_clients(&others).ok()?;
+    Desk::resume(alloc, image, others, leases, ROOM).ok()
+}
