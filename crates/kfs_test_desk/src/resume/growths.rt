@@ -7,7 +7,7 @@ use crate::desks::{AMPLE, client};
 use crate::growths::growths;
 use crate::moves::moving::two_files;
 use crate::resume::lists::{MOMENT, ROWS, lists};
-use crate::resume::saved::{ROOM, image_in, row, three_clients};
+use crate::resume::saved::{ROOM, image_in, let_in, row, three_clients};
 use kfs_desk::{BeginFault, Desk, ResumeBack};
 use kfs_image::{Image, encode_image};
 use kfs_image_nodes::Shape;
@@ -76,7 +76,7 @@ fn made_with_one_refused(heap: &Refusing<Global>, making: Making, growth: u64) -
     let desk = two_files(heap, 2, 100)?;
     let shape = desk.image().shape();
     let clients = three_clients(heap)?;
-    let given = Leases::from_rows(heap, shape, &clients, ROWS, MOMENT).ok()?;
+    let given = let_in(heap, desk.image(), &clients, ROWS, MOMENT)?;
     heap.refuse_after(growth);
     let first = made(heap, shape, &clients, &given, making);
     let has_refused = was_refused(heap, first, due(making))?;
@@ -151,7 +151,7 @@ fn is_resumed_at_once<'a>(
 fn resumed_with_one_refused(heap: &Refusing<Global>, growth: u64, bytes: &[u8]) -> Option<bool> {
     let image = image_in(heap, bytes)?;
     let clients = three_clients(heap)?;
-    let leases = Leases::from_rows(heap, image.shape(), &clients, ROWS, MOMENT).ok()?;
+    let leases = let_in(heap, &image, &clients, ROWS, MOMENT)?;
     heap.refuse_after(growth);
     match Desk::resume(heap, image, clients, leases, ROOM) {
         Ok(desk) => is_resumed_at_once(heap, bytes, &desk),
@@ -185,7 +185,7 @@ fn is_client_twice(alloc: Global) -> Option<bool> {
     let image = image_in(alloc, bytes.as_slice())?;
     let mut clients = three_clients(alloc)?;
     clients.push(client(8, 1).ok()?).ok()?;
-    let leases = Leases::from_rows(alloc, image.shape(), &clients, ROWS, MOMENT).ok()?;
+    let leases = let_in(alloc, &image, &clients, ROWS, MOMENT)?;
     match Desk::resume(alloc, image, clients, leases, ROOM) {
         Ok(_) => None,
         Err(back) => Some(

@@ -1,7 +1,7 @@
 //! Lists of leases that are let in, and lists that aren't; and the leases that are left to other clients.
 
 use crate::moves::moving::two_files;
-use crate::resume::saved::{row, three_clients};
+use crate::resume::saved::{let_in, row, three_clients};
 use kfs_image_nodes::Shape;
 use kfs_lease::LeaseKind::{Read, Write};
 use kfs_lease::{LeaseRow, LeaseRowFault, Leases};
@@ -198,9 +198,9 @@ fn are_left(
 fn left(alloc: Global) -> Option<usize> {
     let desk = two_files(alloc, 2, 100)?;
     let clients = three_clients(alloc)?;
-    let leases = Leases::from_rows(alloc, desk.image().shape(), &clients, ROWS, MOMENT).ok()?;
+    let leases = let_in(alloc, desk.image(), &clients, ROWS, MOMENT)?;
     let mut count = 0usize;
-    for (numbers, rows) in LEFT {
+    for &(numbers, rows) in LEFT {
         if are_left(alloc, &leases, numbers, rows) != Some(true) {
             return Some(count);
         }

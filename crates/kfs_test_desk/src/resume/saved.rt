@@ -1,7 +1,9 @@
 //! What is kept of a desk, and the desk that goes on from it.
-ghost use Rattle.std.specs.Prelude.{IsTrue};
+ghost use Rattle.std.specs.Prelude.{IfSome, IsTrue};
 ghost use Rattle.kfs_model.specs.Device.Finding.{IsWellFormed};
+ghost use Rattle.kfs_model.specs.Table.{get};
 ghost use Rattle.kfs_image.specs.Codec.RawImages.{raw_of};
+ghost use Rattle.kfs_lease.specs.LeaseLists.{AreLawful};
 
 use crate::desks::client;
 use kfs_desk::Desk;
@@ -86,12 +88,28 @@ pub fn image_in<A: Allocator + Copy>(alloc: A, bytes: &[u8]) -> Option<Image<A>>
     Image::from_raw(alloc, raw).ok()
 }
 
+/// The leases of the rows, where they are let in on the nodes of the image.
+pub fn let_in<A: Allocator + Copy>(
+    alloc: A,
+    image: &Image<A>,
+    clients: &[Client],
+    rows: &[LeaseRow],
+    moment: u64,
+) -> Option<Leases<A>>
+    ensures { IfSome result (λ leases. AreLawful clients.now (get image.now.heads) leases) }
+{
+    match Leases::from_rows(alloc, image.shape(), clients, rows, moment) {
+        Ok(leases) => Some(leases),
+        Err(_fault) => None,
+    }
+}
+
 /// A desk that goes on from what was kept.
 pub fn resumed(alloc: Global, saved: &Saved) -> Option<Desk<Global>> {
     let image = image_in(alloc, saved.image.as_slice())?;
     let clients = copied(alloc, saved.clients.as_slice())?;
     let rows = saved.leases.as_slice();
-    let leases = Leases::from_rows(alloc, image.shape(), &clients, rows, saved.moment).ok()?;
+    let leases = let_in(alloc, &image, &clients, rows, saved.moment)?;
     Desk::resume(alloc, image, clients, leases, ROOM).ok()
 }
 
@@ -99,7 +117,7 @@ pub fn resumed(alloc: Global, saved: &Saved) -> Option<Desk<Global>> {
 pub fn resumed_for(alloc: Global, saved: &Saved, others: Vec<Client>) -> Option<Desk<Global>> {
     let image = image_in(alloc, saved.image.as_slice())?;
     let (clients, rows) = (saved.clients.as_slice(), saved.leases.as_slice());
-    let all = Leases::from_rows(alloc, image.shape(), clients, rows, saved.moment).ok()?;
+    let all = let_in(alloc, &image, clients, rows, saved.moment)?;
     let leases = all.of_clients(&others).ok()?;
     Desk::resume(alloc, image, others, leases, ROOM).ok()
 }

@@ -41,14 +41,15 @@ fn walk(
     judge_entries_keeping(alloc, view, log, keeping).ok()
 }
 
-fn walked(alloc: Global, desk: &Desk<Global>, bytes: &[u8]) -> Option<Walk<Global>> {
-    let log = log(alloc, bytes)?;
-    walk(alloc, &view(desk)?, &log, Keeping::Reads)
-}
-
-fn walked_unread(alloc: Global, desk: &Desk<Global>, bytes: &[u8]) -> Option<Walk<Global>> {
-    let log = log(alloc, bytes)?;
-    walk(alloc, &view(desk)?, &log, Keeping::Nothing)
+/// The walk over the entries of this log, over a view of the desk.
+fn walked(
+    alloc: Global,
+    desk: Option<Desk<Global>>,
+    bytes: &[u8],
+    keeping: Keeping,
+) -> Option<Walk<Global>> {
+    let view = view(&desk?)?;
+    walk(alloc, &view, &log(alloc, bytes)?, keeping)
 }
 
 /// What was read of the cell, or none where it wasn't looked at.
@@ -74,7 +75,8 @@ fn size(walk: &Walk<Global>) -> Option<FileSize> {
 
 #[test]
 fn a_walk_and_what_it_read(rt: HostRuntime) {
-    let walk = opening(rt.alloc(), 9).and_then(|desk| walked(rt.alloc(), &desk, CREATE_LOG));
+    let desk = opening(rt.alloc(), 9);
+    let walk = walked(rt.alloc(), desk, CREATE_LOG, Keeping::Reads);
     assert!(rt; walk.is_some());
     if let Some(walk) = walk {
         assert!(rt; outcome(&walk) == Ok((1, 1)));
@@ -93,7 +95,8 @@ fn a_walk_and_what_it_read(rt: HostRuntime) {
 
 #[test]
 fn a_walk_that_keeps_no_read(rt: HostRuntime) {
-    let walk = opening(rt.alloc(), 9).and_then(|desk| walked_unread(rt.alloc(), &desk, CREATE_LOG));
+    let desk = opening(rt.alloc(), 9);
+    let walk = walked(rt.alloc(), desk, CREATE_LOG, Keeping::Nothing);
     assert!(rt; walk.is_some());
     if let Some(walk) = walk {
         assert!(rt; outcome(&walk) == Ok((1, 1)));
@@ -104,7 +107,8 @@ fn a_walk_that_keeps_no_read(rt: HostRuntime) {
 
 #[test]
 fn a_walk_that_stops_at_an_entry(rt: HostRuntime) {
-    let walk = begun(rt.alloc(), 8, 9).and_then(|desk| walked(rt.alloc(), &desk, CREATE_LOG));
+    let desk = begun(rt.alloc(), 8, 9);
+    let walk = walked(rt.alloc(), desk, CREATE_LOG, Keeping::Reads);
     let fault = EntryFault {
         index: 0,
         reason: Reason::NoLease(1),
