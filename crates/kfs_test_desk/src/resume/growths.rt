@@ -100,6 +100,20 @@ fn each_growth_of_leases_refused(rt: HostRuntime) {
     }
 }
 
+fn is_image<A: Allocator + Copy>(alloc: A, bytes: &[u8], image: &Image<A>) -> bool {
+    match encode_image(alloc, image) {
+        Ok(encoded) => encoded.as_slice() == bytes,
+        Err(_) => false,
+    }
+}
+
+fn are_three<A: Allocator + Copy>(alloc: A, clients: &[Client]) -> bool {
+    match three_clients(alloc) {
+        Some(three) => clients == three.as_slice(),
+        None => false,
+    }
+}
+
 /// Whether they are the image with these bytes, three clients, and the leases of `ROWS`.
 fn are_those<A: Allocator + Copy>(
     alloc: A,
@@ -108,10 +122,7 @@ fn are_those<A: Allocator + Copy>(
     clients: &[Client],
     leases: &Leases<A>,
 ) -> bool {
-    let (Ok(encoded), Some(three)) = (encode_image(alloc, image), three_clients(alloc)) else {
-        return false;
-    };
-    encoded.as_slice() == bytes && clients == three.as_slice() && lists(leases, ROWS, MOMENT)
+    is_image(alloc, bytes, image) && are_three(alloc, clients) && lists(leases, ROWS, MOMENT)
 }
 
 /// Whether the desk has those, and no row in its docket.

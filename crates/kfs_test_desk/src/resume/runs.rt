@@ -9,6 +9,7 @@ use crate::moves::moving::{
 use crate::resume::saved::{
     ROOM, Saved, are_same, resumed, resumed_for, row, saved, three_clients,
 };
+use kfs_desk::Done::{Dropped, Leased, Ticked};
 use kfs_desk::{Act, ActFault, ActReply, Desk, Done, Move, MoveFault, Reply};
 use kfs_judge::{EntryFault, Reason};
 use kfs_lease::LeaseKind::{Read, Write};
@@ -30,9 +31,9 @@ enum Verdict {
 #[derive(Clone, Copy)]
 enum Call<'a> {
     /// A lease of a client on the node at the path, up to a moment.
-    Lease(u32, &'a [u8], LeaseKind, u64, Result<u32, LeaseFault>),
-    Drop(u32, u32, Result<u32, LeaseFault>),
-    Tick(u64, Result<u64, LeaseFault>),
+    Lease(u32, &'a [u8], LeaseKind, u64, Result<Done, LeaseFault>),
+    Drop(u32, u32, Result<Done, LeaseFault>),
+    Tick(u64, Result<Done, LeaseFault>),
     Migrate(&'a [Move], Wanted),
     /// Client 7 makes file 5 at `/a` and file 6 at `/b`, each with a block.
     Files(Verdict),
@@ -92,15 +93,15 @@ fn is_made(desk: &mut Desk<Global>, call: Call<'_>, position: u32) -> bool {
                 kind,
                 end,
             };
-            is_acted(desk, act, position, wanted.map(Done::Leased))
+            is_acted(desk, act, position, wanted)
         }
         Call::Drop(client, number, wanted) => {
             let act = Act::Drop { client, number };
-            is_acted(desk, act, position, wanted.map(Done::Dropped))
+            is_acted(desk, act, position, wanted)
         }
         Call::Tick(moment, wanted) => {
             let act = Act::Tick { moment };
-            is_acted(desk, act, position, wanted.map(Done::Ticked))
+            is_acted(desk, act, position, wanted)
         }
         Call::Migrate(moves, wanted) => is_migrated(desk, moves, position, wanted),
         Call::Files(verdict) => is_replied(desk, FILES_LOG, FILES_PLAN, reply(verdict, position)),
@@ -128,29 +129,29 @@ const WITHOUT_A_LEASE: Fault = Fault::Entry(EntryFault {
 /// Tier 0 has two places. A Write takes the least of those that are free: both are before the first one that
 /// is accepted, and before the second.
 const CALLS: &[Call<'static>] = &[
-    Call::Lease(7, b"/", Write, 100, Ok(1)),
+    Call::Lease(7, b"/", Write, 100, Ok(Leased(1))),
     Call::Files(Verdict::Yes(2)),
-    Call::Lease(7, b"/a", Write, 50, Ok(5)),
+    Call::Lease(7, b"/a", Write, 50, Ok(Leased(5))),
     Call::Write(Verdict::NoRoom(1, 0)),
-    Call::Lease(8, b"/b", Read, 30, Ok(6)),
+    Call::Lease(8, b"/b", Read, 30, Ok(Leased(6))),
     Call::Migrate(&[to(6, 2, 3), to(5, 1, 0)], Ok(2)),
     Call::Write(Verdict::Yes(1)),
     Call::Lease(8, b"/a", Read, 40, Err(LeaseFault::LeaseHeld(7))),
-    Call::Tick(30, Ok(30)),
+    Call::Tick(30, Ok(Ticked(30))),
     Call::Drop(8, 6, Err(LeaseFault::NoLeaseHeld)),
     Call::Migrate(&[to(6, 0, 0)], Err(MoveFault::NotFree(0))),
-    Call::Drop(7, 5, Ok(5)),
+    Call::Drop(7, 5, Ok(Dropped(5))),
     Call::Write(Verdict::No(WITHOUT_A_LEASE)),
     Call::Tick(20, Err(LeaseFault::Backwards)),
     Call::Lease(8, b"/a", Read, 30, Err(LeaseFault::Past)),
-    Call::Lease(8, b"/a", Read, 60, Ok(5)),
+    Call::Lease(8, b"/a", Read, 60, Ok(Leased(5))),
     Call::Migrate(&[to(5, 1, 7)], Ok(1)),
     Call::Lease(7, b"/a", Write, 70, Err(LeaseFault::LeaseHeld(8))),
-    Call::Tick(60, Ok(60)),
-    Call::Lease(7, b"/a", Write, 70, Ok(5)),
+    Call::Tick(60, Ok(Ticked(60))),
+    Call::Lease(7, b"/a", Write, 70, Ok(Leased(5))),
     Call::Write(Verdict::Yes(1)),
-    Call::Lease(8, b"/b", Read, 90, Ok(6)),
-    Call::Lease(9, b"/b", Read, 80, Ok(6)),
+    Call::Lease(8, b"/b", Read, 90, Ok(Leased(6))),
+    Call::Lease(9, b"/b", Read, 80, Ok(Leased(6))),
 ];
 
 /// The leases at the end.
@@ -197,12 +198,12 @@ fn is_end(alloc: Global, end: &Saved) -> Option<bool> {
 /// 7 have ended, and no other one has.
 const CALLS_OF_OTHERS: &[Call<'static>] = &[
     Call::Lease(7, b"/", Write, 100, Err(LeaseFault::UnknownClient)),
-    Call::Lease(8, b"/a", Write, 100, Ok(5)),
+    Call::Lease(8, b"/a", Write, 100, Ok(Leased(5))),
     Call::Lease(9, b"/b", Write, 100, Err(LeaseFault::LeaseHeld(8))),
     Call::Tick(59, Err(LeaseFault::Backwards)),
-    Call::Tick(80, Ok(80)),
+    Call::Tick(80, Ok(Ticked(80))),
     Call::Drop(9, 6, Err(LeaseFault::NoLeaseHeld)),
-    Call::Drop(8, 6, Ok(6)),
+    Call::Drop(8, 6, Ok(Dropped(6))),
     Call::Drop(8, 1, Err(LeaseFault::NoLeaseHeld)),
 ];
 
