@@ -48,7 +48,7 @@ pub fn two_files<A: Allocator + Copy>(alloc: A, blocks: u32, limit: u32) -> Opti
 }
 
 /// Block 0 of the file goes to this place.
-pub const fn to(number: u32, tier: u8, place: u32) -> Move {
+pub fn to(number: u32, tier: u8, place: u32) -> Move {
     Move {
         number,
         block: 0,

@@ -7,7 +7,7 @@ use crate::desks::{AMPLE, client};
 use crate::growths::growths;
 use crate::moves::moving::two_files;
 use crate::resume::lists::{MOMENT, ROWS, lists};
-use crate::resume::saved::{ROOM, image_in, let_in, row, three_clients};
+use crate::resume::saved::{ROOM, Row, image_in, lease_rows, let_in, three_clients};
 use kfs_desk::{BeginFault, Desk, ResumeBack};
 use kfs_image::{Image, encode_image};
 use kfs_image_nodes::Shape;
@@ -29,26 +29,27 @@ enum Making {
 }
 
 /// The leases that are made.
-fn due(making: Making) -> &'static [LeaseRow] {
+fn due(making: Making) -> &'static [Row] {
     match making {
         Making::Rows | Making::Listed => ROWS,
-        Making::OfClient8 => &[row(5, 8, Read, 4), row(6, 8, Write, 50)],
+        Making::OfClient8 => &[(5, 8, Read, 4), (6, 8, Write, 50)],
     }
 }
 
-/// Makes leases; the given ones are those of `ROWS`.
+/// Makes leases; rows and given leases are `ROWS`.
 fn made<A: Allocator + Copy>(
     alloc: A,
     shape: &Shape<A>,
     clients: &[Client],
+    rows: &[LeaseRow],
     given: &Leases<A>,
     making: Making,
 ) -> Result<Leases<A>, LeaseRowFault> {
     match making {
-        Making::Rows => Leases::from_rows(alloc, shape, clients, ROWS, MOMENT),
+        Making::Rows => Leases::from_rows(alloc, shape, clients, rows, MOMENT),
         Making::Listed => {
-            let rows = given.rows()?;
-            Leases::from_rows(alloc, shape, clients, rows.as_slice(), MOMENT)
+            let listed = given.rows()?;
+            Leases::from_rows(alloc, shape, clients, &listed, MOMENT)
         }
         Making::OfClient8 => Ok(given.of_clients(clients.get(1..2).unwrap_or(&[]))?),
     }
@@ -59,7 +60,7 @@ fn made<A: Allocator + Copy>(
 fn was_refused<A: Allocator + Copy>(
     heap: &Refusing<Global>,
     made: Result<Leases<A>, LeaseRowFault>,
-    due: &[LeaseRow],
+    due: &[Row],
 ) -> Option<bool> {
     let has_refused = heap.has_refused();
     heap.refuse_after(AMPLE);
@@ -76,11 +77,12 @@ fn made_with_one_refused(heap: &Refusing<Global>, making: Making, growth: u64) -
     let desk = two_files(heap, 2, 100)?;
     let shape = desk.image().shape();
     let clients = three_clients(heap)?;
-    let given = let_in(heap, desk.image(), &clients, ROWS, MOMENT)?;
+    let rows = lease_rows(heap, ROWS)?;
+    let given = let_in(heap, desk.image(), &clients, &rows, MOMENT)?;
     heap.refuse_after(growth);
-    let first = made(heap, shape, &clients, &given, making);
+    let first = made(heap, shape, &clients, &rows, &given, making);
     let has_refused = was_refused(heap, first, due(making))?;
-    let second = made(heap, shape, &clients, &given, making);
+    let second = made(heap, shape, &clients, &rows, &given, making);
     let is_right = was_refused(heap, second, due(making)) == Some(false);
     (is_right && lists(&given, ROWS, MOMENT)).then_some(has_refused)
 }
@@ -162,7 +164,7 @@ fn is_resumed_at_once<'a>(
 fn resumed_with_one_refused(heap: &Refusing<Global>, growth: u64, bytes: &[u8]) -> Option<bool> {
     let image = image_in(heap, bytes)?;
     let clients = three_clients(heap)?;
-    let leases = let_in(heap, &image, &clients, ROWS, MOMENT)?;
+    let leases = let_in(heap, &image, &clients, &lease_rows(heap, ROWS)?, MOMENT)?;
     heap.refuse_after(growth);
     match Desk::resume(heap, image, clients, leases, ROOM) {
         Ok(desk) => is_resumed_at_once(heap, bytes, &desk),
@@ -196,7 +198,7 @@ fn is_client_twice(alloc: Global) -> Option<bool> {
     let image = image_in(alloc, bytes.as_slice())?;
     let mut clients = three_clients(alloc)?;
     clients.push(client(8, 1).ok()?).ok()?;
-    let leases = let_in(alloc, &image, &clients, ROWS, MOMENT)?;
+    let leases = let_in(alloc, &image, &clients, &lease_rows(alloc, ROWS)?, MOMENT)?;
     match Desk::resume(alloc, image, clients, leases, ROOM) {
         Ok(_) => None,
         Err(back) => Some(

@@ -3,17 +3,16 @@
 
 use crate::desks::{begun_for, client};
 use crate::moves::moving::{
-    FILES_LOG, FILES_PLAN, WRITE_LOG, WRITE_PLAN, Wanted, are_free, have_bytes, is_migrated,
-    lie_at, to,
+    FILES_LOG, FILES_PLAN, WRITE_LOG, WRITE_PLAN, Wanted, are_free, have_bytes, is_migrated, lie_at,
 };
 use crate::resume::saved::{
-    ROOM, Saved, are_same, resumed, resumed_for, row, saved, three_clients,
+    ROOM, Row, Saved, are_rows, are_same, resumed, resumed_for, saved, three_clients,
 };
 use kfs_desk::Done::{Dropped, Leased, Ticked};
 use kfs_desk::{Act, ActFault, ActReply, Desk, Done, Move, MoveFault, Reply};
 use kfs_judge::{EntryFault, Reason};
 use kfs_lease::LeaseKind::{Read, Write};
-use kfs_lease::{LeaseFault, LeaseKind, LeaseRow};
+use kfs_lease::{LeaseFault, LeaseKind};
 use kfs_plan::Fault;
 use std::alloc::Global;
 
@@ -126,6 +125,38 @@ const WITHOUT_A_LEASE: Fault = Fault::Entry(EntryFault {
     reason: Reason::NoLease(5),
 });
 
+/// Both blocks go to other tiers.
+const AWAY: &[Move] = &[
+    Move {
+        number: 6,
+        block: 0,
+        tier: 2,
+        place: 3,
+    },
+    Move {
+        number: 5,
+        block: 0,
+        tier: 1,
+        place: 0,
+    },
+];
+
+/// The block of file 6 goes to where that of file 5 is.
+const ONTO_ANOTHER: &[Move] = &[Move {
+    number: 6,
+    block: 0,
+    tier: 0,
+    place: 0,
+}];
+
+/// The block of file 5 goes to another tier.
+const AWAY_AGAIN: &[Move] = &[Move {
+    number: 5,
+    block: 0,
+    tier: 1,
+    place: 7,
+}];
+
 /// Tier 0 has two places. A Write takes the least of those that are free: both are before the first one that
 /// is accepted, and before the second.
 const CALLS: &[Call<'static>] = &[
@@ -134,18 +165,18 @@ const CALLS: &[Call<'static>] = &[
     Call::Lease(7, b"/a", Write, 50, Ok(Leased(5))),
     Call::Write(Verdict::NoRoom(1, 0)),
     Call::Lease(8, b"/b", Read, 30, Ok(Leased(6))),
-    Call::Migrate(&[to(6, 2, 3), to(5, 1, 0)], Ok(2)),
+    Call::Migrate(AWAY, Ok(2)),
     Call::Write(Verdict::Yes(1)),
     Call::Lease(8, b"/a", Read, 40, Err(LeaseFault::LeaseHeld(7))),
     Call::Tick(30, Ok(Ticked(30))),
     Call::Drop(8, 6, Err(LeaseFault::NoLeaseHeld)),
-    Call::Migrate(&[to(6, 0, 0)], Err(MoveFault::NotFree(0))),
+    Call::Migrate(ONTO_ANOTHER, Err(MoveFault::NotFree(0))),
     Call::Drop(7, 5, Ok(Dropped(5))),
     Call::Write(Verdict::No(WITHOUT_A_LEASE)),
     Call::Tick(20, Err(LeaseFault::Backwards)),
     Call::Lease(8, b"/a", Read, 30, Err(LeaseFault::Past)),
     Call::Lease(8, b"/a", Read, 60, Ok(Leased(5))),
-    Call::Migrate(&[to(5, 1, 7)], Ok(1)),
+    Call::Migrate(AWAY_AGAIN, Ok(1)),
     Call::Lease(7, b"/a", Write, 70, Err(LeaseFault::LeaseHeld(8))),
     Call::Tick(60, Ok(Ticked(60))),
     Call::Lease(7, b"/a", Write, 70, Ok(Leased(5))),
@@ -155,11 +186,11 @@ const CALLS: &[Call<'static>] = &[
 ];
 
 /// The leases at the end.
-const LEASES: &[LeaseRow] = &[
-    row(1, 7, Write, 100),
-    row(5, 7, Write, 70),
-    row(6, 8, Read, 90),
-    row(6, 9, Read, 80),
+const LEASES: &[Row] = &[
+    (1, 7, Write, 100),
+    (5, 7, Write, 70),
+    (6, 8, Read, 90),
+    (6, 9, Read, 80),
 ];
 
 /// What is kept of a new desk after the calls.
@@ -186,7 +217,7 @@ fn saved_after_more(alloc: Global, before: &Saved, calls: &[Call<'_>]) -> Option
 fn is_end(alloc: Global, end: &Saved) -> Option<bool> {
     let desk = resumed(alloc, end)?;
     Some(
-        end.leases.as_slice() == LEASES
+        are_rows(&end.leases, LEASES)
             && end.moment == 60
             && lie_at(&desk, (0, 0), (2, 3))
             && are_free(&desk, (1, 8, 7))

@@ -26,14 +26,38 @@ pub struct Saved {
     pub moment: u64,
 }
 
-/// A lease as a row of a list.
-pub const fn row(number: u32, client: u32, kind: LeaseKind, end: u64) -> LeaseRow {
+/// A lease: the node's number, the client's, its kind and its end.
+pub type Row = (u32, u32, LeaseKind, u64);
+
+fn lease_row((number, client, kind, end): Row) -> LeaseRow {
     LeaseRow {
         number,
         client,
         kind,
         end,
     }
+}
+
+/// The leases as rows of a list.
+pub fn lease_rows<A: Allocator + Copy>(alloc: A, rows: &[Row]) -> Option<Vec<LeaseRow, A>> {
+    let mut listed = Vec::new(alloc);
+    for row in rows {
+        listed.push(lease_row(*row)).ok()?;
+    }
+    Some(listed)
+}
+
+/// Whether the list has just these rows.
+pub fn are_rows(listed: &[LeaseRow], rows: &[Row]) -> bool {
+    if listed.len() != rows.len() {
+        return false;
+    }
+    for (listed, row) in listed.iter().zip(rows) {
+        if *listed != lease_row(*row) {
+            return false;
+        }
+    }
+    true
 }
 
 /// Client 7, which may make nodes, and the clients 8 and 9, which may not.
