@@ -3,13 +3,14 @@
 
 use crate::desks::{begun_for, client};
 use crate::moves::moving::{
-    FILES_LOG, FILES_PLAN, WRITE_LOG, WRITE_PLAN, Wanted, are_free, have_bytes, is_migrated, lie_at,
+    FILES_LOG, FILES_PLAN, WRITE_LOG, WRITE_PLAN, Wanted, are_free, have_bytes, is_migrated,
+    lie_at, to,
 };
 use crate::resume::saved::{
     ROOM, Row, Saved, are_rows, are_same, resumed, resumed_for, saved, three_clients,
 };
 use kfs_desk::Done::{Dropped, Leased, Ticked};
-use kfs_desk::{Act, ActFault, ActReply, Desk, Done, Move, MoveFault, Reply};
+use kfs_desk::{Act, ActFault, ActReply, Desk, Done, MoveFault, Reply};
 use kfs_judge::{EntryFault, Reason};
 use kfs_lease::LeaseKind::{Read, Write};
 use kfs_lease::{LeaseFault, LeaseKind};
@@ -33,7 +34,8 @@ enum Call<'a> {
     Lease(u32, &'a [u8], LeaseKind, u64, Result<Done, LeaseFault>),
     Drop(u32, u32, Result<Done, LeaseFault>),
     Tick(u64, Result<Done, LeaseFault>),
-    Migrate(&'a [Move], Wanted),
+    /// Block 0 of a file goes to a place on a tier.
+    Migrate(u32, u8, u32, Wanted),
     /// Client 7 makes file 5 at `/a` and file 6 at `/b`, each with a block.
     Files(Verdict),
     /// Client 7 writes `ONE` over the block of file 5.
@@ -102,7 +104,9 @@ fn is_made(desk: &mut Desk<Global>, call: Call<'_>, position: u32) -> bool {
             let act = Act::Tick { moment };
             is_acted(desk, act, position, wanted)
         }
-        Call::Migrate(moves, wanted) => is_migrated(desk, moves, position, wanted),
+        Call::Migrate(number, tier, place, wanted) => {
+            is_migrated(desk, &[to(number, tier, place)], position, wanted)
+        }
         Call::Files(verdict) => is_replied(desk, FILES_LOG, FILES_PLAN, reply(verdict, position)),
         Call::Write(verdict) => is_replied(desk, WRITE_LOG, WRITE_PLAN, reply(verdict, position)),
     }
@@ -125,38 +129,6 @@ const WITHOUT_A_LEASE: Fault = Fault::Entry(EntryFault {
     reason: Reason::NoLease(5),
 });
 
-/// Both blocks go to other tiers.
-const AWAY: &[Move] = &[
-    Move {
-        number: 6,
-        block: 0,
-        tier: 2,
-        place: 3,
-    },
-    Move {
-        number: 5,
-        block: 0,
-        tier: 1,
-        place: 0,
-    },
-];
-
-/// The block of file 6 goes to where that of file 5 is.
-const ONTO_ANOTHER: &[Move] = &[Move {
-    number: 6,
-    block: 0,
-    tier: 0,
-    place: 0,
-}];
-
-/// The block of file 5 goes to another tier.
-const AWAY_AGAIN: &[Move] = &[Move {
-    number: 5,
-    block: 0,
-    tier: 1,
-    place: 7,
-}];
-
 /// Tier 0 has two places. A Write takes the least of those that are free: both are before the first one that
 /// is accepted, and before the second.
 const CALLS: &[Call<'static>] = &[
@@ -165,18 +137,19 @@ const CALLS: &[Call<'static>] = &[
     Call::Lease(7, b"/a", Write, 50, Ok(Leased(5))),
     Call::Write(Verdict::NoRoom(1, 0)),
     Call::Lease(8, b"/b", Read, 30, Ok(Leased(6))),
-    Call::Migrate(AWAY, Ok(2)),
+    Call::Migrate(6, 2, 3, Ok(1)),
+    Call::Migrate(5, 1, 0, Ok(1)),
     Call::Write(Verdict::Yes(1)),
     Call::Lease(8, b"/a", Read, 40, Err(LeaseFault::LeaseHeld(7))),
     Call::Tick(30, Ok(Ticked(30))),
     Call::Drop(8, 6, Err(LeaseFault::NoLeaseHeld)),
-    Call::Migrate(ONTO_ANOTHER, Err(MoveFault::NotFree(0))),
+    Call::Migrate(6, 0, 0, Err(MoveFault::NotFree(0))),
     Call::Drop(7, 5, Ok(Dropped(5))),
     Call::Write(Verdict::No(WITHOUT_A_LEASE)),
     Call::Tick(20, Err(LeaseFault::Backwards)),
     Call::Lease(8, b"/a", Read, 30, Err(LeaseFault::Past)),
     Call::Lease(8, b"/a", Read, 60, Ok(Leased(5))),
-    Call::Migrate(AWAY_AGAIN, Ok(1)),
+    Call::Migrate(5, 1, 7, Ok(1)),
     Call::Lease(7, b"/a", Write, 70, Err(LeaseFault::LeaseHeld(8))),
     Call::Tick(60, Ok(Ticked(60))),
     Call::Lease(7, b"/a", Write, 70, Ok(Leased(5))),
