@@ -23,7 +23,7 @@ pub const MOMENT: u64 = 3;
 type List = (&'static [Row], u64, Result<(), LeaseRowFault>);
 
 /// There are the nodes 1, 5 and 6, and the clients 7, 8 and 9.
-const LISTS: &[List] = &[
+const ALL_LISTS: &[List] = &[
     (&[], u64::MAX, Ok(())),
     (ROWS, MOMENT, Ok(())),
     (&[(6, 9, Write, u64::MAX)], u64::MAX - 1, Ok(())),
@@ -149,7 +149,7 @@ fn answered(alloc: Global) -> Option<usize> {
     let desk = two_files(alloc, 2, 100)?;
     let clients = three_clients(alloc)?;
     let mut count = 0usize;
-    for list in LISTS {
+    for list in ALL_LISTS {
         if is_answered(alloc, desk.image().shape(), &clients, *list) != Some(true) {
             return Some(count);
         }
@@ -159,7 +159,7 @@ fn answered(alloc: Global) -> Option<usize> {
 }
 
 /// Numbers of clients, and which of `ROWS` are left to them.
-const LEFT: &[(&[u32], &[Row])] = &[
+const LEFT_TO_OTHERS: &[(&[u32], &[Row])] = &[
     (&[7, 8, 9], ROWS),
     (&[], &[]),
     (&[10], &[]),
@@ -188,14 +188,14 @@ fn are_left(alloc: Global, leases: &Leases<Global>, numbers: &[u32], rows: &[Row
     Some(lists(&left, rows, MOMENT) && lists(leases, ROWS, MOMENT))
 }
 
-/// How many rows of `LEFT` come before the first one that is wrong.
+/// How many rows of `LEFT_TO_OTHERS` come before the first one that is wrong.
 fn left(alloc: Global) -> Option<usize> {
     let desk = two_files(alloc, 2, 100)?;
     let clients = three_clients(alloc)?;
     let rows = lease_rows(alloc, ROWS)?;
     let leases = let_in(alloc, desk.image(), &clients, &rows, MOMENT)?;
     let mut count = 0usize;
-    for &(numbers, rows) in LEFT {
+    for &(numbers, rows) in LEFT_TO_OTHERS {
         if are_left(alloc, &leases, numbers, rows) != Some(true) {
             return Some(count);
         }
@@ -207,7 +207,7 @@ fn left(alloc: Global) -> Option<usize> {
 #[test]
 fn lists_of_leases(rt: HostRuntime) {
     let count = answered(rt.alloc());
-    assert!(rt; count == Some(LISTS.len()), "{count:?}");
+    assert!(rt; count == Some(ALL_LISTS.len()), "{count:?}");
     let count = left(rt.alloc());
-    assert!(rt; count == Some(LEFT.len()), "{count:?}");
+    assert!(rt; count == Some(LEFT_TO_OTHERS.len()), "{count:?}");
 }

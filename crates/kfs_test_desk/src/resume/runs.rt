@@ -7,7 +7,7 @@ use crate::moves::moving::{
     lie_at, to,
 };
 use crate::resume::saved::{
-    ROOM, Row, Saved, are_rows, are_same, resumed, resumed_for, saved, three_clients,
+    ROOM, Row, Saved, are_rows, are_same, keep, resumed, resumed_for, three_clients,
 };
 use kfs_desk::Done::{Dropped, Leased, Ticked};
 use kfs_desk::{Act, ActFault, ActReply, Desk, Done, MoveFault, Reply};
@@ -170,7 +170,7 @@ const LEASES: &[Row] = &[
 fn saved_after(alloc: Global, calls: &[Call<'_>]) -> Option<Saved> {
     let mut desk = begun_for(alloc, three_clients(alloc)?, 2, ROOM)?;
     if are_made(&mut desk, calls) {
-        saved(alloc, &desk)
+        keep(alloc, &desk)
     } else {
         None
     }
@@ -180,7 +180,7 @@ fn saved_after(alloc: Global, calls: &[Call<'_>]) -> Option<Saved> {
 fn saved_after_more(alloc: Global, before: &Saved, calls: &[Call<'_>]) -> Option<Saved> {
     let mut desk = resumed(alloc, before)?;
     if are_made(&mut desk, calls) {
-        saved(alloc, &desk)
+        keep(alloc, &desk)
     } else {
         None
     }

@@ -76,7 +76,7 @@ fn copied<A: Allocator + Copy>(alloc: A, clients: &[Client]) -> Option<Vec<Clien
 }
 
 /// What is kept of the desk.
-pub fn saved(alloc: Global, desk: &Desk<Global>) -> Option<Saved> {
+pub fn keep(alloc: Global, desk: &Desk<Global>) -> Option<Saved> {
     Some(Saved {
         image: encode_image(alloc, desk.image()).ok()?,
         clients: copied(alloc, desk.clients())?,
