@@ -142,6 +142,7 @@ pub fn resumed_for(alloc: Global, saved: &Saved, others: Vec<Client>) -> Option<
     let image = image_in(alloc, saved.image.as_slice())?;
     let (clients, rows) = (saved.clients.as_slice(), saved.leases.as_slice());
     let all = let_in(alloc, &image, clients, rows, saved.moment)?;
-    let leases = all.of_clients(&others).ok()?;
+    let left = all.of_clients(&others).ok()?.rows().ok()?;
+    let leases = let_in(alloc, &image, &others, &left, saved.moment)?;
     Desk::resume(alloc, image, others, leases, ROOM).ok()
 }
