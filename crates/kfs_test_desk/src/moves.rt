@@ -7,6 +7,6 @@ mod answers;
 #[cfg(test)]
 mod growths;
 #[cfg(test)]
-mod moving;
+pub mod moving;
 #[cfg(test)]
 mod scripts;

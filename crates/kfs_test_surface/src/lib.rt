@@ -1,7 +1,7 @@
 //! Tests of the public surface: each public name is brought in, and the words of the faults, and their lines. Begin
 //! with `names.rt`.
 //!
-//! It stands on the public crates and `kfs_test_support`. What a server does with them is tested by `kfs_test_serving`.
+//! It stands on the public crates and `kfs_test_support`. What a server does with them is tested by `serving` of `kfs_test_desk`.
 #![tactic(auto)]
 
 pub mod names;
