@@ -79,6 +79,7 @@ pub mod call {
         encode_state,
     };
     pub use kfs_call_desk::{CallFault, Called, call};
+    pub use kfs_restore::{EncodeFault, RestoreFault, encode_desk, restore};
 }
 
 /// Workers, scripts of their steps, and a desk that threads share.

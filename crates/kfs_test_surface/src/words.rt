@@ -4,14 +4,15 @@ use kfs_call::{FieldFault, StateFault};
 use kfs_call_desk::CallFault;
 use kfs_desk::{ActFault, BeginFault, Unanswered, Why};
 use kfs_entry::SpellFault;
-use kfs_image::ReadFault;
+use kfs_image::{ImageFault, ReadFault};
 use kfs_judge::{AccessFault, EntryFault, Reason};
-use kfs_lease::LeaseFault;
+use kfs_lease::{LeaseFault, LeaseRowFault};
 use kfs_migrate::MoveFault;
 use kfs_mode::ClientFault;
 use kfs_plan::{Fault, RowFault};
 use kfs_program::EngineFault;
 use kfs_report::fault_line;
+use kfs_restore::{EncodeFault, RestoreFault};
 use kfs_shape::{Finding, ShapeFault};
 use kfs_test_support::refusing::Refusing;
 use kfs_workers::{SharedWant, Unreturned};
@@ -72,6 +73,33 @@ fn faults_of_calls(rt: HostRuntime) {
         (CallFault::BadCall(FieldFault::BadField(3)), "BadField(3)"),
         (CallFault::OutOfMemory, "memory"),
         (CallFault::DocketFull, "full"),
+    ];
+    assert!(rt; say(rt.alloc(), &faults));
+    let faults = [
+        (EncodeFault::TooMany, "TooMany"),
+        (EncodeFault::OutOfMemory, "memory"),
+    ];
+    assert!(rt; say(rt.alloc(), &faults));
+}
+
+#[test]
+fn faults_of_restored_desks(rt: HostRuntime) {
+    let finding = Finding { rule: 2, number: 1 };
+    let grant = ClientFault::BadGrant;
+    let faults = [
+        (RestoreFault::BadState(StateFault::BadHeader), "BadHeader"),
+        (
+            RestoreFault::BadImage(ImageFault::ImageTrailing),
+            "ImageTrailing",
+        ),
+        (RestoreFault::BrokenRule(finding), "finding 2 1"),
+        (RestoreFault::BadClient(3, grant), "BadClient(3,BadGrant)"),
+        (RestoreFault::BadLease(LeaseRowFault::Past(4)), "Past(4)"),
+        (
+            RestoreFault::BadClients(BeginFault::ClientTwice(1)),
+            "ClientTwice(1)",
+        ),
+        (RestoreFault::OutOfMemory, "memory"),
     ];
     assert!(rt; say(rt.alloc(), &faults));
 }

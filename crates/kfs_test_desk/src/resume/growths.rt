@@ -36,6 +36,36 @@ fn due(making: Making) -> &'static [Row] {
     }
 }
 
+fn of_rows<A: Allocator + Copy>(
+    alloc: A,
+    shape: &Shape<A>,
+    clients: &[Client],
+    rows: &[LeaseRow],
+) -> Result<Leases<A>, LeaseRowFault> {
+    Leases::from_rows(alloc, shape, clients, rows, MOMENT)
+}
+
+/// The leases of the rows that these list.
+fn of_their_rows<A: Allocator + Copy>(
+    alloc: A,
+    shape: &Shape<A>,
+    clients: &[Client],
+    given: &Leases<A>,
+) -> Result<Leases<A>, LeaseRowFault> {
+    let listed = given.rows()?;
+    of_rows(alloc, shape, clients, &listed)
+}
+
+fn of_clients<A: Allocator + Copy>(
+    given: &Leases<A>,
+    clients: &[Client],
+) -> Result<Leases<A>, LeaseRowFault> {
+    match given.of_clients(clients) {
+        Ok(left) => Ok(left),
+        Err(_) => Err(LeaseRowFault::OutOfMemory),
+    }
+}
+
 /// Makes leases; rows and given leases are `ROWS`.
 fn made<A: Allocator + Copy>(
     alloc: A,
@@ -46,12 +76,9 @@ fn made<A: Allocator + Copy>(
     making: Making,
 ) -> Result<Leases<A>, LeaseRowFault> {
     match making {
-        Making::Rows => Leases::from_rows(alloc, shape, clients, rows, MOMENT),
-        Making::Listed => {
-            let listed = given.rows()?;
-            Leases::from_rows(alloc, shape, clients, &listed, MOMENT)
-        }
-        Making::OfClient8 => Ok(given.of_clients(clients.get(1..2).unwrap_or(&[]))?),
+        Making::Rows => of_rows(alloc, shape, clients, rows),
+        Making::Listed => of_their_rows(alloc, shape, clients, given),
+        Making::OfClient8 => of_clients(given, clients.get(1..2).unwrap_or(&[])),
     }
 }
 
