@@ -46,6 +46,6 @@ returns g c =
     let none = subst (λ found. found ≡ None) (λ i. leases_refusal (clients i) (heads i) moment (rows i)) c.in_ok-leases.ensures.fit in
     let held = c.in_ok-leases.ensures.leases ∙ ap (leases_at moment) rows in
     let ends = c.desk_with.ensures in
-    last_tells s (raw_of c.args.raw) rules passed none c.args.limit (state_at c.in_ok-image.image c.in_ok-clients.clients.items c.in_ok-leases.leases) c.desk_with.result (λ i. state_at (image i) (items i) (held i)) ends.desk 
+    last_tells s (raw_of c.args.raw) rules passed none c.args.limit (state_at c.in_ok-image.image c.in_ok-clients.clients.items c.in_ok-leases.leases) c.desk_with.result (λ i. state_at (image i) (items i) (held i)) ends.desk
     (subst (λ (rows : List Client). IfOk c.desk_with.result (λ desk. begin_refusal rows ≡ None)) items ends.fit)
     (subst (λ (rows : List Client). IfErr c.desk_with.result (IsRefusedFor (begin_refusal rows))) items ends.err)
