@@ -133,6 +133,11 @@ pub answer_back : {A : Type 0} (submission : Submission A) (landed : Result (Lan
 answer_back submission (Ok l) r is = subst (λ a. IfErr a (λ back. back.submission ≡ submission)) (sym is) tt
 answer_back submission (Err why) r is = subst (λ a. IfErr a (λ back. back.submission ≡ submission)) (sym is) refl
 
+-- the rows of a pass before and after a turn that answers nothing
+pub own_same : {T E : Type 0} (o0 o1 o2 o3 : List ℕ) (r : Result T E) → o1 ≡ o0 → o3 ≡ o2 → OnErr r (o2 ≡ o1) → OnErr r (o3 ≡ o0)
+own_same o0 o1 o2 o3 (Ok t) own owns is = is
+own_same o0 o1 o2 o3 (Err e) own owns is = owns ∙ (is ∙ own)
+
 pub answer_same : {A : Type 0} (P : Type 0) (submission : Submission A) (landed : Result (Landed A) SharedWant) (r : Result Reply (SharedBack A)) → r ≡ answer_of submission landed → OnErr landed P → OnErr r P
 answer_same P submission (Ok l) r is told = subst (λ a. OnErr a P) (sym is) told
 answer_same P submission (Err why) r is told = subst (λ a. OnErr a P) (sym is) told

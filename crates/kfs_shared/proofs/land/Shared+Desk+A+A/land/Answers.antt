@@ -1,9 +1,10 @@
+use Rattle.std.proofs.Common.{◌≡◌}
 use Rattle.kfs_desk.specs.Beginning.{beginning_of}
 use Rattle.kfs_desk.specs.Docket.{position_of}
 use Rattle.kfs_shared.specs.Calls.{IsLanding, IsUnanswered}
 use Rattle.kfs_shared.specs.Passes.{started, seen, own, ended, seen_in, own_in}
 use Rattle.kfs_shared.specs.Sharing.{AddsRow}
-use Rattle.kfs_shared.proofs.Landed.{answer_back, answer_err, answer_ok, answer_same, answered_err, answered_ok}
+use Rattle.kfs_shared.proofs.Landed.{answer_back, answer_err, answer_ok, answer_same, answered_err, answered_ok, own_same}
 use Rattle.kfs_shared.proofs.land.Shared+Desk+A+A.land.Goals as goal
 
 pub returns-clause-ok : goal.returns-clause-ok
@@ -24,3 +25,10 @@ returns-clause-err g c =
     let last = c.end_turn.new.pass in
     answer_err (λ why. IsUnanswered b why first (seen last) (ended last)) c.args.judged.submission c.land-turn.result.1 c.answer_of.result c.answer_of.ensures
     (answered_err b first (seen_in c.in-Some.turn) (seen_in c.land-turn.result.0) (seen last) (ended last) (λ why. why) c.land-turn.result.1 c.in-Some.ensures.begins c.end_turn.ensures.seen c.land-turn.ensures.err)
+
+pub returns-clause-own : goal.returns-clause-own
+returns-clause-own g c =
+    let first = own c.args.pass.now in
+    let last = own c.end_turn.new.pass in
+    answer_same (last ≡ first) c.args.judged.submission c.land-turn.result.1 c.answer_of.result c.answer_of.ensures
+    (own_same first (own_in c.in-Some.turn) (own_in c.land-turn.result.0) last c.land-turn.result.1 c.in-Some.ensures.own c.end_turn.ensures.own c.land-turn.ensures.own)

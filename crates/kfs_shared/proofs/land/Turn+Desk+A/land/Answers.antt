@@ -1,4 +1,4 @@
-use Rattle.std.proofs.Common.{rules, Some, true, false, ap, refl, subst, sym, ◌∙◌}
+use Rattle.std.proofs.Common.{rules, Err, Some, true, false, ap, refl, subst, sym, ◌∙◌}
 use Rattle.kfs_desk.specs.Beginning.{beginning_of}
 use Rattle.kfs_shared.specs.Turns.Stages.{ticket}
 use Rattle.kfs_shared.specs.declared.turns.known.Stage.TheVariants.{Served}
@@ -36,5 +36,5 @@ returns-after-why-clause-err g c =
     elim c.match-why.branch [
       | in-OutOfMemory w ↦ subst (λ why. IsUnanswered b why rows rows false) (sym w.why-is) (starts_same rows rows refl)
       | in-DocketFull w ↦ subst (λ why. IsUnanswered b why rows rows false) (sym w.why-is)
-          (starts_same rows rows refl, full_in_turn b turn.seat.me.0.opening turn.object rows (search rules) turn.begun turn.whole (c.in-Err.ensures.full.0 w.in-DocketFull.is))
+          (starts_same rows rows refl, full_in_turn b turn.seat.me.0.opening turn.object rows (search rules) turn.begun turn.whole (c.in-Err.ensures.full.0 (ap Err w.in-DocketFull.is)))
     ]
