@@ -116,7 +116,7 @@ same_moves moves more k rest few fewer same =
     let other = joined (take k (map move_bytes more)) in
     let tails : number16 (length moves) ++ behind ≡ number16 (length more) ++ (other ++ rest) = ap (drop 1) same ∙ append_assoc (number16 (length more)) other rest in
     let both = counted_is (length moves, behind) (length more, other ++ rest)
-        (sym (number16_field.again (length moves) behind few) ∙ ap number16_read tails ∙ number16_field.again (length more) (other ++ rest) fewer) in
+    (sym (number16_field.again (length moves) behind few) ∙ ap number16_read tails ∙ number16_field.again (length more) (other ++ rest) fewer) in
     ap (λ (x : ℕ × List ℕ). x.0) both
 
 two_fields : (call : Call) → 2 ≤ length (call_fields call)

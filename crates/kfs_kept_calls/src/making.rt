@@ -31,7 +31,9 @@ pub fn room_for(calls: &[&[u8]]) -> Option<usize>
 {
     let mut total = 0usize;
     for bytes in calls {
-        total = total.saturating_add(bytes.len()).saturating_add(BESIDE_CALL);
+        total = total
+            .saturating_add(bytes.len())
+            .saturating_add(BESIDE_CALL);
         if total > MAX_GROUP {
             return None;
         }

@@ -35,7 +35,9 @@ fn reply_words(reply: Reply) -> Told
     match reply {
         Reply::Yes { rejudged, need, .. } => Told::Yes { rejudged, need },
         Reply::No {
-            rejudged, fault, ..
+            rejudged,
+            fault,
+            ..
         } => Told::No {
             rejudged,
             fault: fault_numbers(fault),
