@@ -1,0 +1,5 @@
+-- Lemmas on calls that are kept.
+pub mod GroupLaws
+pub mod Answering
+pub mod OneMore
+pub mod OneCall

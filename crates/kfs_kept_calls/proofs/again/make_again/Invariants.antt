@@ -1,0 +1,16 @@
+-- The calls in front of the rest are made.
+use Rattle.std.proofs.Common.{◌≡◌, List, ◌++◌, length}
+use Rattle.kfs_model.specs.Spelling.{IsBytes}
+use Rattle.kfs_kept_calls.specs.Group.{CallAndAnswer, IsGroup, group_bytes}
+use Rattle.kfs_kept_calls.specs.Leads.{LeadOn}
+use Rattle.kfs_kept_calls.proofs.again.make_again.Given as goal
+
+abbrev pub invariant-calls : goal.invariant-calls
+invariant-calls g l = record {
+  led : (done : List CallAndAnswer) × IsGroup done × (l.group ≡ group_bytes done ++ l.rest) × LeadOn l.initial.desk.state done l.desk.state;
+  opening : l.desk.opening ≡ l.initial.desk.opening;
+  bytes : IsBytes l.rest;
+}
+
+abbrev pub decreases-calls : goal.decreases-calls
+decreases-calls g l = length l.rest

@@ -1,0 +1,4 @@
+pub mod Group
+pub mod Told
+pub mod Leads
+pub mod Making
