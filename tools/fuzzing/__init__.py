@@ -5,6 +5,7 @@
     plans    what a log makes of each byte; right plans, the first wrong row of others, and written blocks
     images   the ten rules of an image, and its one spelling
     desk     a session: each line's reply
+    calls    calls of a desk as bytes, a session that is asked by them, and such calls from a seed
     words    what `fsck` and `show` write of an image
     scripts  lines made from a seed, right and wrong ones
     cases    what the program is given, and what is due

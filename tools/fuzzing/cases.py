@@ -4,10 +4,13 @@ import os
 from typing import NamedTuple
 
 from . import words
+from .calls import CallMaker, CallSession
 from .desk import LongLine, Session, Unknown
 from .scripts import Maker
 
 LINE_TOO_LONG = 3
+# The words whose inputs are sessions.
+SESSIONS = {"run": Session, "calls": CallSession}
 
 
 class Found(NamedTuple):
@@ -34,7 +37,7 @@ class Case(NamedTuple):
 
     def count(self):
         """How many commands it has."""
-        return len(self.lines()) if self.word == "run" else 1
+        return len(self.lines()) if self.word in SESSIONS else 1
 
     def length_due(self):
         """About how many bytes the replies have."""
@@ -53,7 +56,7 @@ class Case(NamedTuple):
             return difference_of_texts(self, output, status)
         if self.likely == output and status == 0:
             return None
-        return difference_of_session(self.lines(), output.split(b"\n")[:-1], status)
+        return difference_of_session(self.lines(), output.split(b"\n")[:-1], status, SESSIONS[self.word]())
 
 
 def difference_of_texts(case, output, status):
@@ -62,8 +65,7 @@ def difference_of_texts(case, output, status):
     return Found(0, case.text, b"status %d: %s" % (case.due[1], case.due[0]), b"status %d: %s" % (status, output))
 
 
-def difference_of_session(lines, replies, status):
-    session = Session()
+def difference_of_session(lines, replies, status, session):
     for index, line in enumerate(lines):
         reply = replies[index] if index < len(replies) else b"(no reply)"
         try:
@@ -91,6 +93,12 @@ def session(name, lines, likely=None):
 def made_session(seed, lines, without):
     maker = Maker(seed, without)
     return session(seed, maker.script(lines), maker.replies)
+
+
+def made_calls(seed, lines):
+    """Returns a session whose calls are bytes, which the program of `tools/fuzz --calls` reads."""
+    maker = CallMaker(seed)
+    return Case(seed, "calls", text_with_ends(maker.script(lines)), None, text_with_ends(maker.replies))
 
 
 def image_cases(name, text):

@@ -62,6 +62,36 @@ class Words:
         if self.words:
             raise BadLine
 
+    # Each of these reads the words that are left, of a call.
+
+    def lease(self):
+        client, path, kind, end = self.number(), self.word(), self.word(), self.number(U64)
+        self.end()
+        if kind not in (b"r", b"w"):
+            raise BadLine
+        return client, path, kind.decode(), end
+
+    def drop(self):
+        client, number = self.numbers(U32, U32)
+        self.end()
+        return client, number
+
+    def tick(self):
+        moment = self.number(U64)
+        self.end()
+        return (moment,)
+
+    def submission(self):
+        client, log, plan = self.number(), self.bytes(), self.bytes()
+        self.end()
+        return client, log, plan
+
+    def moves(self):
+        moves = [tuple(self.numbers(U32, U32, 255, U32))]
+        while self.words:
+            moves.append(tuple(self.numbers(U32, U32, 255, U32)))
+        return (moves,)
+
 
 def hex_of(data):
     return data.hex() or "-"
@@ -206,36 +236,32 @@ class Session:
         return call(self.clients[number]) if number in self.clients else "refused UnknownClient"
 
     def lease(self, words):
-        number, path, kind, end = words.number(), words.word(), words.word(), words.number(U64)
-        words.end()
-        if kind not in (b"r", b"w"):
-            raise BadLine
-        return self.in_row(lambda: self.on_client(number, lambda client: self.leases.grant(self.tree, client, path, kind.decode(), end)))
+        return self.ask_lease(*words.lease())
+
+    def ask_lease(self, number, path, kind, end):
+        return self.in_row(lambda: self.on_client(number, lambda client: self.leases.grant(self.tree, client, path, kind, end)))
 
     def drop(self, words):
-        number, node = words.numbers(U32, U32)
-        words.end()
+        return self.give_up(*words.drop())
+
+    def give_up(self, number, node):
         return self.in_row(lambda: self.on_client(number, lambda client: self.leases.drop(number, node)))
 
     def tick(self, words):
-        moment = words.number(U64)
-        words.end()
+        return self.go_on(*words.tick())
+
+    def go_on(self, moment):
         return self.in_row(lambda: self.leases.tick(moment))
 
-    def submission(self, words):
-        number, log, plan = words.number(), words.bytes(), words.bytes()
-        words.end()
-        return number, log, plan
-
     def submit(self, words):
-        submission = self.submission(words)
-        if self.docket == self.limit:
-            return "full"
-        return self.in_row(lambda: self.landed(Verdict(self, *submission), 0))
+        return self.hand_in(*words.submission())
+
+    def hand_in(self, number, log, plan):
+        return self.in_row(lambda: self.landed(Verdict(self, number, log, plan), 0))
 
     def judge(self, words):
         worker = words.number(LAST_WORKER)
-        submission = self.submission(words)
+        submission = words.submission()
         if worker in self.hands:
             raise BadLine
         self.hands[worker] = Verdict(self, *submission)
@@ -271,9 +297,9 @@ class Session:
         return f"yes rejudged={rejudged} need={verdict.need}"
 
     def move(self, words):
-        moves = [tuple(words.numbers(U32, U32, 255, U32))]
-        while words.words:
-            moves.append(tuple(words.numbers(U32, U32, 255, U32)))
+        return self.move_blocks(*words.moves())
+
+    def move_blocks(self, moves):
         return self.in_row(lambda: self.moved(moves))
 
     def moved(self, moves):
