@@ -59,7 +59,7 @@ const WRONG: &[ClientLine] = &[(7, 2, 99), (7, 0, 9)];
 const STRANGE: &[LeaseLine] = &[(1, 7, 0, 6), (1, 9, 0, 6)];
 
 /// A state and why it makes no desk.
-fn case(
+fn new_case(
     clients: &'static [ClientLine],
     leases: &'static [LeaseLine],
     edit: Edit,
@@ -80,12 +80,12 @@ fn case_of(number: usize) -> Option<Case> {
     let row = RestoreFault::BadImage(ImageFault::BadImageRow(0));
     let trailing = RestoreFault::BadImage(ImageFault::ImageTrailing);
     Some(match number {
-        0 => case(RIGHT, &[(1, 7, 0, 6), (1, 8, 0, 7)], Edit::None, None),
-        1 => case(&[], &[], Edit::None, None),
-        2 => case(WRONG, STRANGE, Edit::Set(4, 3), Some(header)),
-        3 => case(WRONG, STRANGE, Edit::Cut, Some(row)),
-        4 => case(WRONG, STRANGE, Edit::Longer, Some(trailing)),
-        5 => case(WRONG, STRANGE, Edit::Set(NODE + 3, 2), Some(no_root)),
+        0 => new_case(RIGHT, &[(1, 7, 0, 6), (1, 8, 0, 7)], Edit::None, None),
+        1 => new_case(&[], &[], Edit::None, None),
+        2 => new_case(WRONG, STRANGE, Edit::Set(4, 3), Some(header)),
+        3 => new_case(WRONG, STRANGE, Edit::Cut, Some(row)),
+        4 => new_case(WRONG, STRANGE, Edit::Longer, Some(trailing)),
+        5 => new_case(WRONG, STRANGE, Edit::Set(NODE + 3, 2), Some(no_root)),
         6 => bad_client(WRONG, STRANGE, 1),
         7 => bad_client(&[(7, 2, 65_537)], STRANGE, 0),
         8 => bad_lease(RIGHT, STRANGE, LeaseRowFault::UnknownClient(1)),
@@ -120,7 +120,7 @@ fn case_of(number: usize) -> Option<Case> {
 /// The client with this index has a grant that none may have.
 fn bad_client(clients: &'static [ClientLine], leases: &'static [LeaseLine], index: usize) -> Case {
     let told = RestoreFault::BadClient(index, ClientFault::BadGrant);
-    case(clients, leases, Edit::None, Some(told))
+    new_case(clients, leases, Edit::None, Some(told))
 }
 
 fn bad_lease(
@@ -128,7 +128,7 @@ fn bad_lease(
     leases: &'static [LeaseLine],
     fault: LeaseRowFault,
 ) -> Case {
-    case(
+    new_case(
         clients,
         leases,
         Edit::None,
@@ -137,7 +137,7 @@ fn bad_lease(
 }
 
 fn bad_clients(clients: &'static [ClientLine], fault: BeginFault) -> Case {
-    case(
+    new_case(
         clients,
         &[],
         Edit::None,
