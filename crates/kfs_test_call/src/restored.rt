@@ -187,11 +187,16 @@ fn push_image(out: &mut Vec<u8, Global>, edit: Edit) -> Result<(), AllocError> {
     Ok(())
 }
 
+/// A count as a state has it. The rows of a case are few.
+fn count(rows: usize) -> [u8; 4] {
+    u32::try_from(rows).unwrap_or(u32::MAX).to_be_bytes()
+}
+
 /// The bytes of a state whose moment is 5.
 fn state(alloc: Global, case: &Case) -> Result<Vec<u8>, AllocError> {
     let mut out = Vec::from_slice(alloc, b"KDSK\x01\0\0\0\0\0\0\0\x05")?;
-    out.extend_from_slice(&(case.clients.len() as u32).to_be_bytes())?;
-    out.extend_from_slice(&(case.leases.len() as u32).to_be_bytes())?;
+    out.extend_from_slice(&count(case.clients.len()))?;
+    out.extend_from_slice(&count(case.leases.len()))?;
     push_clients(&mut out, case.clients)?;
     push_leases(&mut out, case.leases)?;
     push_image(&mut out, case.edit)?;

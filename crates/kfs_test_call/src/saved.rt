@@ -161,12 +161,12 @@ fn goes_on(rt: &(impl Threads + AllocGlobal + Sync), saved_after: usize) -> Opti
 /// Whether the run has the answers that it is made for: two landings with a block each, and calls refused.
 fn is_run_as_told(alloc: Global) -> Option<bool> {
     let mut desk = opened(alloc)?;
-    let mut landed = 0;
-    let mut refused = 0;
+    let mut landed = 0u32;
+    let mut refused = 0u32;
     for step in RUN {
         match answered(&mut desk, step)? {
-            Called::Submitted(Reply::Yes { need: 1, .. }) => landed += 1,
-            Called::Acted(reply) if reply.answer.is_err() => refused += 1,
+            Called::Submitted(Reply::Yes { need: 1, .. }) => landed = landed.saturating_add(1),
+            Called::Acted(reply) if reply.answer.is_err() => refused = refused.saturating_add(1),
             _ => (),
         }
     }
