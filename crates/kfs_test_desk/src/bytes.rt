@@ -5,7 +5,7 @@ use kfs_desk::{Desk, Reply};
 use kfs_image::{ReadFault, read_file};
 use kfs_plan::Submission;
 use kfs_test_support::vectors::{EDITS_LOG, EDITS_PLAN, LETTERS_LOG, LETTERS_PLAN};
-use std::alloc::{AllocError, Allocator, Global};
+use std::alloc::{AllocError, Global};
 
 /// What is in a buffer before a read.
 const UNREAD: u8 = 7;
@@ -39,7 +39,7 @@ fn shows(desk: &Desk<Global>, shown: &Shown<'_>) -> bool {
 
 /// A desk with this many blocks on tier 0, and with the empty file 5, on which client 7 holds a write
 /// lease. The docket's next row is row 3.
-pub fn desk_with_file<A: Allocator + Copy>(alloc: A, blocks: u32) -> Option<Desk<A>> {
+pub fn desk_with_file(alloc: Global, blocks: u32) -> Option<Desk<Global>> {
     let mut desk = opening_over(alloc, blocks, 100)?;
     let create = create(alloc).ok()?;
     if is_accepted(&mut desk, create, 1) && is_leased(&mut desk, b"/a", 5, 2) {

@@ -1,6 +1,6 @@
 //! Calls of the desk and of the image, each in a function without clauses.
 
-use kfs_desk::{Act, ActReply, Desk, Done, Reply, Unanswered};
+use kfs_desk::{Act, ActReply, Desk, Done, Reply};
 use kfs_image::{Answer, Cell, Header, Image, Kind, Name, Shape, TierSizes, look};
 use kfs_lease::LeaseKind;
 use kfs_mode::{Client, ClientFault};
@@ -11,45 +11,17 @@ use std::alloc::{AllocError, Allocator};
 /// More allocations than anything here asks for.
 pub const AMPLE: u64 = 1 << 40;
 
-/// A client of uid and gid 1000 and the further group 50, with the numbers 2 to `last`.
+/// A client of uid and gid 1000 with the numbers 2 to `last`.
 pub fn client(number: u32, last: u32) -> Result<Client, ClientFault> {
-    Client::new(number, 1000, 1000, &[50], false, 2, last)
+    Client::new(number, 1000, 1000, &[], false, 2, last)
 }
 
-/// Client 7, as all desks here have it.
-pub fn client_7() -> Option<Client> {
-    client(7, 65_536).ok()
-}
-
-/// A desk with a new image that has this many blocks on tier 0 and eight on each other one, and with
-/// these clients. The docket takes `limit` rows.
-pub fn begun_for<A: Allocator + Copy>(
-    alloc: A,
-    clients: Vec<Client, A>,
-    blocks: u32,
-    limit: u32,
-) -> Option<Desk<A>> {
+/// A desk with a new image that has this many blocks on tier 0, and with client 7, whose numbers begin
+/// at 2.
+fn begun<A: Allocator + Copy>(alloc: A, blocks: u32, limit: u32) -> Option<Desk<A>> {
     let image = Image::fresh(alloc, TierSizes::new(blocks, 8, 8)?).ok()?;
+    let clients = vec![in alloc; client(7, 65_536).ok()?].ok()?;
     Desk::begin(alloc, image, clients, limit).ok()
-}
-
-/// The same with client 7.
-pub fn begun<A: Allocator + Copy>(alloc: A, blocks: u32, limit: u32) -> Option<Desk<A>> {
-    let clients = vec![in alloc; client_7()?].ok()?;
-    begun_for(alloc, clients, blocks, limit)
-}
-
-/// What the desk answers where client 7 asks for a write lease on the node at the path.
-pub fn lease<A: Allocator + Copy>(desk: &mut Desk<A>, path: &[u8]) -> Result<ActReply, Unanswered> {
-    desk.lease(7, path, LeaseKind::Write, 100)
-}
-
-/// Whether client 7 is granted that lease, in any row of the docket.
-pub fn is_granted<A: Allocator + Copy>(desk: &mut Desk<A>, path: &[u8]) -> bool {
-    match lease(desk, path) {
-        Ok(reply) => reply.answer.is_ok(),
-        Err(_) => false,
-    }
 }
 
 /// Whether both are the same.
@@ -57,7 +29,8 @@ fn is_reply(reply: &ActReply, wanted: &ActReply) -> bool {
     reply == wanted
 }
 
-/// Whether client 7 is granted that lease, on the node with this number and in this row of the docket.
+/// Whether client 7 is granted a write lease on the node with this number at the path, in this row of
+/// the docket.
 pub fn is_leased<A: Allocator + Copy>(
     desk: &mut Desk<A>,
     path: &[u8],
@@ -77,7 +50,7 @@ pub fn is_leased<A: Allocator + Copy>(
     }
 }
 
-/// Such a desk with eight blocks on tier 0 and a docket of at most `limit` rows. Client 7 holds a write lease on the
+/// Such a desk with 8 blocks and a docket of at most `limit` rows. Client 7 holds a write lease on the
 /// root, which is row 0.
 pub fn opening<A: Allocator + Copy>(alloc: A, limit: u32) -> Option<Desk<A>> {
     opening_over(alloc, 8, limit)

@@ -7,6 +7,6 @@ mod answers;
 #[cfg(test)]
 mod growths;
 #[cfg(test)]
-pub mod moving;
+mod moving;
 #[cfg(test)]
 mod scripts;

@@ -1,8 +1,7 @@
 //! Scripts of workers: steps at their place and out of place, with calls between them, and scripts with
 //! each allocation failing in turn.
 
-use crate::desks::{FILE, NO_FILE, Shown, opening, shows, submission, yes};
-use crate::growths::growths;
+use crate::desks::{AMPLE, FILE, NO_FILE, Shown, opening, shows, submission, yes};
 use kfs_desk::{Act, Desk, Reply};
 use kfs_judge::{EntryFault, Reason};
 use kfs_lease::LeaseKind;
@@ -11,6 +10,9 @@ use kfs_test_support::refusing::Refusing;
 use kfs_test_support::vectors::{CREATE_LOG, CREATE_PLAN};
 use kfs_workers_script::{ScriptBack, ScriptEnd, Step, run_script};
 use std::alloc::{Allocator, Global};
+
+/// More allocations than a script asks for.
+const MANY: u64 = 400;
 
 /// This many submissions of the Create of file 5.
 fn creates<A: Allocator + Copy>(alloc: A, count: usize) -> Option<Vec<Submission<A>, A>> {
@@ -221,8 +223,31 @@ fn script_with_one_refused(heap: &Refusing<Global>, growth: u64) -> Option<bool>
     script_from(heap, heap, desk, creates, growth)
 }
 
+/// The same with a heap of its own.
+fn script_on_a_heap(alloc: Global, growth: u64) -> Option<bool> {
+    let heap = Refusing::new(alloc, AMPLE);
+    script_with_one_refused(&heap, growth)
+}
+
+/// How many allocations the script asks for, each refused in turn; or as an error the index of one at which
+/// the outcome is wrong.
+fn growths(alloc: Global) -> Result<u64, u64> {
+    for growth in 0..MANY {
+        match script_on_a_heap(alloc, growth) {
+            Some(true) => {}
+            Some(false) => return Ok(growth),
+            None => return Err(growth),
+        }
+    }
+    Err(MANY)
+}
+
 #[test]
 fn each_growth_of_a_script_refused(rt: HostRuntime) {
-    let count = growths(rt.alloc(), script_with_one_refused);
-    assert!(rt; matches!(count, Ok(6..)), "{count:?}");
+    let count = growths(rt.alloc());
+    let is_right = match count {
+        Ok(count) => 5 < count,
+        Err(_) => false,
+    };
+    assert!(rt; is_right, "{count:?}");
 }

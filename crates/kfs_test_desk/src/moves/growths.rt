@@ -1,10 +1,12 @@
 //! Moves with each allocation failing in turn.
 
-use crate::growths::growths;
-use crate::moves::moving::{are_free, have_bytes, is_migrated, lie_at, to, two_files};
+use crate::moves::moving::{AMPLE, are_free, have_bytes, is_migrated, lie_at, to, two_files};
 use kfs_desk::{Desk, Move, Unanswered};
 use kfs_test_support::refusing::Refusing;
 use std::alloc::{Allocator, Global};
+
+/// More allocations than moves ask for.
+const MANY: u64 = 200;
 
 /// Whether nothing has changed, and no row was added.
 fn is_unchanged<A: Allocator + Copy>(desk: &Desk<A>) -> bool {
@@ -47,8 +49,26 @@ fn moves_with_one_refused(heap: &Refusing<Global>, growth: u64) -> Option<bool> 
     is_right.then_some(was_refused)
 }
 
+/// How many allocations the moves ask for, each refused in turn; or as an error the index of one at which
+/// the outcome is wrong.
+fn growths(alloc: Global) -> Result<u64, u64> {
+    for growth in 0..MANY {
+        let heap = Refusing::new(alloc, AMPLE);
+        match moves_with_one_refused(&heap, growth) {
+            Some(true) => {}
+            Some(false) => return Ok(growth),
+            None => return Err(growth),
+        }
+    }
+    Err(MANY)
+}
+
 #[test]
 fn each_growth_of_moves_refused(rt: HostRuntime) {
-    let count = growths(rt.alloc(), moves_with_one_refused);
-    assert!(rt; matches!(count, Ok(4..)), "{count:?}");
+    let count = growths(rt.alloc());
+    let is_right = match count {
+        Ok(count) => 3 < count,
+        Err(_) => false,
+    };
+    assert!(rt; is_right, "{count:?}");
 }

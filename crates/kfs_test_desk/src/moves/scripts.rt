@@ -1,7 +1,6 @@
 //! Scripts with moves between looks, judgements and landings.
 
-use crate::desks::landed;
-use crate::moves::moving::{have_bytes, lie_at, to, two_files, write};
+use crate::moves::moving::{have_bytes, lie_at, to, two_files, write, yes};
 use kfs_desk::{Desk, Move};
 use kfs_plan::Submission;
 use kfs_workers_script::{ScriptEnd, Step, run_script};
@@ -41,7 +40,7 @@ fn run_over(
 
 /// Whether both Writes were landed as they were judged, beside the rows of the moves.
 fn is_right(end: &ScriptEnd<Global>) -> bool {
-    end.replies.as_slice() == [Some(landed(4, 1)), Some(landed(6, 1))].as_slice()
+    end.replies.as_slice() == [Some(yes(4, 1)), Some(yes(6, 1))].as_slice()
         && end.desk.docket().len() == 7
         && have_bytes(&end.desk, b"ONE", b"two")
         && end.desk.image().place_of(6, 0) == Some((1, 0))

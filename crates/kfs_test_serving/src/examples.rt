@@ -1,6 +1,5 @@
 //! An example of each public type of `kfs_judge`, `kfs_plan` and `kfs_desk`: how it comes about, and what it holds.
 
-use crate::desks::{AMPLE, begun, client, lease, opening, submission};
 use kfs_desk::{
     Act, ActFault, ActReply, Back, BeginBack, BeginFault, Desk, Done, Reply, SubmissionsBack,
     Unanswered, Why,
@@ -10,12 +9,45 @@ use kfs_image::{Answer, Cell, Image, TierSizes};
 use kfs_judge::{
     EntryFault, FileSize, Keeping, Net, Read, ReadAnswer, Reason, View, Walk, judge_entries_keeping,
 };
-use kfs_lease::LeaseFault;
-use kfs_mode::Client;
+use kfs_lease::{LeaseFault, LeaseKind};
+use kfs_mode::{Client, ClientFault};
 use kfs_plan::{Fault, Judged, Outcome, RowFault, Submission, judge, judge_bytes};
 use kfs_test_support::refusing::Refusing;
 use kfs_test_support::vectors::{CREATE_LOG, CREATE_PLAN, EMPTY_PLAN};
 use std::alloc::{Allocator, Global};
+
+/// A client of uid and gid 1000 that may give the numbers from `first` to `last` to new nodes.
+fn client(number: u32, first: u32, last: u32) -> Result<Client, ClientFault> {
+    Client::new(number, 1_000, 1_000, &[], false, first, last)
+}
+
+/// A desk of client 7 on a new image, whose docket takes `limit` rows.
+fn begun<A: Allocator + Copy>(alloc: A, limit: u32) -> Option<Desk<A>> {
+    let image = Image::fresh(alloc, TierSizes::new(8, 8, 8)?).ok()?;
+    let clients = vec![in alloc; client(7, 2, 99).ok()?].ok()?;
+    Desk::begin(alloc, image, clients, limit).ok()
+}
+
+/// What the desk answers where client 7 asks for a write lease on the root.
+fn lease<A: Allocator + Copy>(desk: &mut Desk<A>) -> Result<ActReply, Unanswered> {
+    desk.lease(7, b"/", LeaseKind::Write, 100)
+}
+
+/// Such a desk, of which client 7 holds the root: row 0.
+pub fn opened<A: Allocator + Copy>(alloc: A, limit: u32) -> Option<Desk<A>> {
+    let mut desk = begun(alloc, limit)?;
+    lease(&mut desk).ok()?.answer.ok()?;
+    Some(desk)
+}
+
+/// What client 7 hands in.
+pub fn submission<A: Allocator + Copy>(alloc: A, log: &[u8], plan: &[u8]) -> Option<Submission<A>> {
+    Some(Submission {
+        client: 7,
+        log: Vec::from_slice(alloc, log).ok()?,
+        plan: Vec::from_slice(alloc, plan).ok()?,
+    })
+}
 
 // ---- views, and what a walk over a log's entries finds
 
@@ -41,15 +73,14 @@ fn walk(
     judge_entries_keeping(alloc, view, log, keeping).ok()
 }
 
-/// The walk over the entries of this log, over a view of the desk.
-fn walked(
-    alloc: Global,
-    desk: Option<Desk<Global>>,
-    bytes: &[u8],
-    keeping: Keeping,
-) -> Option<Walk<Global>> {
-    let view = view(&desk?)?;
-    walk(alloc, &view, &log(alloc, bytes)?, keeping)
+fn walked(alloc: Global, desk: &Desk<Global>, bytes: &[u8]) -> Option<Walk<Global>> {
+    let log = log(alloc, bytes)?;
+    walk(alloc, &view(desk)?, &log, Keeping::Reads)
+}
+
+fn walked_unread(alloc: Global, desk: &Desk<Global>, bytes: &[u8]) -> Option<Walk<Global>> {
+    let log = log(alloc, bytes)?;
+    walk(alloc, &view(desk)?, &log, Keeping::Nothing)
 }
 
 /// What was read of the cell, or none where it wasn't looked at.
@@ -75,8 +106,7 @@ fn size(walk: &Walk<Global>) -> Option<FileSize> {
 
 #[test]
 fn a_walk_and_what_it_read(rt: HostRuntime) {
-    let desk = opening(rt.alloc(), 9);
-    let walk = walked(rt.alloc(), desk, CREATE_LOG, Keeping::Reads);
+    let walk = opened(rt.alloc(), 9).and_then(|desk| walked(rt.alloc(), &desk, CREATE_LOG));
     assert!(rt; walk.is_some());
     if let Some(walk) = walk {
         assert!(rt; outcome(&walk) == Ok((1, 1)));
@@ -95,8 +125,7 @@ fn a_walk_and_what_it_read(rt: HostRuntime) {
 
 #[test]
 fn a_walk_that_keeps_no_read(rt: HostRuntime) {
-    let desk = opening(rt.alloc(), 9);
-    let walk = walked(rt.alloc(), desk, CREATE_LOG, Keeping::Nothing);
+    let walk = opened(rt.alloc(), 9).and_then(|desk| walked_unread(rt.alloc(), &desk, CREATE_LOG));
     assert!(rt; walk.is_some());
     if let Some(walk) = walk {
         assert!(rt; outcome(&walk) == Ok((1, 1)));
@@ -107,8 +136,7 @@ fn a_walk_that_keeps_no_read(rt: HostRuntime) {
 
 #[test]
 fn a_walk_that_stops_at_an_entry(rt: HostRuntime) {
-    let desk = begun(rt.alloc(), 8, 9);
-    let walk = walked(rt.alloc(), desk, CREATE_LOG, Keeping::Reads);
+    let walk = begun(rt.alloc(), 9).and_then(|desk| walked(rt.alloc(), &desk, CREATE_LOG));
     let fault = EntryFault {
         index: 0,
         reason: Reason::NoLease(1),
@@ -124,7 +152,7 @@ fn a_walk_that_stops_at_an_entry(rt: HostRuntime) {
 
 /// The verdict on a submission in the state of now.
 fn judged(alloc: Global, desk: &Desk<Global>, log: &[u8], plan: &[u8]) -> Option<Judged<Global>> {
-    judge(alloc, &view(desk)?, submission(alloc, log, plan).ok()?).ok()
+    judge(alloc, &view(desk)?, submission(alloc, log, plan)?).ok()
 }
 
 /// How many names and headers a Yes changes and how many blocks it writes, or why the verdict is a No.
@@ -144,7 +172,7 @@ fn verdict_on(
     log: &[u8],
     plan: &[u8],
 ) -> Option<Result<(usize, usize, u64), Fault>> {
-    let desk = opening(alloc, 9)?;
+    let desk = opened(alloc, 9)?;
     let judged = judged(alloc, &desk, log, plan)?;
     Some(verdict(judged.outcome()))
 }
@@ -155,7 +183,7 @@ fn verdict_on_bytes(
     log: &[u8],
     plan: &[u8],
 ) -> Option<Result<(usize, usize, u64), Fault>> {
-    let view = view(&opening(alloc, 9)?)?;
+    let view = view(&opened(alloc, 9)?)?;
     let outcome = judge_bytes(alloc, &view, 7, log, plan).ok()?;
     Some(verdict(&outcome))
 }
@@ -180,7 +208,7 @@ fn verdicts_on_bytes(rt: HostRuntime) {
 
 // ---- the desk's answers
 
-fn submit<A: Allocator + Copy>(
+pub fn submit<A: Allocator + Copy>(
     desk: &mut Desk<A>,
     submission: Submission<A>,
 ) -> Result<Reply, Back<A>> {
@@ -189,8 +217,8 @@ fn submit<A: Allocator + Copy>(
 
 /// What a desk with a docket of `limit` rows answers to the Create of file 5, or why it comes back.
 fn created(alloc: Global, limit: u32) -> Option<Result<Reply, Why>> {
-    let mut desk = opening(alloc, limit)?;
-    let submission = submission(alloc, CREATE_LOG, CREATE_PLAN).ok()?;
+    let mut desk = opened(alloc, limit)?;
+    let submission = submission(alloc, CREATE_LOG, CREATE_PLAN)?;
     match submit(&mut desk, submission) {
         Ok(reply) => Some(Ok(reply)),
         // the submission is as it was handed in
@@ -212,7 +240,7 @@ fn a_reply_and_a_submission_that_comes_back(rt: HostRuntime) {
 
 /// What such a desk answers to the same bytes, where they lie.
 fn created_of_bytes(alloc: Global, limit: u32) -> Option<Result<Reply, Why>> {
-    let mut desk = opening(alloc, limit)?;
+    let mut desk = opened(alloc, limit)?;
     Some(desk.submit_bytes(7, CREATE_LOG, CREATE_PLAN))
 }
 
@@ -237,14 +265,14 @@ fn docket_len(desk: &Desk<Global>) -> u32 {
 
 #[test]
 fn answers_to_calls_for_leases(rt: HostRuntime) {
-    let desk = begun(rt.alloc(), 8, 2);
+    let desk = begun(rt.alloc(), 2);
     assert!(rt; desk.is_some());
     if let Some(mut desk) = desk {
         let leased = ActReply {
             position: 0,
             answer: Ok(Done::Leased(1)),
         };
-        assert!(rt; lease(&mut desk, b"/") == Ok(leased));
+        assert!(rt; lease(&mut desk) == Ok(leased));
         let refused = ActReply {
             position: 1,
             answer: Err(ActFault::Lease(LeaseFault::NoLeaseHeld)),
@@ -270,7 +298,7 @@ fn begin(
 /// Why no desk is begun with two clients of one number, and how many clients come back with the image.
 fn begun_with_a_client_twice(alloc: Global) -> Option<(BeginFault, usize)> {
     let image = Image::fresh(alloc, TierSizes::new(8, 8, 8)?).ok()?;
-    let clients = vec![in alloc; client(7, 99).ok()?, client(7, 1).ok()?].ok()?;
+    let clients = vec![in alloc; client(7, 2, 99).ok()?, client(7, 100, 199).ok()?].ok()?;
     match begin(alloc, image, clients) {
         Ok(_) => None,
         Err(back) => Some((back.why, back.clients.len())),
@@ -299,10 +327,10 @@ fn reply(answer: &Result<Reply, Back<Global>>) -> Result<Reply, Why> {
 
 /// What a desk with a docket of three rows answers to the Create of file 5, handed in three times at once.
 fn created_three_times(alloc: Global) -> Option<[Result<Reply, Why>; 3]> {
-    let mut desk = opening(alloc, 3)?;
+    let mut desk = opened(alloc, 3)?;
     let mut submissions = Vec::new(alloc);
     for _ in 0..3 {
-        let create = submission(alloc, CREATE_LOG, CREATE_PLAN).ok()?;
+        let create = submission(alloc, CREATE_LOG, CREATE_PLAN)?;
         submissions.push(create).ok()?;
     }
     let answers = submit_all(&mut desk, submissions).ok()?;
@@ -333,9 +361,9 @@ fn submissions_one_after_another(rt: HostRuntime) {
 
 /// How many submissions come back where the desk finds no room for their answers.
 fn sent_back(alloc: Global) -> Option<usize> {
-    let heap = Refusing::new(alloc, AMPLE);
-    let mut desk = opening(&heap, 9)?;
-    let submissions = vec![in &heap; submission(&heap, CREATE_LOG, CREATE_PLAN).ok()?].ok()?;
+    let heap = Refusing::new(alloc, 1 << 40);
+    let mut desk = opened(&heap, 9)?;
+    let submissions = vec![in &heap; submission(&heap, CREATE_LOG, CREATE_PLAN)?].ok()?;
     heap.refuse_after(0);
     match submit_all(&mut desk, submissions) {
         Ok(_) => None,

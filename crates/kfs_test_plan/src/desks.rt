@@ -1,11 +1,24 @@
 //! Desks of client 7, and plans that are made for its logs.
 
-use crate::desks::{begun, client_7, is_granted};
 use kfs_desk::{Desk, Reply};
+use kfs_image::{Image, TierSizes};
+use kfs_lease::LeaseKind;
 use kfs_mode::Client;
 use kfs_plan::Submission;
 use kfs_plan_maker::make_plan;
-use std::alloc::{AllocError, Allocator, Global};
+use std::alloc::{AllocError, Allocator};
+
+/// Client 7, of uid and gid 1000 and the further group 50. It may give the numbers 2 to 99 to new nodes.
+pub fn client() -> Option<Client> {
+    Client::new(7, 1_000, 1_000, &[50], false, 2, 99).ok()
+}
+
+/// A desk on a new image, with eight blocks on each tier.
+pub fn opened<A: Allocator + Copy>(alloc: A) -> Option<Desk<A>> {
+    let image = Image::fresh(alloc, TierSizes::new(8, 8, 8)?).ok()?;
+    let clients = vec![in alloc; client()?].ok()?;
+    Desk::begin(alloc, image, clients, 100).ok()
+}
 
 /// The plan of a log over the desk's image.
 pub fn planned<A: Allocator + Copy>(
@@ -26,12 +39,19 @@ pub enum Step<'a> {
     Land(&'a [u8], u64),
 }
 
+fn is_leased<A: Allocator + Copy>(desk: &mut Desk<A>, path: &[u8]) -> bool {
+    match desk.lease(7, path, LeaseKind::Write, 100) {
+        Ok(reply) => reply.answer.is_ok(),
+        Err(_) => false,
+    }
+}
+
 /// The reply to the log with this plan.
-pub fn reply(
-    alloc: Global,
-    desk: &mut Desk<Global>,
+fn reply<A: Allocator + Copy>(
+    alloc: A,
+    desk: &mut Desk<A>,
     log: &[u8],
-    plan: Vec<u8, Global>,
+    plan: Vec<u8, A>,
 ) -> Option<Reply> {
     let submission = Submission {
         client: 7,
@@ -42,8 +62,8 @@ pub fn reply(
 }
 
 /// Whether a plan of the log's version is made, and is accepted with this need.
-pub fn lands(alloc: Global, desk: &mut Desk<Global>, log: &[u8], wanted: u64) -> bool {
-    let Some(client) = client_7() else {
+fn lands<A: Allocator + Copy>(alloc: A, desk: &mut Desk<A>, log: &[u8], wanted: u64) -> bool {
+    let Some(client) = client() else {
         return false;
     };
     let Ok(Some(plan)) = planned(alloc, desk, &client, log) else {
@@ -58,22 +78,20 @@ pub fn lands(alloc: Global, desk: &mut Desk<Global>, log: &[u8], wanted: u64) ->
     }
 }
 
-fn is_done(alloc: Global, desk: &mut Desk<Global>, step: Step<'_>) -> bool {
+fn is_done<A: Allocator + Copy>(alloc: A, desk: &mut Desk<A>, step: Step<'_>) -> bool {
     match step {
-        Step::Lease(path) => is_granted(desk, path),
+        Step::Lease(path) => is_leased(desk, path),
         Step::Land(log, need) => lands(alloc, desk, log, need),
     }
 }
 
-/// Whether each step is as expected, on a desk with a new image.
-pub fn are_done(alloc: Global, steps: &[Step<'_>]) -> bool {
-    let Some(mut desk) = begun(alloc, 8, 100) else {
-        return false;
-    };
+/// A desk after these steps; none where one isn't as expected.
+pub fn stepped<A: Allocator + Copy>(alloc: A, steps: &[Step<'_>]) -> Option<Desk<A>> {
+    let mut desk = opened(alloc)?;
     for step in steps {
         if !is_done(alloc, &mut desk, *step) {
-            return false;
+            return None;
         }
     }
-    true
+    Some(desk)
 }

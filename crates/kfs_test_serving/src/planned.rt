@@ -1,16 +1,48 @@
 //! What a plan maker calls: right pieces of a log, and the check of a plan. Each with its answer, and with each allocation of
 //! memory refused.
 
-use crate::bytes::desk_with_file;
-use crate::growths::growths;
+use crate::examples::{opened, submission, submit};
+use kfs_desk::{Desk, Reply};
 use kfs_entry::{Plan, RowList, decode_log, decode_plan};
 use kfs_judge::{View, judge_entries};
+use kfs_lease::LeaseKind;
 use kfs_plan::{RowFault, check_plan, sweep};
 use kfs_test_support::refusing::Refusing;
 use kfs_test_support::vectors::{
     CREATE_LOG, CREATE_PLAN, EDITS_LOG, EDITS_PLAN, LETTERS_LOG, LETTERS_PLAN,
 };
 use std::alloc::{Allocator, Global};
+
+/// More allocations than anything here asks for.
+const AMPLE: u64 = 1 << 40;
+
+/// More allocations than one call asks for.
+const MANY: u64 = 100;
+
+/// Whether client 7 has a Yes to this log and plan.
+fn is_landed<A: Allocator + Copy>(alloc: A, desk: &mut Desk<A>, log: &[u8], plan: &[u8]) -> bool {
+    match submission(alloc, log, plan) {
+        Some(submission) => matches!(submit(desk, submission), Ok(Reply::Yes { .. })),
+        None => false,
+    }
+}
+
+fn is_leased<A: Allocator + Copy>(desk: &mut Desk<A>) -> bool {
+    match desk.lease(7, b"/a", LeaseKind::Write, 100) {
+        Ok(reply) => reply.answer.is_ok(),
+        Err(_) => false,
+    }
+}
+
+/// A desk with the empty file 5. Client 7 holds it.
+fn with_file<A: Allocator + Copy>(alloc: A) -> Option<Desk<A>> {
+    let mut desk = opened(alloc, 9)?;
+    if is_landed(alloc, &mut desk, CREATE_LOG, CREATE_PLAN) && is_leased(&mut desk) {
+        Some(desk)
+    } else {
+        None
+    }
+}
 
 /// A call on the log that writes ten letters, with the answer that is expected.
 #[derive(Clone, Copy)]
@@ -39,7 +71,7 @@ fn plan<A: Allocator + Copy>(alloc: A, call: Call) -> Option<Plan<A>> {
     }
 }
 
-/// Makes the call with the allocation of this index failing. Answers whether there was such an allocation; none where the answer
+/// Makes the call with the allocation of this index failing. Answers whether there was no such allocation; none where the answer
 /// is wrong.
 fn called<A: Allocator + Copy>(
     alloc: A,
@@ -73,17 +105,28 @@ fn called<A: Allocator + Copy>(
         }
     };
     match (is_right, heap.has_refused()) {
-        (Some(true), false) => Some(false),
-        (None, true) => Some(true),
+        (Some(true), false) => Some(true),
+        (None, true) => Some(false),
         _ => None,
     }
 }
 
 /// The same on a desk of its own.
 fn called_on_a_desk(heap: &Refusing<Global>, call: Call, growth: u64) -> Option<bool> {
-    let desk = desk_with_file(heap, 8)?;
+    let desk = with_file(heap)?;
     let view = desk.view().ok()?;
     called(heap, heap, &view, call, growth)
+}
+
+/// How many allocations the call asks for, each refused in turn; none where an answer is wrong.
+fn growths(alloc: Global, call: Call) -> Option<u64> {
+    for growth in 0..MANY {
+        let heap = Refusing::new(alloc, AMPLE);
+        if called_on_a_desk(&heap, call, growth)? {
+            return Some(growth);
+        }
+    }
+    None
 }
 
 /// The plan of five edits, with the pieces that `sweep` gives in place of its own.
@@ -123,7 +166,7 @@ fn need_of(alloc: Global, view: &View<Global>, plan: &Plan<Global>) -> Option<u6
 
 /// The need of that plan, on a desk of its own.
 fn need_on_a_desk(alloc: Global) -> Option<u64> {
-    let desk = desk_with_file(alloc, 8)?;
+    let desk = with_file(alloc)?;
     let view = desk.view().ok()?;
     let plan = plan_with_swept_pieces(alloc, &view)?;
     need_of(alloc, &view, &plan)
@@ -134,19 +177,16 @@ fn swept_pieces_make_a_right_plan(rt: HostRuntime) {
     assert!(rt; need_on_a_desk(rt.alloc()) == Some(1));
 }
 
-/// How many allocations the call asks for, each refused in turn.
-fn growths_of(alloc: Global, call: Call) -> Result<u64, u64> {
-    growths(alloc, |heap: &Refusing<Global>, growth: u64| {
-        called_on_a_desk(heap, call, growth)
-    })
+#[test]
+fn pieces_and_need_of_a_log(rt: HostRuntime) {
+    let swept = growths(rt.alloc(), Call::Sweep);
+    assert!(rt; matches!(swept, Some(1..)), "{swept:?}");
+    let checked = growths(rt.alloc(), Call::Check(Ok(1)));
+    assert!(rt; matches!(checked, Some(1..)), "{checked:?}");
 }
 
 #[test]
-fn pieces_and_need_of_a_log(rt: HostRuntime) {
-    for call in [Call::Sweep, Call::Check(Ok(1))] {
-        let count = growths_of(rt.alloc(), call);
-        assert!(rt; matches!(count, Ok(1..)), "{count:?}");
-    }
+fn a_plan_of_another_log(rt: HostRuntime) {
     let names = Err(RowFault::Names(0));
-    assert!(rt; growths_of(rt.alloc(), Call::CheckOther(names)) == Ok(0));
+    assert!(rt; growths(rt.alloc(), Call::CheckOther(names)) == Some(0));
 }
