@@ -2,7 +2,8 @@
 and a session whose calls are such bytes, with random calls for it.
 
 Its lines are those of `kfs run` but for the calls: `call HEX` has the bytes of one. It is answered as the line of the same call
-is, and `call NAME` where the bytes are no call. An image is shown with its runs of equal bytes counted, as it is short then.
+is, and `call NAME` where the bytes are no call. `again LIMIT` has the desk's state written as bytes, and goes on with a desk that is
+restored from them. An image is shown with its runs of equal bytes counted, as it is short then.
 """
 import re
 from typing import NamedTuple
@@ -171,7 +172,14 @@ class CallSession(Session):
             case Migrate():
                 return self.move_blocks(*call)
 
-    OF_DESK = {name: Session.OF_DESK[name] for name in (b"docket", b"save")} | {b"call": call}
+    def again(self, words):
+        """Goes on with a new docket; all else is as it was."""
+        limit = words.number()
+        words.end()
+        self.limit, self.docket = limit, 0
+        return "ok"
+
+    OF_DESK = {name: Session.OF_DESK[name] for name in (b"docket", b"save")} | {b"call": call, b"again": again}
 
 
 def kind_of(reply):
@@ -209,7 +217,7 @@ def call_of(line):
 # ---- Random calls
 
 # How often each kind comes. `spoiled` is a call with its bytes changed, and `odd` one that no line makes, or bytes that are none.
-WEIGHTS = {"submit": 38, "lease": 14, "drop": 6, "tick": 3, "move": 9, "spoiled": 20, "odd": 9, "save": 1}
+WEIGHTS = {"submit": 38, "lease": 14, "drop": 6, "tick": 3, "move": 9, "spoiled": 20, "odd": 9, "save": 1, "again": 6}
 # A moment that is rarely gone beyond: few leases are live then.
 LATE = 100_000
 ODD_PATHS = [b"", b"/ ", b"/a b", b"/\n", b"/a\n", b" ", b"\n", b"/\xff", b"/a/", b"/" * 65_535, b"/a" * 32_767]
@@ -218,9 +226,9 @@ ODD_PATHS = [b"", b"/ ", b"/a b", b"/\n", b"/a\n", b" ", b"\n", b"/\xff", b"/a/"
 class CallMaker(Maker):
     """A maker whose lines after the opening are calls as bytes."""
 
-    def __init__(self, seed):
+    def __init__(self, seed, is_cut=False):
         super().__init__(f"calls {seed}")
-        self.weights, self.session = WEIGHTS, CallSession()
+        self.weights, self.session, self.is_cut = WEIGHTS, CallSession(), is_cut
         # The last calls, and whether the places of all blocks were shown since the last landing.
         self.calls, self.is_shown = [b"\x06"], True
 
@@ -261,6 +269,8 @@ class CallMaker(Maker):
         reply = super().say(b"call %s" % hex_of(data).encode())
         if b" yes " in reply:
             self.is_shown = False
+        if self.is_cut:
+            super().say(b"again 1000")
         return reply
 
     def spoiled(self):
@@ -288,6 +298,10 @@ class CallMaker(Maker):
                 self.say_call(encode_call(Migrate(call.moves[:-1])))
             case _:
                 self.say_call(bytes(self.random.randrange(8) for _ in range(self.random.randrange(40))))
+
+    def again(self):
+        """Has the session cut: its desk is saved and restored. A docket is rarely short then."""
+        super().say(b"again %d" % (self.random.randrange(6) if self.chance(12) else 1_000))
 
     def with_length(self, data):
         """Returns bytes with four of them, or two, made a number of another length."""

@@ -95,9 +95,9 @@ def made_session(seed, lines, without):
     return session(seed, maker.script(lines), maker.replies)
 
 
-def made_calls(seed, lines):
-    """Returns a session whose calls are bytes, which the program of `tools/fuzz --calls` reads."""
-    maker = CallMaker(seed)
+def made_calls(seed, lines, is_cut):
+    """Returns a session whose calls are bytes, which the program of `tools/fuzz --calls` reads; if asked, cut behind each call."""
+    maker = CallMaker(seed, is_cut)
     return Case(seed, "calls", text_with_ends(maker.script(lines)), None, text_with_ends(maker.replies))
 
 
