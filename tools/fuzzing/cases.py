@@ -126,12 +126,12 @@ def text_of(path, otherwise=b""):
 
 
 def stored_cases(folder):
-    """Returns the scripts of the repository with what is due of them, but for those whose input fails or that have other words."""
+    """Returns the scripts of the repository with what is due of them, but for those whose input fails or is no file alone, or that have other words."""
     cases = []
     for path in sorted(glob.glob(f"{folder}/*.kfs")):
         base = path.removesuffix(".kfs")
         word = text_of(f"{base}.words", b"run\n").decode().strip()
-        if word in ("run", "fsck", "show") and not os.path.exists(f"{base}.broken"):
+        if word in ("run", "fsck", "show") and not any(os.path.exists(f"{base}.{end}") for end in ("broken", "padding")):
             due = text_of(f"{base}.out"), int(text_of(f"{base}.status", b"0"))
             cases.append(Case(os.path.basename(base), word, text_of(path), due))
     return cases

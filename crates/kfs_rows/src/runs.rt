@@ -24,6 +24,7 @@ pub fn run<R: AllocGlobal + Threads + Sync, A: Allocator + Copy>(
 ) -> Outcome {
     let mut script = Script {
         bytes: lines,
+        padding: 0,
         is_broken: false,
     };
     let mut written = Vec::new(rt.alloc());

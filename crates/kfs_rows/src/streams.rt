@@ -10,6 +10,9 @@ use std::thread::Threads;
 /// More reads and more writes than any script asks for.
 const MANY: u64 = 1 << 20;
 
+/// Replies of at most so many bytes are held back until they can be one write.
+const MANY_BYTES: usize = 4_096;
+
 /// The exit status where reading or writing fails.
 const FAILED: u8 = 3;
 
@@ -157,15 +160,50 @@ fn fail_writes<R: AllocGlobal + Threads + Sync>(
     Err(ScriptFault::Write(MANY))
 }
 
-/// Runs a small session with each read and each write failing in turn.
+/// A writer that takes all, and counts the writes.
+#[derive(Drop)]
+struct Counting {
+    writes: u64,
+}
+
+impl Write for Counting {
+    fn write(&mut self, buf: &[u8]) -> io::Result<usize> {
+        self.writes = self.writes.saturating_add(1);
+        Ok(buf.len())
+    }
+
+    fn flush(&mut self) -> io::Result<()> {
+        Ok(())
+    }
+}
+
+/// Whether the replies to one read are one write.
+fn write_once<R: AllocGlobal + Threads + Sync>(
+    rt: &R,
+    case: &Case,
+    words: &[&str],
+) -> Result<(), ScriptFault> {
+    let mut script = case.script();
+    let mut counting = Counting { writes: 0 };
+    // How it ends was compared before.
+    run_words(rt, rt.alloc(), words, &mut script, &mut counting);
+    if case.replies().len() > MANY_BYTES || counting.writes <= 1 {
+        Ok(())
+    } else {
+        Err(ScriptFault::Writes(counting.writes))
+    }
+}
+
+/// Runs a small script with each read and each write failing in turn, and once with its writes counted.
 pub fn run_with_failures<R: AllocGlobal + Threads + Sync>(
     rt: &R,
     case: &Case,
     words: &[&str],
 ) -> Result<(), ScriptFault> {
-    if case.is_small_session() {
+    if case.is_small() {
         fail_reads(rt, case, words)?;
         fail_writes(rt, case, words)?;
+        write_once(rt, case, words)?;
     }
     Ok(())
 }

@@ -1,8 +1,9 @@
 //! Tests of what is below every judgement: logs, plans and images as bytes, permission bits, and the
 //! check of raw images. The expected values come from docs/FORMATS.md and from the examples of
 //! `kfs_model`, never from the program's own output.
+//! `fsck` has the checker that lets images in, and images made of raw ones.
 //!
-//! It stands on `kfs_entry`, `kfs_mode`, `kfs_image`, `kfs_shape`, `kfs_test_support`. Begin with `codec.rt`.
+//! It stands on `kfs_entry`, `kfs_mode`, `kfs_image`, `kfs_shape`, `kfs_fsck`, `kfs_test_support`. Begin with `codec.rt`.
 //!
 //! A test is proved too, and would have to carry the clauses of each call that it makes. So each call
 //! is in a small function without clauses, which a test then makes for each row of a table.
@@ -14,6 +15,8 @@ mod chains;
 mod codec;
 #[cfg(test)]
 mod findings;
+#[cfg(test)]
+mod fsck;
 #[cfg(test)]
 mod image_bytes;
 #[cfg(test)]

@@ -24,6 +24,7 @@ pub struct Case {
     words: Option<Vec<u8>>,
     replies: Vec<u8>,
     status: u8,
+    padding: usize,
     is_broken: bool,
     growths: Option<u64>,
     room: Option<u64>,
@@ -53,7 +54,8 @@ impl Case {
     /// And it may have:
     /// - `.words`, the words after the program's name, one a line (else `run`);
     /// - `.status`, the exit status (else 0);
-    /// - `.broken`: reading fails after the script's last byte;
+    /// - `.padding`, how many bytes `x` follow the script's last byte (else 0);
+    /// - `.broken`: reading fails after the last byte;
     /// - `.growths`, the least number of allocations that the script asks for;
     /// - `.room`, a number of bytes of memory that is enough for it.
     pub fn read<R: Files + AllocGlobal>(rt: &R, name: &str) -> Result<Case, ScriptFault> {
@@ -64,12 +66,14 @@ impl Case {
         let Ok(status) = u8::try_from(status) else {
             return Err(ScriptFault::Unreadable(".status"));
         };
+        let padding = optional_number(rt, name, ".padding")?.unwrap_or(0);
         let is_broken = optional_file(rt, name, ".broken")?.is_some();
         Ok(Case {
             script,
             words,
             replies,
             status,
+            padding: usize::try_from(padding).unwrap_or(usize::MAX),
             is_broken,
             growths: optional_number(rt, name, ".growths")?,
             room: optional_number(rt, name, ".room")?,
@@ -96,6 +100,7 @@ impl Case {
     pub fn script(&self) -> Script<'_> {
         Script {
             bytes: self.script.as_slice(),
+            padding: self.padding,
             is_broken: self.is_broken,
         }
     }
@@ -114,9 +119,14 @@ impl Case {
         &self.replies
     }
 
+    /// Whether the script is small, and all of it is in its file.
+    pub fn is_small(&self) -> bool {
+        !self.is_broken && self.padding == 0 && self.script.len() <= SMALL
+    }
+
     /// Whether the script is a small session of `run` that is read to its end.
-    pub fn is_small_session(&self) -> bool {
-        !self.is_broken && self.words.is_none() && self.script.len() <= SMALL
+    fn is_small_session(&self) -> bool {
+        self.is_small() && self.words.is_none()
     }
 
     /// The least number of allocations that the script asks for, if each is to be refused in

@@ -29,6 +29,9 @@ pub enum ScriptFault {
     /// With the write of this index failing, the answer is another.
     #[error("isn't as it is due where write {0} fails")]
     Write(u64),
+    /// The replies to one read are so many writes.
+    #[error("writes {0} times")]
+    Writes(u64),
     #[error("makes {made} growths, not {least}")]
     FewGrowths { made: u64, least: u64 },
     /// The number in `.room` is too small.

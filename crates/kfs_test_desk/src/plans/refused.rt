@@ -1,0 +1,87 @@
+//! Where no plan is made: no log, another client's log, an entry's fault, and no memory.
+
+use crate::plans::desks::{Step, client, opened, planned, stepped};
+use crate::plans::logs::{NO_NODE, RENAMES};
+use kfs_mode::Client;
+use kfs_test_support::refusing::Refusing;
+use kfs_test_support::vectors::{CREATE_LOG, CREATE_PLAN, LETTERS_LOG};
+use std::alloc::Global;
+
+/// More allocations than anything here asks for.
+const AMPLE: u64 = 1 << 40;
+
+/// More allocations than one call asks for.
+const MANY: u64 = 200;
+
+fn client_8() -> Option<Client> {
+    Client::new(8, 1_000, 1_000, &[], false, 2, 99).ok()
+}
+
+/// Whether no plan is made for the client's log over a new image.
+fn has_no_plan(alloc: Global, client: Option<Client>, log: &[u8]) -> bool {
+    let Some(client) = client else {
+        return false;
+    };
+    match opened(alloc) {
+        Some(desk) => matches!(planned(alloc, &desk, &client, log), Ok(None)),
+        None => false,
+    }
+}
+
+#[test]
+fn no_log(rt: HostRuntime) {
+    assert!(rt; has_no_plan(rt.alloc(), client(), b""));
+    assert!(rt; has_no_plan(rt.alloc(), client(), &CREATE_LOG[..24]));
+    assert!(rt; has_no_plan(rt.alloc(), client(), CREATE_PLAN));
+}
+
+#[test]
+fn the_log_of_another_client(rt: HostRuntime) {
+    assert!(rt; has_no_plan(rt.alloc(), client_8(), CREATE_LOG));
+}
+
+#[test]
+fn an_entry_with_a_fault(rt: HostRuntime) {
+    assert!(rt; has_no_plan(rt.alloc(), client(), NO_NODE));
+    assert!(rt; has_no_plan(rt.alloc(), client(), LETTERS_LOG));
+}
+
+/// The length of the plan that is made where the allocation with this index is refused; none where memory is lacking. The
+/// second part says whether that allocation was asked for.
+fn made_without(alloc: Global, growth: u64) -> Option<(Option<usize>, bool)> {
+    let heap = Refusing::new(alloc, AMPLE);
+    let steps = [
+        Step::Lease(b"/"),
+        Step::Land(CREATE_LOG, 0),
+        Step::Lease(b"/a"),
+    ];
+    let desk = stepped(&heap, &steps)?;
+    heap.refuse_after(growth);
+    let client = client()?;
+    let made = planned(&heap, &desk, &client, RENAMES);
+    let was_refused = heap.has_refused();
+    match made {
+        Ok(Some(plan)) => Some((Some(plan.len()), was_refused)),
+        Ok(None) => None,
+        Err(_) => Some((None, was_refused)),
+    }
+}
+
+/// How many allocations the call asks for, each refused in turn; none where an answer is wrong.
+fn growths(alloc: Global) -> Option<u64> {
+    let (ample, _refused) = made_without(alloc, AMPLE)?;
+    for growth in 0..MANY {
+        match made_without(alloc, growth)? {
+            (None, true) => {}
+            (made, false) if made == ample => return Some(growth),
+            _ => return None,
+        }
+    }
+    None
+}
+
+#[test]
+fn each_growth_is_refused(rt: HostRuntime) {
+    let asked = growths(rt.alloc());
+    assert!(rt; matches!(asked, Some(1..)), "{asked:?}");
+}

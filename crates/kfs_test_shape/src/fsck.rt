@@ -1,0 +1,8 @@
+//! The checker that lets images in, and images made of raw ones.
+
+mod contents;
+mod many;
+mod refused;
+mod rules;
+mod shown;
+mod vectors;

@@ -1,0 +1,66 @@
+//! Images with so many nodes that their rules are tested in several threads.
+
+use crate::fsck::rules::found_in;
+use kfs_test_support::images::many::{GREATEST, chain};
+use std::alloc::Allocator;
+use std::process::Abort;
+use std::thread::Threads;
+
+/// The finding where each directory from `first` on leads to the next one, and the last one to `last`.
+fn found<A: Allocator + Copy>(
+    rt: &(impl Threads + Sync),
+    alloc: A,
+    first: u32,
+    last: Option<u32>,
+) -> Option<Option<(u8, u32)>> {
+    let raw = chain(alloc, first, last)?;
+    found_in(rt, alloc, raw)
+}
+
+/// The finding in the deepest chain, where the nodes of these numbers have mode 0o2000.
+fn found_with_modes<A: Allocator + Copy>(
+    rt: &(impl Threads + Sync),
+    alloc: A,
+    numbers: [u32; 2],
+) -> Option<Option<(u8, u32)>> {
+    let mut raw = chain(alloc, 1, None)?;
+    for number in numbers {
+        let index = number.checked_sub(1)? as usize;
+        raw.nodes.get_mut(index)?.header.mode = 0o2000;
+    }
+    found_in(rt, alloc, raw)
+}
+
+/// The finding in the deepest chain without the name of its last directory.
+fn found_without_a_name<A: Allocator + Copy>(
+    rt: &(impl Threads + Sync),
+    alloc: A,
+) -> Option<Option<(u8, u32)>> {
+    let mut raw = chain(alloc, 1, None)?;
+    let _row = raw.names.pop()?;
+    found_in(rt, alloc, raw)
+}
+
+#[test]
+fn the_deepest_chain_is_let_in(rt: HostRuntime) {
+    assert!(&rt; found(&rt, rt.alloc(), 1, None) == Some(None));
+}
+
+#[test]
+fn a_circle_of_all_others_is_found_at_its_least(rt: HostRuntime) {
+    assert!(&rt; found(&rt, rt.alloc(), 2, Some(2)) == Some(Some((7, 2))));
+}
+
+#[test]
+fn the_least_of_two_parts_is_found(rt: HostRuntime) {
+    for numbers in [[60_000, 2_000], [2_000, 60_000], [2_000, 2_001]] {
+        let finding = found_with_modes(&rt, rt.alloc(), numbers);
+        assert!(&rt; finding == Some(Some((3, 2_000))));
+    }
+}
+
+#[test]
+fn the_last_row_of_all_is_tested(rt: HostRuntime) {
+    let finding = found_without_a_name(&rt, rt.alloc());
+    assert!(&rt; finding == Some(Some((6, GREATEST))));
+}
