@@ -194,14 +194,17 @@ fn write_once<R: AllocGlobal + Threads + Sync>(
     }
 }
 
-/// Runs a small script with each read and each write failing in turn, and once with its writes counted.
+/// Runs a small script with each write failing in turn, and once with its writes counted. If it is a session, each read
+/// fails in turn, too.
 pub fn run_with_failures<R: AllocGlobal + Threads + Sync>(
     rt: &R,
     case: &Case,
     words: &[&str],
 ) -> Result<(), ScriptFault> {
-    if case.is_small() {
+    if case.is_small_session() {
         fail_reads(rt, case, words)?;
+    }
+    if case.is_small() {
         fail_writes(rt, case, words)?;
         write_once(rt, case, words)?;
     }

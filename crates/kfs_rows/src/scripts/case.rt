@@ -125,7 +125,7 @@ impl Case {
     }
 
     /// Whether the script is a small session of `run` that is read to its end.
-    fn is_small_session(&self) -> bool {
+    pub fn is_small_session(&self) -> bool {
         self.is_small() && self.words.is_none()
     }
 
