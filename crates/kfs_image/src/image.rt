@@ -1,8 +1,9 @@
 //! The image: nodes and names, which views share, and the blocks of files. The headers of nodes, now
 //! and after rows.
 ghost use Rattle.std.specs.Prelude.{◌≡◌, ◌↔◌, ℕ, ◌+◌, ◌*◌, ◌<◌, ◌≤◌, true, List, length, slice_index, option_map, Err, Some, None, IsTrue, IfSome, IfNone, IfOk, IfErr, OnOk, OnErr, EachIndex};
+ghost use Rattle.std.specs.Range.Bound.{bound_map};
 ghost use Rattle.kfs_model.specs.Table.{get, pairs, numbers};
-ghost use Rattle.kfs_model.specs.Tree.{target};
+ghost use Rattle.kfs_model.specs.Tree.{name_order, target};
 ghost use Rattle.kfs_model.specs.Limits.{block_size};
 ghost use Rattle.kfs_model.specs.Placement.{tier_size};
 ghost use Rattle.kfs_model.specs.Sight.{is_directory};
@@ -10,7 +11,7 @@ ghost use Rattle.kfs_model.specs.Device.ShownTree.{IsLawful, file_byte};
 ghost use Rattle.kfs_model.specs.Device.RawImage.{image_of};
 ghost use Rattle.kfs_model.specs.Device.Finding.{IsWellFormed};
 ghost use Rattle.kfs_image.specs.Codec.RawImages.{raw_of};
-ghost use Rattle.kfs_map_chunks.specs.Starts.{is_from, IsNextEntry};
+ghost use Rattle.kfs_map_chunks.specs.Starts.{is_from, IsNextEntry, IsNextRun};
 ghost use Rattle.kfs_image.specs.Tier.Unused.{IsNextUnused, AreTakenFrom, unused_places};
 ghost use Rattle.kfs_image_nodes.specs.Change.{reheaded};
 ghost use Rattle.kfs_image_nodes.specs.Look.{IsAfter, IsNext, IsNextNode};
@@ -265,6 +266,14 @@ impl<A: Allocator> Image<A> {
         ensures none { IfNone result ((m : List ℕ) (n : ℕ) → target self.now.names dir m ≡ Some n → IsAfter after.entry m → ⊥) }
     {
         self.shape.next_name(dir, after)
+    }
+
+    /// The next names at the bound or behind it, by directory and name, with the numbers that they lead
+    /// to: those that stand side by side in memory. Empty only where there are none. Takes no memory.
+    pub(crate) fn names_from(&self, start: Bound<&(u32, Name)>) -> &[((u32, Name), u32)]
+        ensures { IsNextRun name_order.compare (bound_map (λ x. x.now) start.entry) self.now.names.entries result.now }
+    {
+        self.shape.names_from(start)
     }
 
     /// The first mapped block at the bound or behind it, as file number and block, and where it lies;

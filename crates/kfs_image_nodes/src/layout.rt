@@ -1,6 +1,7 @@
 //! The nodes and names of an image, as views share them.
 ghost use Rattle.std.specs.Prelude.{◌≡◌, ℕ, ◌<◌, T, All, List, Some, None, option_map, IfSome, IfNone, IfOk, OnOk, OnErr};
 ghost use Rattle.std.specs.FinMap.Entries.{is_sorted};
+ghost use Rattle.std.specs.Range.Bound.{bound_map};
 ghost use Rattle.kfs_types.specs.Views.{header_of};
 ghost use Rattle.kfs_model.specs.Table.{empty, get};
 ghost use Rattle.kfs_map_pages.specs.Shown.{part};
@@ -13,6 +14,7 @@ ghost use Rattle.kfs_image_nodes.specs.Change.{after_rows, renamed, reheaded};
 ghost use Rattle.kfs_image_nodes.specs.NodeEdits.{IsNumber};
 ghost use Rattle.kfs_image_nodes.specs.Rows.{heads_of, FitPages};
 ghost use Rattle.kfs_image_nodes.specs.SortedRows.{name_entries};
+ghost use Rattle.kfs_map_chunks.specs.Starts.{IsNextRun};
 ghost use Rattle.kfs_map_chunks.specs.Tables.{table};
 
 use crate::cell::{Answer, Cell};
@@ -23,6 +25,7 @@ use kfs_map_pages::{Page, Pages};
 use kfs_types::{Change, GREATEST_MODE_OF_VERSION_1, Header, Kind, Name, NameRow, ROOT};
 use std::alloc::{AllocError, Allocator};
 use std::marker::Model;
+use std::ops::Bound;
 
 /// The nodes and names of an image, without any bytes of files. A copy shares the tables, and keeps
 /// showing what it showed when it was made.
@@ -129,6 +132,15 @@ impl<A: Allocator> Shape<A> {
         ensures none { IfNone result ((m : List ℕ) (n : ℕ) → target self.now.names dir m ≡ Some n → IsAfter after.entry m → ⊥) }
     {
         self.rows.next_name(dir, after)
+    }
+
+    /// The next names at the bound or behind it, by directory and name, with the numbers that they lead
+    /// to: those that stand side by side in memory. Empty only where there are none. Takes no memory.
+    #[doc(hidden)]
+    pub fn names_from(&self, start: Bound<&(u32, Name)>) -> &[((u32, Name), u32)]
+        ensures { IsNextRun name_order.compare (bound_map (λ x. x.now) start.entry) self.now.names.entries result.now }
+    {
+        self.rows.names_from(start)
     }
 }
 

@@ -2,6 +2,7 @@
 //! lends, to be made together with a change of the tables.
 ghost use Rattle.std.specs.Prelude.{◌≡◌, ℕ, ◌≤◌, ◌<◌, T, All, true, option_map, IfOk, IfSome, IfNone, OnOk, OnErr, Some, None, List, [], ◌∷◌};
 ghost use Rattle.std.specs.FinMap.Entries.{is_sorted};
+ghost use Rattle.std.specs.Range.Bound.{bound_map};
 ghost use Rattle.kfs_types.specs.Views.{header_of};
 ghost use Rattle.kfs_model.specs.Spelling.{IsName};
 ghost use Rattle.kfs_model.specs.Table.{get, empty, changed};
@@ -9,7 +10,7 @@ ghost use Rattle.kfs_model.specs.Tree.{entry_count, name_order, target};
 ghost use Rattle.kfs_model.specs.Sight.{holder};
 ghost use Rattle.kfs_map_pages.specs.Edits.{rewritten, AreEdits};
 ghost use Rattle.kfs_map_chunks.specs.Edits as keyed;
-ghost use Rattle.kfs_map_chunks.specs.Starts.{is_from};
+ghost use Rattle.kfs_map_chunks.specs.Starts.{is_from, IsNextRun};
 ghost use Rattle.kfs_image_nodes.specs.Change.{led_to, renamed, reheaded};
 ghost use Rattle.kfs_image_nodes.specs.Indexes.{by_node};
 ghost use Rattle.kfs_image_nodes.specs.Look.{IsAfter, IsNext, IsNextNode};
@@ -127,6 +128,14 @@ impl<A: Allocator> NodeTables<A> {
         } else {
             None
         }
+    }
+
+    /// The next names at the bound or behind it, by directory and name, and where they lead: those that
+    /// stand in one chunk.
+    pub(crate) fn names_from(&self, start: Bound<&(u32, Name)>) -> &[((u32, Name), u32)]
+        ensures { IsNextRun name_order.compare (bound_map (λ x. x.now) start.entry) (names_in self.now).entries result.now }
+    {
+        self.names.run_from(start)
     }
 }
 

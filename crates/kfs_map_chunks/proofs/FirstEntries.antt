@@ -1,5 +1,5 @@
 -- The first entry from a start on, in sorted entries and in lists one behind the other.
-use Rattle.std.proofs.Common.{◌≡◌, ◌<◌, ◌≤◌, suc, Bool, true, false, cond, not, T, List, [], ◌∷◌, ◌++◌, length, get_or, Option, Some, None, refl, sym, ap, ◌∙◌, arith}
+use Rattle.std.proofs.Common.{◌≡◌, Bool, true, false, cond, not, T, List, [], ◌∷◌, ◌++◌, Option, Some, None, refl, sym, ap, ◌∙◌}
 use Rattle.std.specs.Prelude.{IsSome, is_some}
 use Rattle.std.specs.declared.cmp.Ordering.{Ordering}
 use Rattle.std.specs.declared.cmp.Ordering.TheVariants.{Less, Equal, Greater}
@@ -9,7 +9,7 @@ use Rattle.std.specs.Ordering.{is_eq, is_lt, is_gt, eq_by_cmp}
 use Rattle.std.specs.FinMap.Entries.{find, is_sorted}
 use Rattle.kfs_model.specs.Table.{Order}
 use Rattle.kfs_model.proofs.Tables.{left_part, right_part, find_head, find_behind}
-use Rattle.kfs_map_chunks.specs.Starts.{is_from, first_from, entry_from, reaches, IsNextEntry}
+use Rattle.kfs_map_chunks.specs.Starts.{is_from, entry_from, reaches, IsNextEntry}
 use Rattle.kfs_map_chunks.proofs.Order.{true_or_false, flipped}
 use Rattle.kfs_map_chunks.proofs.Sorted.{from_itself, passed_over, none_lower}
 
@@ -23,24 +23,6 @@ module _ {K V : Type 0} (cmp : K → K → Ordering) (start : Bound K) where
           → cond b (Some x) (entry_from cmp start (xs ++ ys)) ≡ cond (is_some (cond b (Some x) (entry_from cmp start xs))) (cond b (Some x) (entry_from cmp start xs)) (entry_from cmp start ys)
       at true rest = refl
       at false rest = rest
-
-  -- it stands at the index that is counted
-  pub entry_at : (es : List (K × V)) (d : K × V) → first_from cmp start es < length es → entry_from cmp start es ≡ Some (get_or es (first_from cmp start es) d)
-  entry_at [] d within = absurd (omega (arith, within))
-  entry_at (e ∷ es) d within = at (entry_at es d) (is_from cmp start e.0) within
-    where
-      at : (first_from cmp start es < length es → entry_from cmp start es ≡ Some (get_or es (first_from cmp start es) d))
-          → (b : Bool) → cond b 0 (suc (first_from cmp start es)) < suc (length es) → cond b (Some e) (entry_from cmp start es) ≡ Some (get_or (e ∷ es) (cond b 0 (suc (first_from cmp start es))) d)
-      at rest true within = refl
-      at rest false within = rest (omega (arith, within))
-
-  pub entry_past : (es : List (K × V)) → length es ≤ first_from cmp start es → entry_from cmp start es ≡ None
-  entry_past [] past = refl
-  entry_past (e ∷ es) past = at (entry_past es) (is_from cmp start e.0) past
-    where
-      at : (length es ≤ first_from cmp start es → entry_from cmp start es ≡ None) → (b : Bool) → suc (length es) ≤ cond b 0 (suc (first_from cmp start es)) → cond b (Some e) (entry_from cmp start es) ≡ None
-      at rest true past = absurd (omega (arith, past))
-      at rest false past = rest (omega (arith, past))
 
 module _ {K V : Type 0} (R : Order K) where
   -- the value of an entry with the key

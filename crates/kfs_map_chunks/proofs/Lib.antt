@@ -6,6 +6,7 @@ pub mod Overlays
 pub mod Parts
 mod Recut
 mod Rewritten
+pub mod Runs
 mod Sorted
 pub mod Tables
 mod Together

@@ -8,7 +8,7 @@ ghost use Rattle.std.specs.Range.Bound.{bound_map};
 ghost use Rattle.std.specs.declared.cmp.Ordering.TheVariants.{Less};
 ghost use Rattle.std.specs.declared.ops.Bound.TheVariants.{Included};
 ghost use Rattle.kfs_map_chunks.specs.Edits.{entered, entered_all, KeysAscend, IsPassed};
-ghost use Rattle.kfs_map_chunks.specs.Starts.{is_from, first_from, entry_from, reaches};
+ghost use Rattle.kfs_map_chunks.specs.Starts.{is_from, first_from, entries_from};
 ghost use Rattle.kfs_model.specs.Table.{Order, pairs, numbers};
 ghost use Rattle.kfs_model.specs.Tree.{name_order};
 
@@ -178,13 +178,12 @@ impl<K: Key, V: Copy, A: Allocator> Entries<K, V, A> {
         edits < self.len() && edits <= K::most_entries().saturating_sub(self.len())
     }
 
-    /// The first entry at the bound or behind it, or none.
-    pub(crate) fn next(&self, start: Bound<&K>) -> Option<(&K, &V)>
-        ensures some { IfSome result (λ p. entry_from K.cmp (bound_map (λ x. x.now) start.entry) self.now.pairs ≡ Some (p.0.now, p.1.now)) }
-        ensures none { IfNone result (entry_from K.cmp (bound_map (λ x. x.now) start.entry) self.now.pairs ≡ None) }
+    /// The entries at the bound or behind it.
+    pub(crate) fn run_from(&self, start: Bound<&K>) -> &[(K, V)]
+        ensures { result.now ≡ entries_from K.cmp (bound_map (λ x. x.now) start.entry) self.now.pairs }
     {
-        let (key, value) = self.pairs.get(first_from(&self.pairs, start))?;
-        Some((key, value))
+        let (_, from) = self.pairs.split_at(first_from(&self.pairs, start));
+        from
     }
 }
 

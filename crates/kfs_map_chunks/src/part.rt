@@ -5,7 +5,7 @@ ghost use Rattle.std.specs.FinMap.Entries.{find, is_sorted};
 ghost use Rattle.std.specs.Range.Bound.{bound_map};
 ghost use Rattle.kfs_map_chunks.specs.Edits.{KeysAscend};
 ghost use Rattle.kfs_map_chunks.specs.Joined.{joined, AreSized, TellsAlone};
-ghost use Rattle.kfs_map_chunks.specs.Starts.{entry_from, reaches};
+ghost use Rattle.kfs_map_chunks.specs.Starts.{IsNextRun};
 ghost use Rattle.std.specs.declared.ops.Bound.TheVariants.{Included};
 
 use crate::change::cut_parts;
@@ -96,13 +96,15 @@ impl<K: Key, V: Copy, A: Allocator> Part<K, V, A> {
         Some(chunk)
     }
 
-    /// The first entry at the bound or behind it, or none. Takes no memory.
-    pub(crate) fn next(&self, start: Bound<&K>) -> Option<(&K, &V)>
-        ensures some { IfSome result (λ p. entry_from K.cmp (bound_map (λ x. x.now) start.entry) self.now.pairs ≡ Some (p.0.now, p.1.now)) }
-        ensures none { IfNone result (entry_from K.cmp (bound_map (λ x. x.now) start.entry) self.now.pairs ≡ None) }
+    /// The entries at the bound or behind it, of the first chunk that has some. Empty only where no chunk
+    /// has. Takes no memory.
+    pub(crate) fn run_from(&self, start: Bound<&K>) -> &[(K, V)]
+        ensures { IsNextRun K.cmp (bound_map (λ x. x.now) start.entry) self.now.pairs result.now }
     {
-        let chunk = self.chunks.get(place(&self.chunks, &start))?;
-        chunk.next(start)
+        match self.chunks.get(place(&self.chunks, &start)) {
+            Some(chunk) => chunk.run_from(start),
+            None => &[],
+        }
     }
 
     /// Whether the first chunk that the edits change takes those that belong to it.

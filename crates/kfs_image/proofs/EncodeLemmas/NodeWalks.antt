@@ -1,5 +1,5 @@
 -- A walk over the nodes of an image, by their numbers.
-use Rattle.std.proofs.Common.{◌≡◌, ℕ, ◌+◌, ◌<◌, length, true, false, [], ◌∷◌, Option, Some, None, refl, sym, ap, ◌∙◌, arith}
+use Rattle.std.proofs.Common.{◌≡◌, ℕ, ◌<◌, true, false, [], ◌∷◌, Option, Some, None, refl, sym, ap, ◌∙◌, arith}
 use Rattle.std.specs.Prelude.{IsSome, is_some}
 use Rattle.std.specs.declared.cmp.Ordering.{Ordering}
 use Rattle.std.specs.declared.cmp.Ordering.TheVariants.{Less, Equal, Greater}
@@ -53,14 +53,6 @@ module _ (heads : Table numbers Header) (after : ℕ) where
           within = behind after number next.later;
           least = λ m from some. least m (above after m from) some (nat_cmp m number) refl;
         }
-
-    -- one node fewer is left behind it
-    pub fewer_nodes : length (entries_from (Excluded number) heads) + 1 ≡ length (entries_from (Excluded after) heads)
-    fewer_nodes = at (get heads number) refl
-      where
-        at : (o : Option Header) → get heads number ≡ o → length (entries_from (Excluded number) heads) + 1 ≡ length (entries_from (Excluded after) heads)
-        at None is = absurd (never_none is)
-        at (Some header) is = omega (arith, ap length (node_next header is))
 
 -- the nodes of a lawful image are all above 0
 pub all_nodes : (image : DeviceImage) → IsLawful image → entries_from (Excluded 0) image.heads ≡ image.heads.entries

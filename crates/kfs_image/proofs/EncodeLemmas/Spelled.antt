@@ -6,6 +6,7 @@ use Rattle.kfs_model.specs.Tree.{headers}
 use Rattle.kfs_model.specs.Table.{Table, numbers}
 use Rattle.kfs_model.specs.Header.{Header}
 use Rattle.std.proofs.lemmas.List.{length-map}
+use Rattle.std.proofs.lemmas.List.Concat.{flat_map-append}
 use Rattle.kfs_model.specs.Spelling.{name_row_bytes}
 use Rattle.kfs_model.specs.Device.Listed.{raw_node, name_row}
 use Rattle.kfs_model.specs.Device.RawImage.{ExtentRow}
@@ -21,6 +22,14 @@ module _ {E : Type 0} (spelling : E → List ℕ) where
       ap (λ text. text ++ flat_map spelling rest) written
       ∙ append_assoc before (spelling e) (flat_map spelling rest)
       ∙ sym (ap (λ es. before ++ flat_map spelling es) next)
+      ∙ whole
+
+  -- where a run of rows is written, too
+  pub written_run : (before after all : List ℕ) (run left rest : List E) → left ≡ run ++ rest → after ≡ before ++ flat_map spelling run → before ++ flat_map spelling left ≡ all → after ++ flat_map spelling rest ≡ all
+  written_run before after all run left rest next written whole =
+      ap (λ text. text ++ flat_map spelling rest) written
+      ∙ append_assoc before (flat_map spelling run) (flat_map spelling rest)
+      ∙ sym (ap (λ text. before ++ text) (ap (flat_map spelling) next ∙ flat_map-append spelling run rest))
       ∙ whole
 
   pub written_all : (text all : List ℕ) (left : List E) → left ≡ [] → text ++ flat_map spelling left ≡ all → text ≡ all

@@ -1,5 +1,6 @@
--- A walk over a table: from a start on, entry after entry.
-use Rattle.std.proofs.Common.{◌≡◌, Bool, true, false, cond, not, T, ◌&&◌, List, [], ◌∷◌, Option, Some, None, refl, sym, ap, subst, ◌∙◌}
+-- A walk over a table: from a start on, entry after entry, or run after run.
+use Rattle.std.proofs.Common.{◌≡◌, ℕ, suc, ◌-◌, ◌≤◌, Bool, true, false, cond, not, T, ◌&&◌, List, [], ◌∷◌, ◌++◌, length, drop, slice_get, Option, Some, None, refl, sym, ap, subst, ◌∙◌, arith}
+use Rattle.std.proofs.lemmas.List.{take-append-drop}
 use Rattle.std.specs.Prelude.{is_some}
 use Rattle.std.specs.declared.cmp.Ordering.{Ordering}
 use Rattle.std.specs.declared.cmp.Ordering.TheVariants.{Less, Equal, Greater}
@@ -8,7 +9,8 @@ use Rattle.std.specs.declared.ops.Bound.TheVariants.{Included, Excluded, Unbound
 use Rattle.std.specs.Ordering.{is_eq, is_lt, is_gt, ordering_reverse}
 use Rattle.std.specs.FinMap.Entries.{find, where_key, below_all, is_sorted, is_sorted-where_key, find-where_key, same_entries}
 use Rattle.kfs_model.specs.Table.{Order, Table, get}
-use Rattle.kfs_map_chunks.specs.Starts.{is_from, IsNextEntry}
+use Rattle.kfs_map_chunks.specs.Starts.{is_from, IsNextEntry, IsNextRun}
+use Rattle.kfs_map_chunks.proofs.Runs.{whole_run, run_begins}
 use Rattle.kfs_image.specs.Encode.Rows.{entries_from}
 
 greater : (o : Ordering) → is_gt o ≡ true → o ≡ Greater
@@ -107,16 +109,22 @@ module _ {K X : Type 0} (R : Order K) where
       at q (Some x) is true from = refl
       at q (Some x) is false past = let never : true ≡ false = sym (each q x is) ∙ past in cc
 
-  -- two starts leave the same entries where each entry is from both on or from neither
-  pub same_from : (start other : Bound K) (t : Table R X) → ((q : K) (x : X) → get t q ≡ Some x → is_from R.compare start q ≡ is_from R.compare other q) → entries_from start t ≡ entries_from other t
-  same_from start other t alike = same_entries R.compare R.total R.exact _ _ (in_order start t) (in_order other t) (λ q. looked_at (is_from R.compare start) q t ∙ at q (get t q) refl ∙ sym (looked_at (is_from R.compare other) q t))
-    where
-      both_none : (a b : Bool) → ◌≡◌ {A = Option X} (cond a None None) (cond b None None)
-      both_none true true = refl
-      both_none true false = refl
-      both_none false true = refl
-      both_none false false = refl
+  -- behind an entry stand those from it on
+  behind_first : (start : Bound K) (t : Table R X) (e : K × X) (rest : List (K × X)) → entries_from start t ≡ e ∷ rest → rest ≡ entries_from (Excluded e.0) t
+  behind_first start t e rest left = ap (drop 1) (sym left ∙ next_from start t e.0 e.1 (run_begins R start t.entries (e ∷ rest) e t.sorted (whole_run R.compare start t.entries (e ∷ rest) (sym left)) refl))
 
-      at : (q : K) (o : Option X) → get t q ≡ o → cond (is_from R.compare start q) o None ≡ cond (is_from R.compare other q) o None
-      at q None is = both_none (is_from R.compare start q) (is_from R.compare other q)
-      at q (Some x) is = ap (λ b. cond b (Some x) None) (alike q x is)
+  -- so behind a run stand those from its last one on
+  behind_run : (start : Bound K) (t : Table R X) (run rest : List (K × X)) (e : K × X) → entries_from start t ≡ run ++ rest → Some e ≡ slice_get run (length run - 1) → rest ≡ entries_from (Excluded e.0) t
+  behind_run start t [] rest e left last = absurd (let never : Some e ≡ None = last in cc)
+  behind_run start t (x ∷ []) rest e left last =
+      let same : e ≡ x = cc last in
+      behind_first start t x rest left ∙ ap (λ (y : K × X). entries_from (Excluded y.0) t) (sym same)
+  behind_run start t (x ∷ y ∷ run) rest e left last =
+      behind_run (Excluded x.0) t (y ∷ run) rest e (sym (behind_first start t x (y ∷ run ++ rest) left)) (last ∙ ap (slice_get (x ∷ y ∷ run)) {x = length (x ∷ y ∷ run) - 1} {y = suc (length (y ∷ run) - 1)} (omega arith))
+
+  -- the next run, and what is behind its last one
+  pub run_next : (start : Bound K) (t : Table R X) (run : List (K × X)) (e : K × X) → IsNextRun R.compare start t.entries run → Some e ≡ slice_get run (length run - 1) → entries_from start t ≡ run ++ entries_from (Excluded e.0) t
+  run_next start t run e next last =
+      let left = entries_from start t in
+      let parts : left ≡ run ++ drop (length run) left = sym (take-append-drop (length run) left) ∙ ap (λ front. front ++ drop (length run) left) (sym next.first) in
+      parts ∙ ap (λ rest. run ++ rest) (behind_run start t run (drop (length run) left) e parts last)

@@ -1,26 +1,19 @@
 -- What stands in a table from a start on, and the rows of nodes and names.
-use Rattle.std.specs.Prelude.{ℕ, List, []}
+use Rattle.std.specs.Prelude.{ℕ, List}
 use Rattle.std.specs.declared.ops.Bound.{Bound}
-use Rattle.std.specs.declared.ops.Bound.TheVariants.{Included}
-use Rattle.std.specs.FinMap.Entries.{where_key}
 use Rattle.kfs_types.specs.Views.{header_of}
 use Rattle.kfs_model.specs.Header.{Header}
 use Rattle.kfs_model.specs.Spelling.{name_row_bytes}
 use Rattle.kfs_model.specs.Table.{Order, Table}
-use Rattle.kfs_model.specs.Tree.{NameTable}
 use Rattle.kfs_model.specs.Device.Listed.{raw_node, name_row}
 use Rattle.kfs_model.specs.Device.Spelling.{raw_node_bytes}
-use Rattle.kfs_map_chunks.specs.Starts.{is_from}
+use Rattle.kfs_map_chunks.specs.Starts as starts
 use Rattle.kfs_image.specs.declared.codec.raw.RawNode.{RawNode}
 
 module _ {K X : Type 0} {R : Order K} where
   -- the entries whose keys are at the start or behind it
   abbrev pub entries_from : Bound K → Table R X → List (K × X)
-  entries_from start t = where_key R.compare (is_from R.compare start) t.entries
-
--- the names of a directory, and of those with greater numbers
-abbrev pub names_from : (directory : ℕ) → NameTable → List ((ℕ × List ℕ) × ℕ)
-names_from directory names = entries_from (Included (directory, [])) names
+  entries_from start t = starts.entries_from R.compare start t.entries
 
 -- the entry that a node's row says
 abbrev pub node_entry_of : RawNode → ℕ × Header

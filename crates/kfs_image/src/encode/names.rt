@@ -1,60 +1,65 @@
 //! The name rows of an image.
-ghost use Rattle.std.specs.Prelude.{◌≡◌, ◌+◌, ◌++◌, length, IfOk, OnOk};
+ghost use Rattle.std.specs.Prelude.{◌≡◌, ◌+◌, ◌≤◌, ◌++◌, [], length, IfOk, IfSome, IfNone, OnOk};
 ghost use Rattle.std.specs.List.{flat_map};
-ghost use Rattle.kfs_model.specs.Sight.{is_directory};
-ghost use Rattle.kfs_model.specs.Table.{get};
-ghost use Rattle.kfs_model.specs.Device.ShownTree.{IsLawful};
-ghost use Rattle.kfs_image.specs.Encode.Rows.{names_from, name_spelling};
+ghost use Rattle.std.specs.Range.Bound.{bound_map};
+ghost use Rattle.std.specs.declared.ops.Bound.TheVariants.{Excluded};
+ghost use Rattle.kfs_image.specs.Encode.Rows.{entries_from, name_spelling};
 
 use crate::encode::counts::Rows;
-use crate::{Image, Kind, Name, header};
+use crate::{Image, Name};
 use kfs_entry::codec::{name, number32};
 use std::alloc::{AllocError, Allocator};
+use std::ops::Bound;
 
 /// The bytes of a name's row, apart from the name's encoding.
 const LEN: usize = 8;
 
-/// Whether the node is a directory.
-fn is_directory<A: Allocator>(image: &Image<A>, number: u32) -> bool
-    ensures { result ≡ is_directory (get image.now.heads number) }
+/// A directory and a name in it, with the number that the name leads to.
+type NameEntry = ((u32, Name), u32);
+
+/// Names of an image that stand side by side in memory.
+#[derive(Clone, Copy)]
+struct NameRun<'a> {
+    /// At least one, ascending by directory and name.
+    names: &'a [NameEntry],
+    /// The last one's directory and name.
+    last: &'a (u32, Name),
+}
+
+/// The next names at the bound or behind it, or none.
+fn next_run<'a, A: Allocator>(
+    image: &'a Image<A>,
+    start: Bound<&(u32, Name)>,
+) -> Option<NameRun<'a>>
+    ensures some { IfSome result (λ run. 1 ≤ length run.names.now) }
+    ensures next { IfSome result (λ run. entries_from (bound_map (λ x. x.now) start.entry) image.now.names ≡ run.names.now ++ entries_from (Excluded run.last.now) image.now.names) }
+    ensures none { IfNone result (entries_from (bound_map (λ x. x.now) start.entry) image.now.names ≡ []) }
 {
-    match header(image, number) {
-        Some(header) => header.kind == Kind::Directory,
-        None => false,
-    }
+    let names = image.names_from(start);
+    let (last, _) = names.last()?;
+    Some(NameRun { names, last })
 }
 
 /// How many names there are, and the bytes of their rows.
 pub(crate) fn count_names<A: Allocator>(image: &Image<A>) -> Result<Rows, AllocError>
-    requires { IsLawful image.now }
     ensures { IfOk result (λ rows. rows.count ≡ length image.now.names.entries) }
 {
     let mut rows = Rows::none();
-    let mut dir = 0;
-    while let Some(node) = image.next_node(dir) {
-        rows = count_names_of(image, node, rows)?;
-        dir = node;
+    let mut start = Bound::Unbounded;
+    while let Some(run) = next_run(image, start) {
+        rows = count_run(run.names, rows)?;
+        start = Bound::Excluded(run.last);
     }
     Ok(rows)
 }
 
-/// Counts the names of the node, too. Only a directory has some.
-fn count_names_of<A: Allocator>(
-    image: &Image<A>,
-    dir: u32,
-    earlier: Rows,
-) -> Result<Rows, AllocError>
-    requires { IsLawful image.now }
-    ensures { IfOk result (λ rows. rows.count + length (names_from (dir + 1) image.now.names) ≡ earlier.count + length (names_from dir image.now.names)) }
+/// Counts these names, too.
+fn count_run(names: &[NameEntry], earlier: Rows) -> Result<Rows, AllocError>
+    ensures { IfOk result (λ rows. rows.count ≡ earlier.count + length names.now) }
 {
     let mut rows = earlier;
-    if !is_directory(image, dir) {
-        return Ok(rows);
-    }
-    let mut after = None;
-    while let Some((name, _)) = image.next_name(dir, after) {
+    for ((_, name), _) in names {
         rows = rows.and_one(LEN + name::len(&[], name))?;
-        after = Some(name);
     }
     Ok(rows)
 }
@@ -64,33 +69,22 @@ pub(crate) fn write_names<A: Allocator, B: Allocator>(
     out: &mut Vec<u8, B>,
     image: &Image<A>,
 ) -> Result<(), AllocError>
-    requires { IsLawful image.now }
     ensures { OnOk result (out.new.items ≡ out.old.items ++ flat_map name_spelling image.now.names.entries) }
 {
-    let mut dir = 0;
-    while let Some(node) = image.next_node(dir) {
-        write_names_of(out, image, node)?;
-        dir = node;
+    let mut start = Bound::Unbounded;
+    while let Some(run) = next_run(image, start) {
+        write_run(out, run.names)?;
+        start = Bound::Excluded(run.last);
     }
     Ok(())
 }
 
-/// Appends the rows of the node's names. Only a directory has some.
-fn write_names_of<A: Allocator, B: Allocator>(
-    out: &mut Vec<u8, B>,
-    image: &Image<A>,
-    dir: u32,
-) -> Result<(), AllocError>
-    requires { IsLawful image.now }
-    ensures { OnOk result (out.new.items ++ flat_map name_spelling (names_from (dir + 1) image.now.names) ≡ out.old.items ++ flat_map name_spelling (names_from dir image.now.names)) }
+/// Appends the rows of these names.
+fn write_run<B: Allocator>(out: &mut Vec<u8, B>, names: &[NameEntry]) -> Result<(), AllocError>
+    ensures { OnOk result (out.new.items ≡ out.old.items ++ flat_map name_spelling names.now) }
 {
-    if !is_directory(image, dir) {
-        return Ok(());
-    }
-    let mut after = None;
-    while let Some((name, number)) = image.next_name(dir, after) {
-        write_name(out, dir, name, number)?;
-        after = Some(name);
+    for ((dir, name), number) in names {
+        write_name(out, *dir, name, *number)?;
     }
     Ok(())
 }

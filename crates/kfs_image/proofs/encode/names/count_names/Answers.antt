@@ -1,17 +1,24 @@
-use Rattle.std.proofs.Common.{length, ap, arith}
-use Rattle.kfs_image.proofs.EncodeLemmas.NodeWalks.{fewer_nodes}
-use Rattle.kfs_image.proofs.EncodeLemmas.NameWalks.{all_names, up_to_next, no_names}
+use Rattle.std.proofs.Common.{length, ap, arith, Bor}
+use Rattle.std.proofs.lemmas.List.{length-append}
+use Rattle.std.specs.declared.ops.Bound.TheVariants.{Excluded}
+use Rattle.kfs_model.specs.Tree.{name_order}
+use Rattle.kfs_image.specs.Encode.Rows.{entries_from}
+use Rattle.kfs_image.proofs.EncodeLemmas.Walks.{all_from}
+use Rattle.kfs_image.proofs.EncodeLemmas.Spelled.{counted_all}
 use Rattle.kfs_image.proofs.encode.names.count_names.Goals as goal
 
-pub loop-node-init : goal.loop-node-init
-loop-node-init g c = omega (arith, c.none-rows.ensures, ap length (all_names c.args.image.now c.requires))
+pub loop-run-init : goal.loop-run-init
+loop-run-init g c = omega (arith, c.none-rows.ensures, ap length (all_from name_order c.args.image.now.names))
 
-pub loop-node-smaller : goal.loop-node-smaller
-loop-node-smaller g c = omega (arith, fewer_nodes c.args.image.now.heads c.loop-node.dir c.in-Some.node c.in-Some.ensures.found)
+pub loop-run-smaller : goal.loop-run-smaller
+loop-run-smaller g c =
+    let run = c.in-Some.run' in
+    omega (arith, c.in-Some.ensures.some, ap length c.in-Some.ensures.next, length-append run.names.now (entries_from (Excluded run.last.now) c.args.image.now.names))
 
-pub loop-node-preserved : goal.loop-node-preserved
-loop-node-preserved g c =
-    omega (arith, c.loop-node.invariant, c.in_ok-rows.ensures, ap length (up_to_next c.args.image.now c.requires c.loop-node.dir c.in-Some.node c.in-Some.ensures.found))
+pub loop-run-preserved : goal.loop-run-preserved
+loop-run-preserved g c =
+    let run = c.in-Some.run' in
+    omega (arith, c.loop-run.invariant, c.in_ok-rows.ensures, ap length c.in-Some.ensures.next, length-append run.names.now (entries_from (Excluded run.last.now) c.args.image.now.names))
 
 pub returns : goal.returns
-returns g c = omega (arith, c.loop-node.invariant, ap length (no_names c.args.image.now c.requires c.loop-node.dir c.in_default.ensures.none))
+returns g c = omega (arith, c.loop-run.invariant, ap length c.in_default.ensures.none)
