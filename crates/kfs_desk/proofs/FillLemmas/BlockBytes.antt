@@ -1,6 +1,7 @@
 -- The bytes of a block: as a read of the file leaves them, and all of them as one list.
-use Rattle.std.proofs.Common.{◌≡◌, ℕ, zero, suc, ◌+◌, ◌-◌, ◌*◌, ◌<◌, ◌≤◌, ◌++◌, ◌↔◌, min, true, List, [], ◌∷◌, length, replicate, take, drop, map, Option, Some, None, Result, Ok, Err, option_map, refl, sym, ap, ◌∙◌, ⊎_elim, arith}
+use Rattle.std.proofs.Common.{◌≡◌, ℕ, zero, suc, ◌+◌, ◌-◌, ◌*◌, ◌<◌, ◌≤◌, ◌++◌, ◌↔◌, min, true, List, [], ◌∷◌, length, replicate, take, drop, map, Option, Some, None, Result, Ok, Err, option_map, refl, sym, ap, subst, ◌∙◌, ⊎_elim, arith}
 use Rattle.std.specs.Prelude.{IsTrue, IfOk, OnErr}
+use Rattle.std.specs.Result.{result_unwrap_or}
 use Rattle.std.proofs.Math.ListN.{get_or, get_or-append}
 use Rattle.std.proofs.lemmas.Bool.{cases_lt}
 use Rattle.std.proofs.lemmas.List.{get_or-take, get_or-drop, get_or_past, take_at, get_or-append_right, length-take, length-drop}
@@ -57,7 +58,7 @@ covered_is before entries pieces number block size start bytes begins long put =
         put before k (byte_at (content_of (get before.nodes number)) (start + k)) (omega (arith, below, long))
         ∙ ap (byte_after before entries pieces number) (let same : start + k ≡ block * size + (0 + k) = omega (arith, begins) in same)
 
--- ---- what a read leaves in bytes that were zero
+-- ---- what a read leaves in bytes, where those behind some place were zero
 
 pub in_front : (len k byte : ℕ) (front rest : List ℕ) → k < len → k < length front → get_or front k 0 ≡ byte → get_or (take len (front ++ rest)) k 0 ≡ byte
 in_front len k byte front rest taken inside is = get_or-take len (front ++ rest) k 0 taken ∙ get_or-append front rest 0 k inside ∙ is
@@ -67,12 +68,13 @@ zero_at zero k = refl
 zero_at (suc n) zero = refl
 zero_at (suc n) (suc k) = zero_at n k
 
-take_none : (n : ℕ) → ◌≡◌ {A = List ℕ} (take n []) []
-take_none zero = refl
-take_none (suc n) = refl
-
-pub all_zero : (n m : ℕ) (none items bytes : List ℕ) → none ≡ [] → bytes ≡ items → items ≡ take n none ++ replicate m 0 → (k : ℕ) → get_or bytes k 0 ≡ 0
-all_zero n m none items bytes empty same is k = ap (λ b. get_or b k 0) (same ∙ is ∙ ap (λ b. take n b ++ replicate m 0) empty ∙ ap (λ b. b ++ replicate m 0) (take_none n)) ∙ zero_at m k
+-- what a list that is cut off or made longer with zeros has behind its old elements
+pub zeros_behind : (n m held : ℕ) (memory items bytes : List ℕ) → held ≡ min (length memory) n → bytes ≡ items → items ≡ take n memory ++ replicate m 0
+    → (k : ℕ) → held ≤ k → get_or bytes k 0 ≡ 0
+zeros_behind n m held memory items bytes held_is same is k from =
+    ap (λ b. get_or b k 0) (same ∙ is)
+    ∙ get_or-append_right (take n memory) (replicate m 0) (length (take n memory)) k 0 refl (omega (arith, from, held_is, length-take n memory))
+    ∙ zero_at m (k - length (take n memory))
 
 module _ (image : DeviceImage) (number start : ℕ) where
   abbrev content : List ℕ
@@ -101,30 +103,50 @@ module _ (image : DeviceImage) (number start : ℕ) where
   zero_past : (k : ℕ) → content ≡ [] → 0 ≡ byte_at content (start + k)
   zero_past k empty = sym (ap (λ bytes. byte_at bytes (start + k)) empty)
 
-  module _ (old new : List ℕ) (zeros : (k : ℕ) → k < length old → get_or old k 0 ≡ 0) where
+  -- `new` is what a read leaves of `old`, and `after` has zero in place of what wasn't read below `held`
+  module _ (old new after : List ℕ) (held read : ℕ) (zeros : (k : ℕ) → held ≤ k → k < length old → get_or old k 0 ≡ 0)
+      (front : (k : ℕ) → k < length old → k < read → get_or after k 0 ≡ get_or new k 0)
+      (between : (k : ℕ) → k < length old → read ≤ k → k < held → get_or after k 0 ≡ 0)
+      (behind : (k : ℕ) → k < length old → held ≤ k → get_or after k 0 ≡ get_or new k 0) where
     abbrev part : List ℕ
     part = take (length old) (drop start content)
 
     part_long : length part ≡ min (length old) (length content - start)
     part_long = length-take (length old) (drop start content) ∙ ap (min (length old)) (length-drop start content)
 
-    read_there : (count : ℕ) → FileIsRead image number start old new count → (k : ℕ) → k < length old → get_or new k 0 ≡ byte_at content (start + k)
-    read_there count is k below = ap (λ bytes. get_or bytes k 0) is.bytes ∙ ⊎_elim
+    -- what wasn't read is zero
+    unread : ((k : ℕ) → read ≤ k → get_or new k 0 ≡ get_or old k 0) → (k : ℕ) → k < length old → read ≤ k → get_or after k 0 ≡ 0
+    unread kept k below from =
+        ⊎_elim (λ (less : k < held). between k below from less) (λ (more : held ≤ k). behind k below more ∙ kept k from ∙ zeros k more below) (cases_lt k held)
+
+    kept_behind : FileIsRead image number start old new read → (k : ℕ) → read ≤ k → get_or new k 0 ≡ get_or old k 0
+    kept_behind is k from =
+        ap (λ bytes. get_or bytes k 0) is.bytes
+        ∙ get_or-append_right part (drop read old) (length part) k 0 refl (omega (arith, from, is.count_is))
+        ∙ get_or-drop read old (k - length part) 0
+        ∙ ap (λ n. get_or old n 0) (let same : read + (k - length part) ≡ k = omega (arith, from, is.count_is) in same)
+
+    read_there : FileIsRead image number start old new read → (k : ℕ) → k < length old → get_or after k 0 ≡ byte_at content (start + k)
+    read_there is k below = ⊎_elim
         (λ (less : k < length part).
-        get_or-append part (drop count old) 0 k less ∙ get_or-take (length old) (drop start content) k 0 below ∙ get_or-drop start content k 0 ∙ sym (byte_is k))
+        front k below (omega (arith, less, is.count_is))
+        ∙ ap (λ bytes. get_or bytes k 0) is.bytes
+        ∙ get_or-append part (drop read old) 0 k less
+        ∙ get_or-take (length old) (drop start content) k 0 below
+        ∙ get_or-drop start content k 0
+        ∙ sym (byte_is k))
         (λ (past : length part ≤ k).
-        get_or-append_right part (drop count old) (length part) k 0 refl past
-        ∙ get_or-drop count old (k - length part) 0
-        ∙ ap (λ n. get_or old n 0) (let same : count + (k - length part) ≡ k = omega (arith, past, is.count_is) in same)
-        ∙ zeros k below
+        unread (kept_behind is) k below (omega (arith, past, is.count_is))
         ∙ sym (byte_is k ∙ get_or_past content (start + k) 0 (omega (arith, past, below, part_long))))
         (cases_lt k (length part))
 
-    pub read_or_zero : (r : Result ℕ ReadFault) → IfOk r (FileIsRead image number start old new)
+    pub read_or_clear : (r : Result ℕ ReadFault) → read ≡ result_unwrap_or r 0 → IfOk r (FileIsRead image number start old new)
         → ((r ≡ Err faults.NoSuchNode) ↔ (get image.heads number ≡ None))
         → ((r ≡ Err faults.IsDirectory) ↔ IsTrue (is_directory (get image.heads number)))
         → OnErr r (new ≡ old)
-        → (k : ℕ) → k < length old → get_or new k 0 ≡ byte_at content (start + k)
-    read_or_zero (Ok count) read no_node directory kept k below = read_there count read k below
-    read_or_zero (Err faults.NoSuchNode) read no_node directory kept k below = ap (λ bytes. get_or bytes k 0) kept ∙ zeros k below ∙ zero_past k (none_there (no_node.0 refl))
-    read_or_zero (Err faults.IsDirectory) read no_node directory kept k below = ap (λ bytes. get_or bytes k 0) kept ∙ zeros k below ∙ zero_past k (none_in_directory (directory.0 refl))
+        → (k : ℕ) → k < length old → get_or after k 0 ≡ byte_at content (start + k)
+    read_or_clear (Ok count) is done no_node directory kept k below = read_there (subst (FileIsRead image number start old new) (sym is) done) k below
+    read_or_clear (Err faults.NoSuchNode) is done no_node directory kept k below =
+        unread (λ j from. ap (λ bytes. get_or bytes j 0) kept) k below (omega (arith, is)) ∙ zero_past k (none_there (no_node.0 refl))
+    read_or_clear (Err faults.IsDirectory) is done no_node directory kept k below =
+        unread (λ j from. ap (λ bytes. get_or bytes j 0) kept) k below (omega (arith, is)) ∙ zero_past k (none_in_directory (directory.0 refl))

@@ -1,5 +1,5 @@
 //! A log's pieces, laid over the bytes of a file. The bytes of one block after a log.
-ghost use Rattle.std.specs.Prelude.{◌≡◌, ◌+◌, ◌≤◌, ◌∷◌, [], drop, length, slice_get, slice_index, EachIndex, IfSome, IsTrue, IfOk, vec_len};
+ghost use Rattle.std.specs.Prelude.{◌≡◌, ◌+◌, ◌<◌, ◌≤◌, ◌∷◌, [], drop, length, slice_get, slice_index, EachIndex, IfSome, IsTrue, IfOk, vec_len};
 ghost use Rattle.kfs_types.specs.Views.{piece_of, source_of};
 ghost use Rattle.kfs_model.specs.Limits.{block_size};
 ghost use Rattle.kfs_model.specs.Run.{byte_at, payload_of};
@@ -153,8 +153,38 @@ fn front_block(bytes: &[u8]) -> Option<&[u8]>
     Some(&bytes[..BLOCK_LEN])
 }
 
+/// Makes the bytes from `first` on and below `end` zero, if there are any.
+fn clear(bytes: &mut [u8], first: usize, end: usize)
+    requires { end ≤ length bytes.old }
+    ensures front { EachIndex bytes.new (λ k. k < first → slice_index bytes.new k ≡ slice_index bytes.old k) }
+    ensures zero { EachIndex bytes.new (λ k. first ≤ k → k < end → slice_index bytes.new k ≡ 0) }
+    ensures behind { EachIndex bytes.new (λ k. end ≤ k → slice_index bytes.new k ≡ slice_index bytes.old k) }
+{
+    if first < end {
+        bytes[first..end].fill(0);
+    }
+}
+
+/// Puts those of a file from position `start` on in place of the bytes; zero behind the file's end, and
+/// where there is no file. Condition: the bytes from `held` on are zero already.
+fn read_or_clear<A: Allocator>(
+    image: &Image<A>,
+    number: u32,
+    start: u64,
+    bytes: &mut [u8],
+    held: usize,
+)
+    requires held { held ≤ length bytes.old }
+    requires zero { EachIndex bytes.old (λ k. held ≤ k → slice_index bytes.old k ≡ 0) }
+    ensures { AreBytesOf (shown_tree image.now) number start bytes.new }
+{
+    // Where there is no file, no byte is read.
+    let read = read_file(image, number, start, bytes).unwrap_or(0);
+    clear(bytes, read, held);
+}
+
 /// `count` bytes of a file from position `start` on, in this memory; zero behind the file's end, and
-/// where there is no file.
+/// where there is no file. What the memory holds is read over, and made zero only where it isn't.
 fn bytes_before<A: Allocator>(
     memory: Vec<u8, A>,
     image: &Image<A>,
@@ -166,11 +196,9 @@ fn bytes_before<A: Allocator>(
     ensures bytes { IfOk result (λ bytes. AreBytesOf (shown_tree image.now) number start bytes.items) }
 {
     let mut bytes = memory;
-    bytes.clear();
+    let held = bytes.len().min(count);
     bytes.resize(count, 0)?;
-    // Bytes behind the file's end stay zero, and so do all of them where there is no file yet. So the
-    // answer doesn't matter.
-    let _ = read_file(image, number, start, bytes.as_mut_slice());
+    read_or_clear(image, number, start, bytes.as_mut_slice(), held);
     Ok(bytes)
 }
 
