@@ -1,5 +1,6 @@
 //! The fields of calls and answers: how each is read from bytes and written as bytes. A module for a
-//! field has `read` and `write`, as those of `kfs_entry::codec`. Numbers are big-endian.
+//! field has `read` and `write`, as those of `kfs_entry::codec`. Fields of answers are written in
+//! `answer_encoding`, which takes no memory. Numbers are big-endian.
 pub mod answer_tag;
 pub mod client_row;
 pub mod fault_row;

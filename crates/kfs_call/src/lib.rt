@@ -21,7 +21,7 @@ mod state_fault;
 
 pub use answer::{AnswerRow, FaultRow, Told};
 pub use answer_decoding::decode_answer;
-pub use answer_encoding::encode_answer;
+pub use answer_encoding::{ANSWER_LIMIT, encode_answer, spell_answer};
 pub use call::Call;
 pub use decoding::decode_call;
 pub use encoding::encode_call;

@@ -1,13 +1,11 @@
 //! A fault, as four numbers: code, reason, index and detail.
-ghost use Rattle.std.specs.Prelude.{◌≡◌, ◌≤◌, ◌++◌, length, drop, IfSome, OnOk};
+ghost use Rattle.std.specs.Prelude.{◌≡◌, ◌≤◌, length, drop, IfSome};
 ghost use Rattle.kfs_entry.specs.Codec.Reading.{seen};
-ghost use Rattle.kfs_call.specs.AnswerRow.{fault_bytes};
 ghost use Rattle.kfs_call.specs.AnswerReaders.{fault_read};
 ghost use Rattle.kfs_call.specs.AnswerViews.{fault_shown};
 
 use crate::answer::FaultRow;
 use kfs_entry::codec::{byte, number32, number64};
-use std::alloc::{AllocError, Allocator};
 
 /// The field at position `at`, and the position after it; none where no such field is there.
 #[tactic(auto, unfolding(crate::specs::AnswerReaders::fault_read))]
@@ -27,14 +25,4 @@ pub fn read(source: &[u8], at: usize) -> Option<(FaultRow, usize)>
         detail,
     };
     Some((fault, at))
-}
-
-/// Appends the bytes of the value. `Err` where memory runs out.
-pub fn write<A: Allocator>(out: &mut Vec<u8, A>, fault: &FaultRow) -> Result<(), AllocError>
-    ensures { OnOk result (out.new.items ≡ out.old.items ++ fault_bytes (fault_shown fault.now)) }
-{
-    out.push(fault.code)?;
-    out.push(fault.reason)?;
-    number64::write(out, &[], &fault.index)?;
-    number32::write(out, &[], &fault.detail)
 }
