@@ -1,10 +1,9 @@
-use Rattle.std.proofs.Common.{length, ap, arith, Bor}
+use Rattle.std.proofs.Common.{length, ap, arith}
 use Rattle.std.proofs.lemmas.List.{length-append}
 use Rattle.std.specs.declared.ops.Bound.TheVariants.{Excluded}
 use Rattle.kfs_model.specs.Tree.{name_order}
 use Rattle.kfs_image.specs.Encode.Rows.{entries_from}
 use Rattle.kfs_image.proofs.EncodeLemmas.Walks.{all_from}
-use Rattle.kfs_image.proofs.EncodeLemmas.Spelled.{counted_all}
 use Rattle.kfs_image.proofs.encode.names.count_names.Goals as goal
 
 pub loop-run-init : goal.loop-run-init
