@@ -10,7 +10,7 @@
  *
  * Memory.  All of it is taken by malloc and realloc, and freed by free. Where one of them answers NULL,
  *   the call answers KFS_NO_MEMORY, and each handle holds what it held, but for the verdict of kfs_land.
- *   No call keeps a pointer that it is given. A handle that is opened or loaded anew holds both desks for
+ *   No call keeps a pointer that it is given. A handle that is opened, loaded or restored anew holds both desks for
  *   a while: close it first where memory is short.
  *
  * Pointers.  None may be NULL, also where its length is 0. What is passed for a call must not overlap
@@ -73,7 +73,8 @@ enum {
     KFS_NAME_LIMIT = 255,        /* bytes of a name */
     KFS_GROUP_LIMIT = 16,        /* supplementary groups of a client */
     KFS_ENTRY_LIMIT = 4096,      /* entries of a log */
-    KFS_MOVE_LIMIT = 1024        /* moves of a call */
+    KFS_MOVE_LIMIT = 1024,       /* moves of a call */
+    KFS_ANSWER_LIMIT = 20        /* bytes of an answer of kfs_call */
 };
 
 /* Why something was refused. All zero: no fault. The lists of codes are below. */
@@ -155,13 +156,23 @@ enum {
     KFS_MAY_NO_READ = 6         /* for all names, and for bytes */
 };
 
-/* Of kfs_open and kfs_load. */
+/* Of bytes that are no call of kfs_call. */
+enum {
+    KFS_CALL_BAD_FIELD = 1, /* `index` fields were read, and no field that may follow them does; the tag is field 0 */
+    KFS_CALL_TRAILING = 2   /* a call was read, and bytes remain */
+};
+
+/* Of kfs_open, kfs_load and kfs_restore. */
 enum {
     KFS_OPEN_SIZES = 1,   /* a tier has over 65,536 blocks */
     KFS_OPEN_CLIENT = 2,  /* client `index`; reason: 1 over 16 groups, 2 a bad grant, 3 groups out of the list */
     KFS_OPEN_CLIENTS = 3, /* client `index`; reason: 1 its number is an earlier one's, 2 so is a number of its grant */
     KFS_OPEN_IMAGE = 4,   /* the bytes are no image; reason: 1 header, 2 row `index`, 3 bytes remain */
-    KFS_OPEN_RULE = 5     /* the image breaks rule `reason`, 1 to 10, at node `index` */
+    KFS_OPEN_RULE = 5,    /* the image breaks rule `reason`, 1 to 10, at node `index` */
+    KFS_OPEN_STATE = 6,   /* the bytes are no state; reason: 1 header, 2 row `index` of part `detail`: 0 clients,
+                           * 1 leases */
+    KFS_OPEN_LEASE = 7    /* lease `index`; reason: 1 no such client, 2 no such node, 3 its end isn't above the
+                           * moment, 4 it isn't behind the one before it, 5 it conflicts with an earlier one */
 };
 
 /* What kfs_may is asked, of a node. */
@@ -278,6 +289,14 @@ uint32_t kfs_load(struct kfs *handle, const uint8_t *bytes, size_t bytes_len,
                   const struct kfs_client *clients, size_t clients_len,
                   const uint32_t *groups, size_t groups_len, uint32_t limit, struct kfs_fault *fault);
 
+/* Has the handle hold a desk that goes on where another one stood: moment, clients, leases and image are those of the
+ * bytes, as kfs_state gives them. What it held is freed then. The docket is empty, and will have at most `limit` rows.
+ * KFS_REFUSED: `fault` has a KFS_OPEN_ code, of the first thing that is wrong: the state's bytes, its image's bytes, a
+ * rule of the image, a client by itself, a lease, clients together. KFS_REFUSED, KFS_NO_MEMORY: the handle holds what
+ * it held. */
+uint32_t kfs_restore(struct kfs *handle, const uint8_t *bytes, size_t bytes_len, uint32_t limit,
+                     struct kfs_fault *fault);
+
 /* Frees what the handle holds. It holds nothing then, and may be closed again. */
 void kfs_close(struct kfs *handle);
 
@@ -334,7 +353,18 @@ uint32_t kfs_tick(struct kfs *handle, uint64_t moment, struct kfs_act *reply);
 uint32_t kfs_migrate(struct kfs *handle, const struct kfs_move *moves, size_t moves_len,
                      struct kfs_act *reply);
 
-/* ---- look-ups. The desk or the view is as it was, and no row is added. Only kfs_save takes memory. */
+/* ---- calls as bytes */
+
+/* Makes the call that the bytes spell: a submission, or one of the four calls above. Its answer's bytes go into the
+ * front of the buffer, and `len` tells how many there are. docs/FORMATS.md has both formats: an answer has the row of
+ * the docket and the numbers of kfs_reply or kfs_act. KFS_DONE: the call is answered, and has its row. Of all others
+ * the desk and the buffer are as they were. KFS_SHORT: the buffer has fewer than KFS_ANSWER_LIMIT bytes, which `len`
+ * tells. KFS_REFUSED: the bytes are no call, and `fault` has a KFS_CALL_ code. KFS_FULL comes before KFS_SHORT, and
+ * that before KFS_REFUSED. */
+uint32_t kfs_call(struct kfs *handle, const uint8_t *bytes, size_t bytes_len,
+                  uint8_t *answer, size_t answer_len, size_t *len, struct kfs_fault *fault);
+
+/* ---- look-ups. The desk or the view is as it was, and no row is added. Only kfs_save and kfs_state take memory. */
 
 /* The header of a node, or KFS_NOTHING. */
 uint32_t kfs_node(struct kfs *handle, uint32_t number, struct kfs_node *node);
@@ -376,6 +406,11 @@ uint32_t kfs_docket_len(struct kfs *handle, uint32_t *count);
 /* Writes the image's bytes into the front of the buffer. `len` tells how many there are, also for
  * KFS_SHORT; so ask with a buffer of length 0 first. The docket and the leases aren't in them. */
 uint32_t kfs_save(struct kfs *handle, uint8_t *buffer, size_t buffer_len, size_t *len);
+
+/* Writes the bytes of the desk's state into the front of the buffer: moment, clients, leases and image, without the
+ * docket (docs/FORMATS.md). As kfs_save otherwise. kfs_restore makes a desk of them again. KFS_REFUSED: there are 2^32
+ * clients or leases or more, or a client has more groups than a client may have. */
+uint32_t kfs_state(struct kfs *handle, uint8_t *buffer, size_t buffer_len, size_t *len);
 
 /* ---- one handle for two */
 

@@ -2,6 +2,8 @@ pub mod Acted
 pub mod Images
 pub mod Names
 pub mod Refusals
+pub mod Restoring
 pub mod Sent
+pub mod Spelling
 pub mod Values
 pub mod LooseLemmas

@@ -21,7 +21,7 @@ use Rattle.kfs_c.specs.declared.opening.Unopened.TheVariants.{NoMemory, Refused}
 use Rattle.kfs_c.specs.Opening.{AreClientsRefused, AreRowsRefused, BreaksRule, IsNoImage, IsRowRefused, IsRowRight, IsRefusedAs, broken_as, unbegun_as, unread_as}
 
 -- what is said wherever a fault is told
-refused_by : (Says : FaultNumbers → Type 0) (why : Unopened) → ((told : FaultNumbers) → why ≡ Refused told → Says told) → IsRefusedAs Says why
+pub refused_by : (Says : FaultNumbers → Type 0) (why : Unopened) → ((told : FaultNumbers) → why ≡ Refused told → Says told) → IsRefusedAs Says why
 refused_by Says NoMemory each = tt
 refused_by Says (Refused told) each = each told refl
 

@@ -4,6 +4,8 @@ pub mod Holding
 pub mod Opening
 pub mod Permissions
 pub mod Reading
+pub mod Spelled
+pub mod States
 pub mod Told
 pub mod Loose
 pub mod Submission

@@ -1,5 +1,5 @@
-//! The numbers of faults of openings, calls for leases, moves and permissions, as C knows them. Each has its name in
-//! `include/kfs.h`, with `KFS_` before it. The reasons of an opening have none: the header says them in
+//! The numbers of faults of openings, calls as bytes, calls for leases, moves and permissions, as C knows them. Each has
+//! its name in `include/kfs.h`, with `KFS_` before it. The reasons of an opening have none: the header says them in
 //! words.
 
 // Of a call for leases.
@@ -85,6 +85,12 @@ pub(crate) const OPEN_IMAGE: u32 = 4;
 /// The image breaks the rule that is the reason.
 pub(crate) const OPEN_RULE: u32 = 5;
 
+/// The bytes are no state.
+pub(crate) const OPEN_STATE: u32 = 6;
+
+/// The lease with this index can't be one.
+pub(crate) const OPEN_LEASE: u32 = 7;
+
 // Reasons of `OPEN_CLIENT`.
 
 /// More groups than a client may have.
@@ -114,3 +120,36 @@ pub(crate) const IMAGE_ROW: u32 = 2;
 
 /// Bytes remain.
 pub(crate) const IMAGE_TRAILING: u32 = 3;
+
+// Reasons of `OPEN_STATE`.
+
+/// Its first bytes.
+pub(crate) const STATE_HEADER: u32 = 1;
+
+/// The row with this index, in the part that is told.
+pub(crate) const STATE_ROW: u32 = 2;
+
+// Reasons of `OPEN_LEASE`.
+
+/// No client has the number.
+pub(crate) const ROW_UNKNOWN_CLIENT: u32 = 1;
+
+/// No such node.
+pub(crate) const ROW_NO_SUCH_NODE: u32 = 2;
+
+/// The end isn't above the moment.
+pub(crate) const ROW_PAST: u32 = 3;
+
+/// It doesn't come behind the one before it.
+pub(crate) const ROW_NOT_ASCENDING: u32 = 4;
+
+/// It conflicts with an earlier one.
+pub(crate) const ROW_LEASE_HELD: u32 = 5;
+
+// Of a call as bytes.
+
+/// So many fields were read, and no field that may follow them does.
+pub(crate) const CALL_BAD_FIELD: u32 = 1;
+
+/// All was read, and bytes remain.
+pub(crate) const CALL_TRAILING: u32 = 2;

@@ -17,6 +17,8 @@ mod numbers;
 mod opening;
 mod permissions;
 mod slot;
+mod spelled;
+mod states;
 mod submission;
 mod told;
 mod views;

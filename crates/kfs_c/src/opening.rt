@@ -25,7 +25,7 @@ use kfs_shape::{ShapeFault, check_shape};
 use std::alloc::Global;
 
 /// Why no desk is opened.
-enum Unopened {
+pub(crate) enum Unopened {
     /// Memory was refused.
     NoMemory,
     /// This is the fault.
@@ -119,7 +119,7 @@ pub extern "C" fn kfs_load(
 }
 
 /// Tells why no desk is opened.
-fn tell(why: Unopened, fault: &mut FaultNumbers) -> u32
+pub(crate) fn tell(why: Unopened, fault: &mut FaultNumbers) -> u32
     ensures refused { result ≡ status.refused → why ≡ Unopened.Refused fault.new }
     ensures silent { result ≡ status.no_memory → fault.new ≡ fault.old }
     ensures only { (result ≡ status.no_memory) ⊎ (result ≡ status.refused) }
@@ -158,7 +158,7 @@ fn read_rows(alloc: Global, bytes: &[u8]) -> Result<RawImage<Global>, Unopened>
 }
 
 /// Why bytes are no image.
-fn unread(found: ImageFault) -> Unopened
+pub(crate) fn unread(found: ImageFault) -> Unopened
     ensures { result ≡ unread_as found }
 {
     match found {
@@ -170,7 +170,7 @@ fn unread(found: ImageFault) -> Unopened
 }
 
 /// Which rule an image breaks.
-fn broken(found: ShapeFault) -> Unopened
+pub(crate) fn broken(found: ShapeFault) -> Unopened
     ensures { result ≡ broken_as found }
 {
     match found {
@@ -256,7 +256,7 @@ fn begin(
 }
 
 /// The desk in a box.
-fn boxed(alloc: Global, desk: Desk<Global>) -> Result<Box<Held, Global>, Unopened>
+pub(crate) fn boxed(alloc: Global, desk: Desk<Global>) -> Result<Box<Held, Global>, Unopened>
     ensures held { IfOk result (λ held. held.value ≡ Held.Desk desk) }
     ensures memory { IfErr result (λ why. why ≡ Unopened.NoMemory) }
 {
@@ -267,7 +267,7 @@ fn boxed(alloc: Global, desk: Desk<Global>) -> Result<Box<Held, Global>, Unopene
 }
 
 /// Why a desk can't be begun.
-fn unbegun(why: BeginFault) -> Unopened
+pub(crate) fn unbegun(why: BeginFault) -> Unopened
     ensures { result ≡ unbegun_as why }
 {
     match why {
@@ -350,7 +350,7 @@ fn stray(index: usize) -> FaultNumbers
 }
 
 /// The fault of a client that can't be.
-fn misfit(index: usize, why: ClientFault) -> FaultNumbers
+pub(crate) fn misfit(index: usize, why: ClientFault) -> FaultNumbers
     ensures { result ≡ misfit_told index why }
 {
     match why {

@@ -16,9 +16,9 @@ const PART: usize = 1_024;
 
 /// Asks parts of the rows in several threads.
 #[derive(Drop)]
-pub(crate) struct InParts<'a, R: Threads + Sync> {
+pub struct InParts<'a, R: Threads + Sync> {
     /// The leave to start threads.
-    pub(crate) threads: &'a R,
+    pub threads: &'a R,
 }
 
 impl<'a, R: Threads + Sync> AskRows for InParts<'a, R> {

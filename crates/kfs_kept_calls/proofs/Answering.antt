@@ -24,7 +24,7 @@ use Rattle.kfs_call_desk.specs.declared.made.CallFault.{CallFault}
 use Rattle.kfs_kept_calls.specs.Group.{kept_bytes}
 use Rattle.kfs_kept_calls.specs.Leads.{Asks, Leads}
 use Rattle.kfs_kept_calls.specs.Making.{IsAppended, IsNext, IsToldIn}
-use Rattle.kfs_kept_calls.specs.Told.{IsActTold, IsTold, done_shown, done_told, refusal_told, reply_told, told_of}
+use Rattle.kfs_call_desk.specs.Told.{IsActTold, IsTold, done_shown, done_told, refusal_told, reply_told, told_of}
 
 -- what holds of what is there
 known : {X : Type 0} (o : Option X) (x : X) (P : X → Type 0) → o ≡ Some x → IfSome o P → P x

@@ -20,7 +20,7 @@ use Rattle.kfs_call.specs.Readers.{call_read}
 use Rattle.kfs_call.proofs.CallLaws.{call_layout}
 use Rattle.kfs_kept_calls.specs.Group.{CallAndAnswer}
 use Rattle.kfs_kept_calls.specs.Leads.{Asks, Leads}
-use Rattle.kfs_kept_calls.specs.Told.{told_of}
+use Rattle.kfs_call_desk.specs.Told.{told_of}
 
 abbrev found : Call × List ℕ → Result (Call × List ℕ) ℕ
 found x = Ok x

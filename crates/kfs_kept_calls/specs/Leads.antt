@@ -8,7 +8,7 @@ use Rattle.kfs_call.specs.AnswerRow.{told_fields}
 use Rattle.kfs_call.specs.Call.{Call, Submit, Lease, Drop, Tick, Migrate, IsCall, call_bytes}
 use Rattle.kfs_call.specs.Layout.{joined}
 use Rattle.kfs_kept_calls.specs.Group.{CallAndAnswer, IsGroup, group_bytes}
-use Rattle.kfs_kept_calls.specs.Told.{told_of}
+use Rattle.kfs_call_desk.specs.Told.{told_of}
 
 -- what the written call asks of the machine; of a submission log and plan are what their bytes decode to
 abbrev pub Asks : Call → machine.Call → Type 0

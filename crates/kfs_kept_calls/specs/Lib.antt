@@ -1,4 +1,3 @@
 pub mod Group
-pub mod Told
 pub mod Leads
 pub mod Making

@@ -9,7 +9,7 @@ use Rattle.kfs_call_desk.specs.declared.made.Called.{Called}
 use Rattle.kfs_call_desk.specs.declared.made.CallFault.{CallFault}
 use Rattle.kfs_kept_calls.specs.Group.{CallAndAnswer, IsKept, kept_bytes}
 use Rattle.kfs_kept_calls.specs.Leads.{Leads, GroupOf}
-use Rattle.kfs_kept_calls.specs.Told.{IsTold}
+use Rattle.kfs_call_desk.specs.Told.{IsTold}
 
 -- the calls one after another, each made on the desk that the earlier ones left: it is answered, or there is a
 -- reason why not, and the desk stays

@@ -19,7 +19,6 @@ mod again;
 mod fault;
 mod group;
 mod making;
-mod told;
 
 pub use again::make_again;
 pub use fault::AgainFault;

@@ -4,9 +4,8 @@ ghost use Rattle.kfs_call.specs.Call.{IsLong};
 ghost use Rattle.kfs_kept_calls.specs.Making.{AreMade, IsNext, IsToldIn};
 
 use crate::group::{KeptCall, push_call};
-use crate::told::told;
 use kfs_call::{AnswerRow, encode_answer};
-use kfs_call_desk::{CallFault, Called, call};
+use kfs_call_desk::{CallFault, Called, call, told};
 use kfs_desk::Desk;
 use std::alloc::{AllocError, Allocator};
 

@@ -5,4 +5,3 @@ pub mod ClientRows
 pub mod Encoded
 pub mod LeaseFaults
 pub mod ReadFaults
-pub mod SavedStates

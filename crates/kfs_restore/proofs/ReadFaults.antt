@@ -1,5 +1,7 @@
--- Why bytes were not read, as it is told.
-use Rattle.std.proofs.Common.{inl, inr, ℕ, List, Ok, Err, refl}
+-- Why bytes were not read, or make no image, as it is told.
+use Rattle.std.proofs.Common.{inl, inr, ℕ, List, Ok, Err, option_map, refl, ap}
+use Rattle.kfs_model.specs.Device.Finding.{finding_of}
+use Rattle.kfs_model.specs.Device.RawImage.{RawImage}
 use Rattle.kfs_model.specs.Device.Spelling as images
 use Rattle.kfs_model.specs.Device.Spelling.{ImageAnswer}
 use Rattle.kfs_image.specs.Codec.Answers.{OnImageRefusal}
@@ -10,8 +12,11 @@ use Rattle.kfs_call.specs.StateRows.{StateRows, StateAnswer}
 use Rattle.kfs_call.specs.StateViews.{OnStateAnswer}
 use Rattle.kfs_call.specs.declared.state_fault.StateFault.{StateFault}
 use Rattle.kfs_call.specs.declared.state_fault.StateFault.TheVariants as state_faults
-use Rattle.kfs_restore.specs.Restored.{BadImage, BadState, RestoreAnswer}
-use Rattle.kfs_restore.specs.Told.{OnRefused, image_told, state_told}
+use Rattle.kfs_shape.specs.Findings.{Names, finding_shown}
+use Rattle.kfs_shape.specs.declared.fault.ShapeFault.{ShapeFault}
+use Rattle.kfs_shape.specs.declared.fault.ShapeFault.TheVariants as shape_faults
+use Rattle.kfs_restore.specs.Restored.{BadImage, BadState, BrokenRule, Refused, RestoreAnswer, rule_refusal}
+use Rattle.kfs_restore.specs.Told.{IsRefusedFor, OnRefused, image_told, rule_told, state_told}
 
 module _ (source : List ℕ) where
   pub state_refused : {V : Type 0} (view : V → StateRows) (fault : StateFault) → OnStateAnswer view (StateAnswer source) (Err fault) → OnRefused (λ refusal. RestoreAnswer source (Err refusal)) (state_told fault)
@@ -24,3 +29,7 @@ module _ (source : List ℕ) where
   image_refused s is (image_faults.BadImageRow k) found = inr (BadImage (images.BadImageRow k), refl, (Ok s, is, (Err (images.BadImageRow k), found, refl)))
   image_refused s is image_faults.ImageTrailing found = inr (BadImage images.ImageTrailing, refl, (Ok s, is, (Err images.ImageTrailing, found, refl)))
   image_refused s is image_faults.OutOfMemory found = inl refl
+
+pub rule_refused : (raw : RawImage) (found : ShapeFault) → Names found (finding_of raw) → IsRefusedFor (rule_refusal raw) (rule_told found)
+rule_refused raw (shape_faults.Found finding) named = inr (Refused (BrokenRule (finding_shown finding)), refl, ap (λ o. option_map Refused (option_map BrokenRule o)) named)
+rule_refused raw shape_faults.OutOfMemory named = inl refl

@@ -1,4 +1,3 @@
 pub mod Saved
 pub mod Restored
 pub mod Told
-pub mod Laws

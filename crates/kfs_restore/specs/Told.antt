@@ -9,6 +9,8 @@ use Rattle.kfs_call.specs.declared.state_fault.StateFault.{StateFault}
 use Rattle.kfs_call.specs.declared.state_fault.StateFault.TheVariants as state_faults
 use Rattle.kfs_lease.specs.ShownLists.{row_fault_of}
 use Rattle.kfs_shape.specs.Findings.{finding_shown}
+use Rattle.kfs_shape.specs.declared.fault.ShapeFault.{ShapeFault}
+use Rattle.kfs_shape.specs.declared.fault.ShapeFault.TheVariants as shape_faults
 use Rattle.kfs_desk.specs.Machine.{Desk, opened_at}
 use Rattle.kfs_model.specs.Access.{Client}
 use Rattle.kfs_mode.specs.declared.client.ClientFault.{ClientFault}
@@ -17,7 +19,7 @@ use Rattle.kfs_restore.specs.Restored.{Refusal, Refused, client_refusal}
 use Rattle.kfs_restore.specs.declared.fault.RestoreFault.{RestoreFault}
 use Rattle.kfs_restore.specs.declared.fault.RestoreFault.TheVariants.{BadState, BadImage, BrokenRule, BadClient, BadLease, BadClients, OutOfMemory}
 
--- what the fault of a state's bytes is told as, and that of an image's
+-- what the fault of a state's bytes is told as, that of an image's, and that of its rows
 abbrev pub state_told : StateFault → RestoreFault
 state_told state_faults.BadHeader = BadState state_faults.BadHeader
 state_told (state_faults.BadRow part k) = BadState (state_faults.BadRow part k)
@@ -28,6 +30,10 @@ image_told image_faults.BadImageHeader = BadImage image_faults.BadImageHeader
 image_told (image_faults.BadImageRow k) = BadImage (image_faults.BadImageRow k)
 image_told image_faults.ImageTrailing = BadImage image_faults.ImageTrailing
 image_told image_faults.OutOfMemory = OutOfMemory
+
+abbrev pub rule_told : ShapeFault → RestoreFault
+rule_told (shape_faults.Found finding) = BrokenRule finding
+rule_told shape_faults.OutOfMemory = OutOfMemory
 
 -- why bytes are no state and no image; none where memory was refused
 abbrev pub state_fault_of : StateFault → Option states.StateFault

@@ -11,33 +11,56 @@ ghost use Rattle.kfs_desk.specs.Machine.{opened_at, state_at};
 ghost use Rattle.kfs_desk.specs.Opening.{begin_fault};
 ghost use Rattle.kfs_restore.specs.Restored as model;
 ghost use Rattle.kfs_restore.specs.Restored.{RestoreAnswer, begin_refusal, leases_at, leases_refusal, rule_refusal, verdict};
-ghost use Rattle.kfs_restore.specs.Told.{IsRefusedFor, OnRestored};
+ghost use Rattle.kfs_restore.specs.Told.{IsRefusedFor, OnRestored, rule_told};
 
 use crate::fault::RestoreFault;
 use crate::rows::{clients_of, leases_of};
 use kfs_call::{LeaseRow, StateRows, decode_state};
 use kfs_desk::{BeginFault, Desk};
-use kfs_fsck::{FsckFault, fsck};
 use kfs_image::{Image, RawImage, decode_image};
 use kfs_lease::{LeaseRowFault, Leases};
 use kfs_mode::Client;
+use kfs_shape::{AskRows, InTurn, ShapeFault, check_asking};
 use std::alloc::Allocator;
-use std::thread::Threads;
 
-/// The image of rows that break no rule.
-fn image_from<A: Allocator + Copy>(
-    rt: &(impl Threads + Sync),
+/// The image of rows, if they break no rule.
+#[tactic(auto, using(crate::proofs::ReadFaults::rule_refused))]
+fn image_from<A: Allocator + Copy, T: AskRows>(
+    ask: &T,
     alloc: A,
     raw: RawImage<A>,
 ) -> Result<Image<A>, RestoreFault>
+    requires { T.can_ask ask.now }
     ensures well_formed { IfOk result (λ image. IsWellFormed (raw_of raw)) }
     ensures image { IfOk result (λ image. image ≡ image_of (raw_of raw)) }
     ensures err { IfErr result (IsRefusedFor (rule_refusal (raw_of raw))) }
 {
-    match fsck(rt, alloc, raw) {
+    match check_asking(alloc, &raw, ask) {
+        Ok(()) => made_image(alloc, raw),
+        Err(found) => Err(broken(found)),
+    }
+}
+
+/// Which rule an image breaks.
+fn broken(found: ShapeFault) -> RestoreFault
+    ensures { result ≡ rule_told found }
+{
+    match found {
+        ShapeFault::Found(finding) => RestoreFault::BrokenRule(finding),
+        ShapeFault::OutOfMemory => RestoreFault::OutOfMemory,
+    }
+}
+
+/// The image of rows that break no rule.
+fn made_image<A: Allocator + Copy>(alloc: A, raw: RawImage<A>) -> Result<Image<A>, RestoreFault>
+    requires { IsWellFormed (raw_of raw) }
+    ensures well_formed { IfOk result (λ image. IsWellFormed (raw_of raw)) }
+    ensures image { IfOk result (λ image. image ≡ image_of (raw_of raw)) }
+    ensures err { IfErr result (IsRefusedFor (rule_refusal (raw_of raw))) }
+{
+    match Image::from_raw(alloc, raw) {
         Ok(image) => Ok(image),
-        Err(FsckFault::Found(finding)) => Err(RestoreFault::BrokenRule(finding)),
-        Err(FsckFault::OutOfMemory(_)) => Err(RestoreFault::OutOfMemory),
+        Err(_) => Err(RestoreFault::OutOfMemory),
     }
 }
 
@@ -87,45 +110,65 @@ fn desk_with<A: Allocator + Copy>(
 }
 
 /// A desk of the rows.
-fn desk_of<A: Allocator + Copy>(
-    rt: &(impl Threads + Sync),
+fn desk_of<A: Allocator + Copy, T: AskRows>(
+    ask: &T,
     alloc: A,
     rows: &StateRows<'_, A>,
     raw: RawImage<A>,
     limit: u32,
 ) -> Result<Desk<A>, RestoreFault>
+    requires { T.can_ask ask.now }
     ensures { OnRestored limit (λ answer. answer ≡ verdict (state_shown rows.now) (raw_of raw)) result }
 {
-    let image = image_from(rt, alloc, raw)?;
+    let image = image_from(ask, alloc, raw)?;
     let clients = clients_of(alloc, rows.clients.as_slice())?;
     let leases = leases_from(alloc, &image, &clients, rows.leases.as_slice(), rows.moment)?;
     desk_with(alloc, image, clients, leases, limit)
 }
 
-/// `restore`, with the first of its clauses.
-fn restore_in<A: Allocator + Copy>(
-    rt: &(impl Threads + Sync),
+/// `restore_asking`, with the first of its clauses.
+fn restore_in<A: Allocator + Copy, T: AskRows>(
+    ask: &T,
     alloc: A,
     bytes: &[u8],
     limit: u32,
 ) -> Result<Desk<A>, RestoreFault>
+    requires { T.can_ask ask.now }
     ensures { OnRestored limit (RestoreAnswer bytes.now) result }
 {
     let rows = decode_state(alloc, bytes)?;
     let raw = decode_image(alloc, rows.image)?;
-    desk_of(rt, alloc, &rows, raw, limit)
+    desk_of(ask, alloc, &rows, raw, limit)
+}
+
+/// `restore_alone`, where the tests of single nodes are asked by `ask`.
+#[doc(hidden)]
+pub fn restore_asking<A: Allocator + Copy, T: AskRows>(
+    ask: &T,
+    alloc: A,
+    bytes: &[u8],
+    limit: u32,
+) -> Result<Desk<A>, RestoreFault>
+    requires { T.can_ask ask.now }
+    // Soundness: the answer is right for these bytes.
+    ensures found { OnRestored limit (RestoreAnswer bytes.now) result }
+    // Completeness: the right answer is given, unless memory runs out.
+    ensures only { (answer : Result State model.RestoreFault) → RestoreAnswer bytes.now answer → OnRestored limit (λ given. given ≡ answer) result }
+{
+    restore_in(ask, alloc, bytes, limit)
 }
 
 /// A desk that goes on where another stood: its state is that of the bytes. The docket is empty, and will have at most
 /// `limit` rows.
 ///
-/// The image is let in as `fsck` lets one in, its rules of single nodes tested in several threads; the clients as
-/// `Client::new` and `Desk::begin` let them in; the leases as `Leases::from_rows` does. Refused with the first of
+/// The image is let in as `check_shape` and `Image::from_raw` let one in; the clients as `Client::new` and
+/// `Desk::begin` let them in; the leases as `Leases::from_rows` does. Refused with the first of
 /// these, in this order: the bytes are no state; its image's bytes are no image; the image breaks a rule; a client
 /// can't be one; a lease can't be one; a client can't be beside an earlier one. `OutOfMemory` where memory runs out.
 /// No count of the bytes reserves anything before the rows that it counts were read.
-pub fn restore<A: Allocator + Copy>(
-    rt: &(impl Threads + Sync),
+///
+/// `restore` of `kfs_restore_threads` does the same in several threads.
+pub fn restore_alone<A: Allocator + Copy>(
     alloc: A,
     bytes: &[u8],
     limit: u32,
@@ -135,5 +178,5 @@ pub fn restore<A: Allocator + Copy>(
     // Completeness: the right answer is given, unless memory runs out.
     ensures only { (answer : Result State model.RestoreFault) → RestoreAnswer bytes.now answer → OnRestored limit (λ given. given ≡ answer) result }
 {
-    restore_in(rt, alloc, bytes, limit)
+    restore_asking(&InTurn, alloc, bytes, limit)
 }

@@ -26,4 +26,4 @@ pub use kfs_image::{
 };
 pub use kfs_types::{Header, Kind, Name, NameRow, TierSizes};
 #[doc(hidden)]
-pub use node_test::{AskRows, NodeTest};
+pub use node_test::{AskRows, InTurn, NodeTest};

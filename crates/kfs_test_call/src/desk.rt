@@ -1,7 +1,7 @@
 //! Calls by bytes, and the same calls by the desk's own methods: the answers are the same.
 
-use kfs_call::FieldFault;
-use kfs_call_desk::{CallFault, Called, call};
+use kfs_call::{FieldFault, spell_answer};
+use kfs_call_desk::{CallFault, Called, answer_row, call};
 use kfs_desk::Desk;
 use kfs_image::{Image, TierSizes};
 use kfs_lease::LeaseKind;
@@ -60,6 +60,14 @@ fn are_same(by_bytes: Result<Called, CallFault>, by_method: Option<Called>) -> b
     }
 }
 
+/// Whether the answer has these bytes.
+fn is_spelled(answer: Result<Called, CallFault>, bytes: &[u8]) -> bool {
+    match answer {
+        Ok(called) => spell_answer(&answer_row(&called)).as_slice() == bytes,
+        Err(_) => false,
+    }
+}
+
 /// Whether the bytes aren't answered, for this reason, and the docket is as long as before.
 fn is_unanswered(
     alloc: Global,
@@ -96,4 +104,20 @@ fn bytes_and_methods_are_answered_alike(rt: HostRuntime) {
     assert!(&rt; is_unanswered(alloc, &mut one, crate::calls::TICK, full));
     let trailing = CallFault::BadCall(FieldFault::Trailing);
     assert!(&rt; is_unanswered(alloc, &mut one, b"\x05\x00\x00\x00", trailing));
+}
+
+#[test]
+fn answers_have_their_bytes(rt: HostRuntime) {
+    let alloc = rt.alloc();
+    let mut desk = opened(alloc).expect(&rt, "memory");
+    // the first row: a log with a bad header
+    let submit = by_bytes(alloc, &mut desk, crate::calls::SUBMIT);
+    let bad_log = b"\0\0\0\0\x02\0\x02\x01\0\0\0\0\0\0\0\0\0\0\0\0";
+    assert!(&rt; is_spelled(submit, bad_log));
+    // the second: client 7 has its lease on node 1
+    let lease = by_bytes(alloc, &mut desk, crate::calls::LEASE);
+    assert!(&rt; is_spelled(lease, b"\0\0\0\x01\x04\0\0\0\x01"));
+    // the third: it has none on node 258
+    let gone = by_bytes(alloc, &mut desk, crate::calls::DROP);
+    assert!(&rt; is_spelled(gone, b"\0\0\0\x02\x08\x08\0\0\0\0\0\0\0\0\0\0\0\0\0"));
 }

@@ -6,7 +6,8 @@ use kfs_desk::{Act, Desk, Reply};
 use kfs_image::{Image, TierSizes};
 use kfs_lease::LeaseKind;
 use kfs_mode::Client;
-use kfs_restore::{EncodeFault, RestoreFault, encode_desk, restore};
+use kfs_restore::{EncodeFault, RestoreFault, encode_desk, restore_alone};
+use kfs_restore_threads::restore;
 use kfs_test_support::vectors::{
     CREATE_LOG, CREATE_PLAN, EDITS_LOG, EDITS_PLAN, LETTERS_LOG, LETTERS_PLAN,
 };
@@ -121,6 +122,11 @@ pub fn restored<A: Allocator + Copy>(
     restore(rt, alloc, bytes, LIMIT)
 }
 
+/// A desk of the bytes, in one thread.
+fn restored_alone(alloc: Global, bytes: &[u8]) -> Result<Desk<Global>, RestoreFault> {
+    restore_alone(alloc, bytes, LIMIT)
+}
+
 /// Whether the desk is saved as these bytes.
 pub fn is_saved_as<A: Allocator + Copy>(alloc: A, desk: &Desk<A>, bytes: &[u8]) -> bool {
     match saved(alloc, desk) {
@@ -147,6 +153,10 @@ fn goes_on(rt: &(impl Threads + AllocGlobal + Sync), saved_after: usize) -> Opti
     let bytes = saved(rt.alloc(), &desk).ok()?;
     let mut other = restored(rt, rt.alloc(), &bytes).ok()?;
     if other.docket().len() != 0 || !is_saved_as(rt.alloc(), &other, &bytes) {
+        return Some(false);
+    }
+    let alone = restored_alone(rt.alloc(), &bytes).ok()?;
+    if !is_saved_as(rt.alloc(), &alone, &bytes) {
         return Some(false);
     }
     for step in RUN.iter().skip(saved_after) {

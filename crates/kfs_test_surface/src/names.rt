@@ -74,12 +74,13 @@ pub mod desk {
 /// Calls, answers and states as bytes.
 pub mod call {
     pub use kfs_call::{
-        AnswerRow, Call, ClientRow, FaultRow, FieldFault, LeaseKind, LeaseRow, Move, StateFault,
-        StateRows, Told, decode_answer, decode_call, decode_state, encode_answer, encode_call,
-        encode_state,
+        ANSWER_LIMIT, AnswerRow, Call, ClientRow, FaultRow, FieldFault, LeaseKind, LeaseRow, Move,
+        StateFault, StateRows, Told, decode_answer, decode_call, decode_state, encode_answer,
+        encode_call, encode_state, spell_answer,
     };
-    pub use kfs_call_desk::{CallFault, Called, call};
-    pub use kfs_restore::{EncodeFault, RestoreFault, encode_desk, restore};
+    pub use kfs_call_desk::{CallFault, Called, answer_row, call, told};
+    pub use kfs_restore::{EncodeFault, RestoreFault, encode_desk, restore_alone};
+    pub use kfs_restore_threads::restore;
 }
 
 /// Workers, scripts of their steps, and a desk that threads share.

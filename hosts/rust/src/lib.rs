@@ -40,6 +40,9 @@ impl std::error::Error for Error {}
 
 const SHORT: u32 = 5;
 
+/// The most bytes of an answer.
+const ANSWER_LIMIT: usize = 20;
+
 /// The status of a call as a result.
 fn checked(status: u32, fault: Fault) -> Result<(), Error> {
     match status {
@@ -161,6 +164,24 @@ impl Desk {
             )
         };
         checked(status, fault).map(|()| Desk(held))
+    }
+
+    /// A desk that goes on where another one stood, from the bytes of its state. The docket is empty.
+    pub fn restore(state: &[u8], limit: u32) -> Result<Desk, Error> {
+        let (mut held, mut fault) = (Held(Handle::EMPTY), Fault::default());
+        let status = unsafe { raw::kfs_restore(&mut held.0, state.as_ptr(), state.len(), limit, &mut fault) };
+        checked(status, fault).map(|()| Desk(held))
+    }
+
+    /// Makes the call that the bytes spell, and gives its answer's bytes. `Refused`: the bytes are no call.
+    pub fn call(&mut self, call: &[u8]) -> Result<Vec<u8>, Error> {
+        let (mut answer, mut len, mut fault) = ([0; ANSWER_LIMIT], 0, Fault::default());
+        let status = unsafe {
+            raw::kfs_call(
+                &mut self.0 .0, call.as_ptr(), call.len(), answer.as_mut_ptr(), answer.len(), &mut len, &mut fault,
+            )
+        };
+        checked(status, fault).map(|()| answer[..len].to_vec())
     }
 
     /// Judges a client's log and plan against the state now, and lands them.
@@ -289,6 +310,11 @@ impl Desk {
     /// The image as bytes.
     pub fn save(&mut self) -> Result<Vec<u8>, Error> {
         self.bytes(|handle, buffer, room, len| unsafe { raw::kfs_save(handle, buffer, room, len) })
+    }
+
+    /// The state as bytes: moment, clients, leases and image, without the docket.
+    pub fn state(&mut self) -> Result<Vec<u8>, Error> {
+        self.bytes(|handle, buffer, room, len| unsafe { raw::kfs_state(handle, buffer, room, len) })
     }
 
     /// The plan of a client's log, against the state now.

@@ -87,6 +87,9 @@ extern "C" {
         handle: *mut Handle, bytes: *const u8, bytes_len: usize, clients: *const ClientRow, clients_len: usize,
         groups: *const u32, groups_len: usize, limit: u32, fault: *mut Fault,
     ) -> u32;
+    pub fn kfs_restore(
+        handle: *mut Handle, bytes: *const u8, bytes_len: usize, limit: u32, fault: *mut Fault,
+    ) -> u32;
     pub fn kfs_close(handle: *mut Handle);
     pub fn kfs_submit(
         handle: *mut Handle, client: u32, log: *const u8, log_len: usize, plan: *const u8, plan_len: usize,
@@ -109,6 +112,10 @@ extern "C" {
     pub fn kfs_drop(handle: *mut Handle, client: u32, number: u32, reply: *mut Act) -> u32;
     pub fn kfs_tick(handle: *mut Handle, moment: u64, reply: *mut Act) -> u32;
     pub fn kfs_migrate(handle: *mut Handle, moves: *const Move, moves_len: usize, reply: *mut Act) -> u32;
+    pub fn kfs_call(
+        handle: *mut Handle, bytes: *const u8, bytes_len: usize, answer: *mut u8, answer_len: usize, len: *mut usize,
+        fault: *mut Fault,
+    ) -> u32;
     pub fn kfs_node(handle: *mut Handle, number: u32, node: *mut Node) -> u32;
     pub fn kfs_find(handle: *mut Handle, directory: u32, name: *const u8, name_len: usize, number: *mut u32) -> u32;
     pub fn kfs_may(view: *mut Handle, access: u32, client: u32, number: u32, fault: *mut Fault) -> u32;
@@ -123,4 +130,5 @@ extern "C" {
     pub fn kfs_free(handle: *mut Handle, tier: u8, count: *mut u32) -> u32;
     pub fn kfs_docket_len(handle: *mut Handle, count: *mut u32) -> u32;
     pub fn kfs_save(handle: *mut Handle, buffer: *mut u8, buffer_len: usize, len: *mut usize) -> u32;
+    pub fn kfs_state(handle: *mut Handle, buffer: *mut u8, buffer_len: usize, len: *mut usize) -> u32;
 }

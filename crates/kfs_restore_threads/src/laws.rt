@@ -1,7 +1,7 @@
 //! Laws of states as bytes. Each is the contract of a function that has nothing to do when it is called.
 ghost use Rattle.std.specs.Prelude.{◌≡◌, ℕ, List, None, Ok};
 ghost use Rattle.kfs_desk.specs.Opening.{begin_fault};
-ghost use Rattle.kfs_restore.specs.Laws.{SavedApart, SavedIsRestored, SavedOnce};
+ghost use Rattle.kfs_restore_threads.specs.Laws.{SavedApart, SavedIsRestored, SavedOnce};
 ghost use Rattle.kfs_restore.specs.Restored.{RestoreAnswer};
 ghost use Rattle.kfs_restore.specs.Saved.{IsSaved};
 
@@ -16,9 +16,9 @@ pub fn a_saved_state_comes_back()
     ensures apart { SavedApart }
 {}
 
-/// The bytes of a desk's state come to that state. So where a desk was saved, `restore` makes one that shows the same
+/// The bytes of a desk's state come to that state. So where a desk was saved, `restore_alone` makes one that shows the same
 /// state, and it can't refuse but for memory. The desk's clients are those that a desk can begin with, as
-/// `begin` and `restore` say of those that they were given.
+/// `begin` and `restore_alone` say of those that they were given.
 pub fn a_saved_desk_is_restored<A: Allocator + Copy>(desk: &Desk<A>)
     ensures { (bytes : List ℕ) → begin_fault desk.now.state.clients ≡ None → IsSaved desk.now.state bytes → RestoreAnswer bytes (Ok desk.now.state) }
 {

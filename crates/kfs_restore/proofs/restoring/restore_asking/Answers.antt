@@ -1,7 +1,7 @@
 use Rattle.std.proofs.Common.{◌≡◌, arith}
 use Rattle.kfs_restore.specs.Restored.{RestoreAnswer}
 use Rattle.kfs_restore.proofs.OneAnswer.{OnRestored-weaker, one_answer}
-use Rattle.kfs_restore.proofs.restoring.restore.Goals as goal
+use Rattle.kfs_restore.proofs.restoring.restore_asking.Goals as goal
 
 pub returns-clause-only : goal.returns-clause-only
 returns-clause-only g c = λ answer is.

@@ -1,5 +1,5 @@
-use Rattle.kfs_restore.proofs.SavedStates.{saved_apart, saved_is_restored, saved_once}
-use Rattle.kfs_restore.proofs.laws.a_saved_state_comes_back.Goals as goal
+use Rattle.kfs_restore_threads.proofs.SavedStates.{saved_apart, saved_is_restored, saved_once}
+use Rattle.kfs_restore_threads.proofs.laws.a_saved_state_comes_back.Goals as goal
 
 pub returns-clause-back : goal.returns-clause-back
 returns-clause-back c = saved_is_restored

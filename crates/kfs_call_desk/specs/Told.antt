@@ -11,12 +11,12 @@ use Rattle.kfs_model.specs.Run.{EntryFault}
 use Rattle.kfs_model.specs.Spelling as spelling
 use Rattle.kfs_call_desk.specs.declared.made.Called.{Called}
 use Rattle.kfs_call_desk.specs.declared.made.Called.TheVariants.{Submitted, Acted}
-use Rattle.kfs_desk.specs.Docket.{is_rejudged}
+use Rattle.kfs_desk.specs.Docket.{is_rejudged, position_of}
 use Rattle.kfs_desk.specs.Machine.{call_fault_of, reply_of}
 use Rattle.kfs_desk.specs.declared.history.answers.ActFault.{ActFault}
 use Rattle.kfs_desk.specs.declared.history.answers.Done.{Done as CodeDone}
 use Rattle.kfs_desk.specs.declared.history.answers.Done.TheVariants as dones
-use Rattle.kfs_call.specs.AnswerRow.{FaultRow, Told, Yes, No, NoRoom, Leased, Dropped, Moved, Ticked, LeaseRefused, MovesRefused}
+use Rattle.kfs_call.specs.AnswerRow.{AnswerRow, FaultRow, Told, Yes, No, NoRoom, Leased, Dropped, Moved, Ticked, LeaseRefused, MovesRefused}
 
 abbrev pub numbers : (code reason index detail : ℕ) → FaultRow
 numbers code reason index detail = record { code = code; reason = reason; index = index; detail = detail }
@@ -125,3 +125,12 @@ IsActTold (Err fault) told = IfSome (call_fault_of fault) (λ refusal. told ≡ 
 abbrev pub IsTold : Called → Told → Type 0
 IsTold (Submitted reply) told = is_rejudged reply ≡ false → IfSome (reply_of reply) (λ is. told ≡ reply_told is)
 IsTold (Acted reply) told = IsActTold reply.answer told
+
+-- the row of the docket that the call has
+abbrev pub docket_row : Called → ℕ
+docket_row (Submitted reply) = position_of reply
+docket_row (Acted reply) = reply.position
+
+-- this is the code's answer with its row of the docket
+abbrev pub IsAnswer : Called → AnswerRow → Type 0
+IsAnswer called answer = (answer.position ≡ docket_row called) × IsTold called answer.told

@@ -1,17 +1,17 @@
 //! What a call was answered, in the numbers of docs/FORMATS.md.
 ghost use Rattle.std.specs.Prelude.{◌≡◌, false, IfSome};
-ghost use Rattle.kfs_call.specs.AnswerViews.{fault_shown, told_shown};
-ghost use Rattle.kfs_desk.specs.Docket.{is_rejudged};
+ghost use Rattle.kfs_call.specs.AnswerViews.{answer_shown, fault_shown, told_shown};
+ghost use Rattle.kfs_desk.specs.Docket.{is_rejudged, position_of};
 ghost use Rattle.kfs_desk.specs.Machine.{call_fault_of, reply_of};
 ghost use Rattle.kfs_judge.specs.Check.Checks.{reason_of};
 ghost use Rattle.kfs_lease.specs.Faults as leases;
 ghost use Rattle.kfs_plan.specs.Judging.{refusal_of, row_fault_of, spelling_fault_of};
 ghost use Rattle.kfs_types.specs.Moves.Faults as moves;
-ghost use Rattle.kfs_kept_calls.specs.Told as answers;
-ghost use Rattle.kfs_kept_calls.specs.Told.{IsActTold, IsTold, fault_row, lease_row, move_row, plan_row, reason_row, refusal_told, reply_told, spelling_row};
+ghost use Rattle.kfs_call_desk.specs.Told as tables;
+ghost use Rattle.kfs_call_desk.specs.Told.{IsActTold, IsAnswer, IsTold, docket_row, fault_row, lease_row, move_row, plan_row, reason_row, refusal_told, reply_told, spelling_row};
 
-use kfs_call::{FaultRow, Told};
-use kfs_call_desk::Called;
+use crate::made::Called;
+use kfs_call::{AnswerRow, FaultRow, Told};
 use kfs_desk::{ActFault, ActReply, Done, MoveFault, Reply};
 use kfs_entry::SpellFault;
 use kfs_judge::Reason;
@@ -25,6 +25,37 @@ pub fn told(called: &Called) -> Told
     match called {
         Called::Submitted(reply) => reply_words(*reply),
         Called::Acted(reply) => act_words(*reply),
+    }
+}
+
+/// What a call was answered, with the row of the docket that it has. `spell_answer` and `encode_answer` of `kfs_call`
+/// write it as bytes.
+pub fn answer_row(called: &Called) -> AnswerRow
+    ensures { IsAnswer called.now (answer_shown result) }
+{
+    AnswerRow {
+        position: position(called),
+        told: told(called),
+    }
+}
+
+/// The row of the docket that the call has, from 0.
+fn position(called: &Called) -> u32
+    ensures { result ≡ docket_row called.now }
+{
+    match called {
+        Called::Submitted(reply) => reply_position(*reply),
+        Called::Acted(reply) => reply.position,
+    }
+}
+
+/// The row of the docket that a submission has.
+fn reply_position(reply: Reply) -> u32
+    ensures { result ≡ position_of reply }
+{
+    match reply {
+        Reply::Yes { position, .. } | Reply::No { position, .. } | Reply::NoRoom { position, .. } =>
+            position,
     }
 }
 
@@ -57,7 +88,7 @@ fn reply_words(reply: Reply) -> Told
 
 /// A fault with these numbers.
 fn numbers(code: u8, reason: u8, index: u64, detail: u32) -> FaultRow
-    ensures { fault_shown result ≡ answers.numbers code reason index detail }
+    ensures { fault_shown result ≡ tables.numbers code reason index detail }
 {
     FaultRow {
         code,

@@ -17,7 +17,7 @@ use Rattle.kfs_fsck.proofs.SavedImages.{lawful_image, read_again}
 use Rattle.kfs_call.specs.StateRows.{state_bytes}
 use Rattle.kfs_restore.specs.Saved.{IsSaved, lease_of_row, rows_of_state, spelled_lease}
 use Rattle.kfs_restore.specs.Restored.{BadClients, BadLease, BrokenRule, RestoreAnswer, begin_refusal, clients_refusal, leases_refusal, rule_refusal, shown_state, unless, verdict}
-use Rattle.kfs_restore.specs.Laws.{CanBegin, SavedApart, SavedIsRestored, SavedOnce}
+use Rattle.kfs_restore_threads.specs.Laws.{CanBegin, SavedApart, SavedIsRestored, SavedOnce}
 use Rattle.kfs_restore.proofs.ClientRows.{clients_pass}
 use Rattle.kfs_restore.proofs.OneAnswer.{one_answer, passes}
 

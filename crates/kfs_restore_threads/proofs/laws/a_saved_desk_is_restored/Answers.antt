@@ -1,5 +1,5 @@
-use Rattle.kfs_restore.proofs.SavedStates.{saved_is_restored}
-use Rattle.kfs_restore.proofs.laws.a_saved_desk_is_restored.Goals as goal
+use Rattle.kfs_restore_threads.proofs.SavedStates.{saved_is_restored}
+use Rattle.kfs_restore_threads.proofs.laws.a_saved_desk_is_restored.Goals as goal
 
 pub returns : goal.returns
 returns g c = λ bytes beside saved.

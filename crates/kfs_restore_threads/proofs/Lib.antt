@@ -1,0 +1,2 @@
+-- Lemmas on states that are saved and restored.
+pub mod SavedStates

@@ -1,0 +1,245 @@
+/* States and calls as bytes: a desk is saved and restored, and goes on by bytes as the other one goes on by structs.
+ * tools/hosts runs it: it says nothing and answers 0 where all is as it should be. */
+#include "kfs.h"
+#include <stdio.h>
+#include <stdlib.h>
+#include <string.h>
+
+/* Client 7 creates the file 5, named `a`, in the root directory, with mode 0644. */
+static const uint8_t create[] = "KLOG\1\0\0\0\7\0\1\1\0\0\0\1\1a\0\0\0\5\0\1\244";
+
+static int failed;
+
+static void expect(uint64_t said, uint64_t due, const char *what)
+{
+    if (said == due) return;
+    printf("%s: %llu, not %llu\n", what, (unsigned long long)said, (unsigned long long)due);
+    failed = 1;
+}
+
+/* ---- bytes, by docs/FORMATS.md */
+
+struct bytes {
+    uint8_t at[256];
+    size_t len;
+};
+
+static void put(struct bytes *out, uint64_t number, size_t width)
+{
+    while (width-- > 0) out->at[out->len++] = (uint8_t)(number >> (8 * width));
+}
+
+static void put_all(struct bytes *out, const uint8_t *from, size_t len)
+{
+    memcpy(out->at + out->len, from, len);
+    out->len += len;
+}
+
+static void put_fault(struct bytes *out, const struct kfs_fault *fault)
+{
+    put(out, fault->code, 1);
+    put(out, fault->reason, 1);
+    put(out, fault->index, 8);
+    put(out, fault->detail, 4);
+}
+
+/* An answer to a call that is no submission: its tag where it was done, the width of what was done, and its tag
+ * where it is refused. */
+static void put_act(struct bytes *out, const struct kfs_act *act, uint8_t done, size_t width, uint8_t refused)
+{
+    put(out, act->position, 4);
+    put(out, act->done ? done : refused, 1);
+    if (act->done) put(out, act->number, width);
+    else put_fault(out, &act->fault);
+}
+
+static void put_reply(struct bytes *out, const struct kfs_reply *reply)
+{
+    put(out, reply->position, 4);
+    put(out, reply->kind == KFS_YES ? 1 : reply->kind == KFS_NO ? 2 : 3, 1);
+    put(out, reply->rejudged, 1);
+    if (reply->kind == KFS_NO) put_fault(out, &reply->fault);
+    else put(out, reply->need, 8);
+    if (reply->kind == KFS_NO_ROOM) put(out, reply->free, 4);
+}
+
+/* ---- states */
+
+/* The desk's state as bytes, which the caller frees. */
+static uint8_t *state_of(struct kfs *desk, size_t *len)
+{
+    uint8_t none, *bytes;
+    expect(kfs_state(desk, &none, 0, len), KFS_SHORT, "the length of a state");
+    bytes = malloc(*len);
+    if (!bytes) exit(1);
+    expect(kfs_state(desk, bytes, *len, len), KFS_DONE, "a state");
+    return bytes;
+}
+
+static void check_same_state(struct kfs *one, struct kfs *other)
+{
+    size_t len, other_len;
+    uint8_t *bytes = state_of(one, &len), *others = state_of(other, &other_len);
+    expect(other_len, len, "the length of the other's state");
+    if (len == other_len) expect(memcmp(bytes, others, len) != 0, 0, "the other's state");
+    free(bytes);
+    free(others);
+}
+
+/* A state with a byte changed, and one that is cut short, are refused, and the handle keeps its desk. */
+static void check_refusals(struct kfs *desk, uint8_t *bytes, size_t len)
+{
+    struct kfs_fault fault = { 0 };
+    uint32_t rows = 99;
+    expect(kfs_restore(desk, bytes, 20, 9, &fault), KFS_REFUSED, "half a header");
+    expect(fault.code == KFS_OPEN_STATE && fault.reason == 1, 1, "its fault");
+    expect(kfs_restore(desk, bytes, 42, 9, &fault), KFS_REFUSED, "half a client");
+    expect(fault.code == KFS_OPEN_STATE && fault.reason == 2 && fault.index == 0 && fault.detail == 0, 1, "its fault");
+    bytes[50] ^= 1; /* the client of the lease: 7 becomes 6 */
+    expect(kfs_restore(desk, bytes, len, 9, &fault), KFS_REFUSED, "a lease of no client");
+    expect(fault.code == KFS_OPEN_LEASE && fault.reason == 1 && fault.index == 0, 1, "its fault");
+    bytes[50] ^= 1;
+    bytes[60] ^= 1; /* the first byte of the image */
+    expect(kfs_restore(desk, bytes, len, 9, &fault), KFS_REFUSED, "no image");
+    expect(fault.code == KFS_OPEN_IMAGE && fault.reason == 1, 1, "its fault");
+    bytes[60] ^= 1;
+    expect(kfs_docket_len(desk, &rows), KFS_DONE, "the desk that is kept");
+    expect(rows, 0, "its docket");
+}
+
+/* ---- calls */
+
+/* The desk answers the call's bytes with these bytes. */
+static void check_answer(struct kfs *desk, const struct bytes *call, const struct bytes *due, const char *what)
+{
+    uint8_t answer[KFS_ANSWER_LIMIT];
+    size_t len = 0;
+    struct kfs_fault fault = { 0 };
+    expect(kfs_call(desk, call->at, call->len, answer, sizeof answer, &len, &fault), KFS_DONE, what);
+    expect(len, due->len, "the length of the answer");
+    if (len == due->len) expect(memcmp(answer, due->at, len) != 0, 0, what);
+}
+
+/* One desk has calls by structs, and the other one the same calls as bytes. */
+static void check_calls(struct kfs *desk, struct kfs *other)
+{
+    static const uint8_t plan_of_no_rows[13] = { 75, 80, 76, 78, 1 };
+    static const struct kfs_move move = { .number = 5, .block = 0, .tier = 1, .place = 0 };
+    struct kfs_reply reply = { 0 };
+    struct kfs_act act = { 0 };
+    uint8_t plan[128];
+    size_t plan_len = 0;
+    for (int round = 0; round < 2; round++) {
+        /* a right plan, and then one with no rows, for a log that has landed already */
+        struct bytes call = { .len = 0 }, due = { .len = 0 };
+        if (round == 0)
+            expect(kfs_plan(desk, 7, create, sizeof create - 1, plan, sizeof plan, &plan_len), KFS_DONE, "a plan");
+        else
+            memcpy(plan, plan_of_no_rows, plan_len = sizeof plan_of_no_rows);
+        expect(kfs_submit(desk, 7, create, sizeof create - 1, plan, plan_len, &reply), KFS_DONE, "a submission");
+        put(&call, 1, 1);
+        put(&call, 7, 4);
+        put(&call, sizeof create - 1, 4);
+        put_all(&call, create, sizeof create - 1);
+        put(&call, plan_len, 4);
+        put_all(&call, plan, plan_len);
+        put_reply(&due, &reply);
+        check_answer(other, &call, &due, "a submission as bytes");
+    }
+    for (uint32_t client = 7; client < 9; client++) {
+        /* one lease that is given, and one of no client */
+        struct bytes call = { .len = 0 }, due = { .len = 0 };
+        expect(kfs_lease(desk, client, (const uint8_t *)"/a", 2, true, 200, &act), KFS_DONE, "a lease");
+        put(&call, 2, 1);
+        put(&call, client, 4);
+        put(&call, 1, 1);
+        put(&call, 200, 8);
+        put(&call, 2, 2);
+        put_all(&call, (const uint8_t *)"/a", 2);
+        put_act(&due, &act, 4, 4, 8);
+        check_answer(other, &call, &due, "a lease as bytes");
+    }
+    for (int round = 0; round < 2; round++) {
+        struct bytes call = { .len = 0 }, due = { .len = 0 };
+        expect(kfs_drop(desk, 7, 5, &act), KFS_DONE, "a drop");
+        put(&call, 3, 1);
+        put(&call, 7, 4);
+        put(&call, 5, 4);
+        put_act(&due, &act, 5, 4, 8);
+        check_answer(other, &call, &due, "a drop as bytes");
+    }
+    for (uint64_t moment = 60; moment > 58; moment--) {
+        struct bytes call = { .len = 0 }, due = { .len = 0 };
+        expect(kfs_tick(desk, moment, &act), KFS_DONE, "a tick");
+        put(&call, 4, 1);
+        put(&call, moment, 8);
+        put_act(&due, &act, 6, 8, 8);
+        check_answer(other, &call, &due, "a tick as bytes");
+    }
+    for (size_t count = 0; count < 2; count++) {
+        /* no move, and one of a block that isn't mapped */
+        struct bytes call = { .len = 0 }, due = { .len = 0 };
+        expect(kfs_migrate(desk, &move, count, &act), KFS_DONE, "moves");
+        put(&call, 5, 1);
+        put(&call, count, 2);
+        if (count > 0) {
+            put(&call, move.number, 4);
+            put(&call, move.block, 4);
+            put(&call, move.tier, 1);
+            put(&call, move.place, 4);
+        }
+        put_act(&due, &act, 7, 4, 9);
+        check_answer(other, &call, &due, "moves as bytes");
+    }
+}
+
+/* What is no call, and a short buffer, change nothing. A full docket is told first. */
+static void check_unanswered(struct kfs *desk)
+{
+    static const uint8_t tick[10] = { 4, 0, 0, 0, 0, 0, 0, 0, 99 };
+    uint8_t answer[KFS_ANSWER_LIMIT] = { 0 };
+    size_t len = 0;
+    uint32_t rows = 0;
+    struct kfs_fault fault = { 0 };
+    struct kfs none = { 0 };
+    expect(kfs_call(desk, tick, 9, answer, KFS_ANSWER_LIMIT - 1, &len, &fault), KFS_SHORT, "a short buffer");
+    expect(len, KFS_ANSWER_LIMIT, "the room that is needed");
+    expect(fault.code, 0, "no fault");
+    expect(kfs_call(desk, tick, 8, answer, sizeof answer, &len, &fault), KFS_REFUSED, "half a moment");
+    expect(fault.code == KFS_CALL_BAD_FIELD && fault.index == 1, 1, "its fault");
+    expect(kfs_call(desk, tick, 10, answer, sizeof answer, &len, &fault), KFS_REFUSED, "a byte more");
+    expect(fault.code == KFS_CALL_TRAILING && fault.index == 0, 1, "its fault");
+    expect(kfs_call(&none, tick, 9, answer, sizeof answer, &len, &fault), KFS_CLOSED, "a call of nothing");
+    expect(kfs_docket_len(desk, &rows), KFS_DONE, "the docket");
+    expect(rows, 10, "its rows");
+    expect(kfs_call(desk, tick, 9, answer, sizeof answer, &len, &fault), KFS_DONE, "the last row");
+    expect(kfs_call(desk, tick, 8, answer, 0, &len, &fault), KFS_FULL, "a full docket");
+}
+
+int main(void)
+{
+    static const struct kfs_client client = { .number = 7, .uid = 1000, .gid = 1000, .first = 2, .last = 99 };
+    static const uint32_t groups[1] = { 0 };
+    struct kfs desk = { 0 }, again = { 0 }, other = { 0 };
+    struct kfs_fault fault = { 0 };
+    struct kfs_act act = { 0 };
+    size_t len = 0;
+    uint8_t *bytes;
+    expect(kfs_open(&desk, 8, 8, 8, &client, 1, groups, 0, 2, &fault), KFS_DONE, "a desk");
+    expect(kfs_tick(&desk, 5, &act), KFS_DONE, "moment 5");
+    expect(kfs_lease(&desk, 7, (const uint8_t *)"/", 1, true, 100, &act), KFS_DONE, "a lease of the root");
+    bytes = state_of(&desk, &len);
+    /* both go on from the state, since the first desk's docket is full */
+    expect(kfs_restore(&again, bytes, len, 11, &fault), KFS_DONE, "a desk that goes on");
+    expect(kfs_restore(&other, bytes, len, 11, &fault), KFS_DONE, "another one");
+    check_same_state(&desk, &other);
+    check_refusals(&other, bytes, len);
+    check_calls(&again, &other);
+    check_same_state(&again, &other);
+    check_unanswered(&other);
+    free(bytes);
+    kfs_close(&desk);
+    kfs_close(&again);
+    kfs_close(&other);
+    return failed;
+}
