@@ -11,5 +11,6 @@ pub mod NameEdits
 pub mod NameOrder
 pub mod NextNames
 pub mod NodeEdits
+mod OneEdit
 mod RowsAfter
 pub mod SortedRows

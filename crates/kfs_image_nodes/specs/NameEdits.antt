@@ -1,5 +1,5 @@
 -- What overlays of names and counts show over the maps.
-use Rattle.std.specs.Prelude.{◌≡◌, ℕ, All, List, map}
+use Rattle.std.specs.Prelude.{◌≡◌, ℕ, All, List, Option, map}
 use Rattle.kfs_types.specs.declared.plan.NameRow.{NameRow}
 use Rattle.kfs_model.specs.Spelling.{IsName}
 use Rattle.kfs_model.specs.Table.{Table, numbers}
@@ -7,12 +7,13 @@ use Rattle.kfs_model.specs.Tree.{NameTable, name_order}
 use Rattle.kfs_map_pages.specs.Edits as numbered
 use Rattle.kfs_map_chunks.specs.declared.entries.KeyEdit.{KeyEdit}
 use Rattle.kfs_map_chunks.specs.Edits as keyed
-use Rattle.kfs_map_chunks.specs.Tables.{table}
+use Rattle.kfs_map_chunks.specs.Tables.{table, table_after}
 use Rattle.kfs_image_nodes.specs.declared.name_edits.NameEdits.{NameEdits}
 use Rattle.kfs_image_nodes.specs.declared.name_edits.Overlays.{Overlays}
+use Rattle.kfs_image_nodes.specs.declared.tallies.CountEdits.{CountEdits}
 use Rattle.kfs_image_nodes.specs.declared.tallies.Tallies.{Tallies}
 use Rattle.kfs_image_nodes.specs.Change.{led_to, renamed}
-use Rattle.kfs_image_nodes.specs.Indexes.{AreNames, IsCounted, AreInPages, by_node}
+use Rattle.kfs_image_nodes.specs.Indexes.{AreNames, IsCounted, AreInPages, ArePositive, CountsMoved, by_node, count_step, uplink_step}
 use Rattle.kfs_map_chunks.specs.Overlays.{overlaid}
 
 -- the edit of the names that a row makes
@@ -59,6 +60,21 @@ module _ {A : Type 0} where
   abbrev pub IsCountedAfter : (names : List ((ℕ × List ℕ) × ℕ)) (counts : Table numbers ℕ) (uplinks : List ((ℕ × ℕ) × ℕ)) → NameEdits A → Type 0
   IsCountedAfter names counts uplinks edits =
       AreInPages (table name_order names) → AreInPages (names_edited names edits) → IsCounted (names_edited names edits) (counts_edited counts edits) (ways_edited uplinks edits)
+
+  -- the edits of the counts ascend, and make them right for the names after these edits of the names
+  pub record AreCountEdits (names : List ((ℕ × List ℕ) × ℕ)) (counts : Table numbers ℕ) (uplinks : List ((ℕ × ℕ) × ℕ)) (renames : List (KeyEdit (ℕ × List ℕ) ℕ)) (edits : CountEdits A) : Type 0 where
+    pub counts_ascend : numbered.AreEdits edits.counts.items
+    pub uplinks_ascend : keyed.KeysAscend by_node.compare edits.uplinks.items
+    pub counted : AreInPages (table name_order names) → AreInPages (table_after (table name_order names) renames)
+        → IsCounted (table_after (table name_order names) renames) (numbered.rewritten counts edits.counts.items) (table by_node (keyed.rewritten by_node uplinks edits.uplinks.items))
+
+  -- the edits of the counts ascend, and count a name of the directory that led to `from` and now leads to `to`
+  pub record AreMovedBy (counts : Table numbers ℕ) (uplinks : List ((ℕ × ℕ) × ℕ)) (directory : ℕ) (from to : Option ℕ) (edits : CountEdits A) : Type 0 where
+    pub counts_ascend : numbered.AreEdits edits.counts.items
+    pub uplinks_ascend : keyed.KeysAscend by_node.compare edits.uplinks.items
+    pub positive : ArePositive (table by_node uplinks) → ArePositive (table by_node (keyed.rewritten by_node uplinks edits.uplinks.items))
+    pub counts_moved : CountsMoved counts (count_step directory from) (count_step directory to) (numbered.rewritten counts edits.counts.items)
+    pub uplinks_moved : CountsMoved (table by_node uplinks) (uplink_step directory from) (uplink_step directory to) (table by_node (keyed.rewritten by_node uplinks edits.uplinks.items))
 
   -- the edits ascend, and make of the names what the rows make, and of the counts what is right then
   pub record AreEditsOf (names : List ((ℕ × List ℕ) × ℕ)) (counts : Table numbers ℕ) (uplinks : List ((ℕ × ℕ) × ℕ)) (rows : List NameRow) (edits : NameEdits A) : Type 0 where

@@ -8,14 +8,14 @@ ghost use Rattle.kfs_map_chunks.specs.Edits.{KeysAscend};
 ghost use Rattle.kfs_map_chunks.specs.Tables.{table, table_after};
 ghost use Rattle.kfs_image_nodes.specs.Change.{led_to};
 ghost use Rattle.kfs_image_nodes.specs.Indexes.{AreNames, IsCounted, by_node};
-ghost use Rattle.kfs_image_nodes.specs.NameEdits.{names_seen, counts_seen, ways_seen, IsCountedOver, AreEditsOf, AreRowsInOrder};
+ghost use Rattle.kfs_image_nodes.specs.NameEdits.{names_seen, counts_seen, ways_seen, IsCountedOver, AreCountEdits, AreEditsOf, AreRowsInOrder};
 ghost use Rattle.std.specs.Ordering.{nat_cmp};
 ghost use Rattle.std.specs.BTreeMap.{IsOrdered};
 ghost use Rattle.kfs_image_nodes.specs.NodeEdits.{edits_from};
 ghost use Rattle.kfs_image_nodes.specs.Overlays.{SayOfNumbers};
 
 use crate::rows::{name_key, target_of};
-use crate::tallies::Tallies;
+use crate::tallies::{CountEdits, Tallies, edits_of_one};
 use kfs_map_chunks::{Chunks, KeyEdit, Near, Overlay, key_edits, push_above};
 use kfs_map_pages::{NumberEdit, Pages};
 use kfs_types::{GREATEST_NUMBER, Name, NameRow};
@@ -46,11 +46,11 @@ pub(crate) fn name_edits<A: Allocator + Clone>(
     let Some(edits) = rows_in_order(alloc, rows)? else {
         return edits_of_all(alloc, names, counts, uplinks, rows);
     };
-    let tallies = recounted(alloc, names, counts, uplinks, &edits)?;
+    let CountEdits { counts, uplinks } = count_edits(alloc, names, counts, uplinks, &edits)?;
     Ok(NameEdits {
         names: edits,
-        counts: number_edits(alloc, &tallies.counts)?,
-        uplinks: key_edits(alloc, &tallies.uplinks)?,
+        counts,
+        uplinks,
     })
 }
 
@@ -69,6 +69,31 @@ fn rows_in_order<A: Allocator + Clone>(
         }
     }
     Ok(Some(edits))
+}
+
+/// The changes of the counts that these edits of the names make. Most logs change one name.
+fn count_edits<A: Allocator + Clone>(
+    alloc: &A,
+    names: &Chunks<(u32, Name), u32, A>,
+    counts: &Pages<u64, A>,
+    uplinks: &Chunks<(u32, u32), u64, A>,
+    edits: &[KeyEdit<(u32, Name), u32>],
+) -> Result<CountEdits<A>, AllocError>
+    requires counted { IsCounted (table name_order names.now) counts.now (table by_node uplinks.now) }
+    requires ascend { KeysAscend name_order.compare edits.now }
+    ensures { IfOk result (AreCountEdits names.now counts.now uplinks.now edits.now) }
+{
+    if let [edit] = edits {
+        let from = names.get(&edit.key).copied();
+        if let Some(made) = edits_of_one(alloc, counts, uplinks, edit.key.0, from, edit.value)? {
+            return Ok(made);
+        }
+    }
+    let tallies = recounted(alloc, names, counts, uplinks, edits)?;
+    Ok(CountEdits {
+        counts: number_edits(alloc, &tallies.counts)?,
+        uplinks: key_edits(alloc, &tallies.uplinks)?,
+    })
 }
 
 /// The counts after these edits of the names. Each name comes once, so that it leads where the map has it

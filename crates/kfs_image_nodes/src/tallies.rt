@@ -1,15 +1,17 @@
 //! The counts of names while rows change them: how many names each directory has, and how many of them
 //! lead to each node.
-ghost use Rattle.std.specs.Prelude.{◌≡◌, ℕ, ◌+◌, ◌<◌, [], OnOk, IfOk, Some, unwrap_or, if◌then◌else◌};
+ghost use Rattle.std.specs.Prelude.{◌≡◌, ℕ, ◌+◌, ◌<◌, ◌∷◌, [], OnOk, IfOk, IfSome, Some, unwrap_or, if◌then◌else◌};
 ghost use Rattle.std.specs.Ordering.{eq_by_cmp, nat_cmp};
 ghost use Rattle.kfs_model.specs.Table.{get};
-ghost use Rattle.kfs_image_nodes.specs.Indexes.{CountsFewer, CountsMore, CountsMoved, count_at, count_step, uplink_step, ArePositive};
-ghost use Rattle.kfs_image_nodes.specs.NameEdits.{counts_seen, ways_seen};
+ghost use Rattle.kfs_map_chunks.specs.Tables.{table};
+ghost use Rattle.kfs_image_nodes.specs.Indexes.{CountsFewer, CountsMore, CountsMoved, count_at, count_step, uplink_step, by_node, ArePositive};
+ghost use Rattle.kfs_image_nodes.specs.NameEdits.{counts_seen, ways_seen, AreMovedBy};
 ghost use Rattle.kfs_image_nodes.specs.Overlays.{IsOneMore};
 ghost use Rattle.kfs_image_nodes.specs.SortedRows.{tallied_at};
 
-use kfs_map_chunks::{Chunks, Near, Overlay};
-use kfs_map_pages::Pages;
+use kfs_map_chunks::{Chunks, KeyEdit, Near, Overlay};
+use kfs_map_pages::{NumberEdit, Pages};
+use kfs_types::GREATEST_NUMBER;
 use std::alloc::{AllocError, Allocator};
 
 /// New counts, laid over the maps. The maps themselves stay as they are.
@@ -120,6 +122,78 @@ impl<A: Allocator + Clone> Tallies<A> {
             add_one(&mut self.uplinks, way, there)?;
         }
         Ok(())
+    }
+}
+
+/// New counts of directories' names and of uplinks, as edits. Each list ascends.
+#[derive(Drop)]
+pub(crate) struct CountEdits<A: Allocator> {
+    pub(crate) counts: Vec<NumberEdit<u64>, A>,
+    pub(crate) uplinks: Vec<KeyEdit<(u32, u32), u64>, A>,
+}
+
+impl<A: Allocator + Clone> CountEdits<A> {
+    /// One count of each kind.
+    fn of(
+        alloc: &A,
+        dir: u32,
+        names: Option<u64>,
+        way: (u32, u32),
+        ways: Option<u64>,
+    ) -> Result<CountEdits<A>, AllocError>
+        ensures counts { IfOk result (λ edits. edits.counts.items ≡ record { number = dir; value = names } ∷ []) }
+        ensures uplinks { IfOk result (λ edits. edits.uplinks.items ≡ record { key = way; value = ways } ∷ []) }
+    {
+        let mut counts = Vec::with_capacity(alloc.clone()?, 1)?;
+        counts.push(NumberEdit {
+            number: dir,
+            value: names,
+        })?;
+        let mut uplinks = Vec::with_capacity(alloc.clone()?, 1)?;
+        uplinks.push(KeyEdit {
+            key: way,
+            value: ways,
+        })?;
+        Ok(CountEdits { counts, uplinks })
+    }
+}
+
+/// The edits where a name of the directory led to `from` and now leads to `to`, and no other name changes.
+/// None where it leads to a node before and after, and where the directory's number is no node's.
+pub(crate) fn edits_of_one<A: Allocator + Clone>(
+    alloc: &A,
+    counts: &Pages<u64, A>,
+    uplinks: &Chunks<(u32, u32), u64, A>,
+    dir: u32,
+    from: Option<u32>,
+    to: Option<u32>,
+) -> Result<Option<CountEdits<A>>, AllocError>
+    requires counts { (n : ℕ) → from ≡ Some n → 0 < count_at counts.now dir }
+    requires uplinks { (n : ℕ) → from ≡ Some n → 0 < count_at (table by_node uplinks.now) (n, dir) }
+    ensures { IfOk result (λ made. IfSome made (AreMovedBy counts.now uplinks.now dir from to)) }
+{
+    if dir == 0 || GREATEST_NUMBER < dir {
+        return Ok(None);
+    }
+    let names = counts.get(dir).copied();
+    match (from, to) {
+        (None, Some(number)) => {
+            let ways = uplinks.get(&(number, dir)).copied();
+            let edits = CountEdits::of(
+                alloc,
+                dir,
+                one_more(names)?,
+                (number, dir),
+                one_more(ways)?,
+            )?;
+            Ok(Some(edits))
+        }
+        (Some(number), None) => {
+            let ways = uplinks.get(&(number, dir)).copied();
+            let edits = CountEdits::of(alloc, dir, one_less(names), (number, dir), one_less(ways))?;
+            Ok(Some(edits))
+        }
+        _ => Ok(None),
     }
 }
 
