@@ -1,5 +1,6 @@
 /* A small server over the desk: it reads lines, makes the calls of include/kfs.h, and writes one reply
- * for each line, as `kfs run` does (docs/FORMATS.md, "The command lines of kfs run").
+ * for each line, as `kfs run` does (docs/FORMATS.md, "The command lines of kfs run"). `call HEX` makes the call of these
+ * bytes, and is answered as its line is; `again LIMIT` saves the state and restores it.
  *
  * gcc -O2 -I include hosts/c/server.c libkfs_c.a liblibc_c.a -o server && ./server < LINES */
 #define _POSIX_C_SOURCE 200809L
@@ -510,6 +511,81 @@ static bool save_line(void)
     return true;
 }
 
+/* ---- calls as bytes, which `kfs run` has no lines for */
+
+static uint64_t take(const uint8_t **at, size_t width)
+{
+    uint64_t sum = 0;
+    while (width-- > 0) sum = sum << 8 | *(*at)++;
+    return sum;
+}
+
+static struct kfs_fault take_fault(const uint8_t **at)
+{
+    struct kfs_fault fault = { 0 };
+    fault.code = (uint32_t)take(at, 1);
+    fault.reason = (uint32_t)take(at, 1);
+    fault.index = take(at, 8);
+    fault.detail = (uint32_t)take(at, 4);
+    return fault;
+}
+
+/* What the bytes of an answer say, as the line of the same call is answered. Tags 1 to 3 are of submissions. */
+static void say_answer(const uint8_t *at)
+{
+    static const char *const done[] = { "leased", "dropped", "ticked", "moved" };
+    uint32_t position = (uint32_t)take(&at, 4), tag = (uint32_t)take(&at, 1);
+    struct kfs_reply reply = { .position = position };
+    struct kfs_act act = { .position = position, .done = tag < 8 };
+    if (tag > 3) {
+        if (act.done) act.number = take(&at, tag == 6 ? 8 : 4);
+        else act.fault = take_fault(&at);
+        say_act(&act, act.done ? done[tag - 4] : "", tag == 8 ? lease_faults : move_faults);
+        return;
+    }
+    reply.kind = tag == 1 ? KFS_YES : tag == 2 ? KFS_NO : KFS_NO_ROOM;
+    reply.rejudged = take(&at, 1);
+    if (tag == 2) reply.fault = take_fault(&at);
+    else reply.need = take(&at, 8);
+    if (tag == 3) reply.free = (uint32_t)take(&at, 4);
+    say_reply(&reply);
+}
+
+static bool call_line(void)
+{
+    uint8_t *call, answer[KFS_ANSWER_LIMIT];
+    size_t len, answer_len;
+    struct kfs_fault fault = { 0 };
+    if (words_len != 2 || !bytes(words[1], &call, &len)) return false;
+    uint32_t status = kfs_call(&server.desk, call, len, answer, sizeof answer, &answer_len, &fault);
+    if (status != KFS_REFUSED) {
+        if (is_done(status)) say_answer(answer);
+    } else if (fault.code == KFS_CALL_BAD_FIELD) {
+        printf("call BadField(%" PRIu64 ")\n", fault.index);
+    } else {
+        puts("call Trailing");
+    }
+    return true;
+}
+
+/* Goes on with a desk that is restored from the state's bytes, and a docket of so many rows. */
+static bool again_line(void)
+{
+    uint8_t none, *state;
+    size_t len;
+    uint32_t limit;
+    struct kfs_fault fault = { 0 };
+    if (words_len != 2 || !number32(words[1], &limit)) return false;
+    uint32_t status = kfs_state(&server.desk, &none, 0, &len);
+    if (status != KFS_SHORT) return is_done(status) || true;
+    state = malloc(len);
+    status = state ? kfs_state(&server.desk, state, len, &len) : KFS_NO_MEMORY;
+    if (status == KFS_DONE) status = kfs_restore(&server.desk, state, len, limit, &fault);
+    if (is_done(status)) puts("ok");
+    free(state);
+    return true;
+}
+
 static const struct {
     const char *name;
     bool begun; /* when the line may come */
@@ -520,7 +596,8 @@ static const struct {
     { "tick", true, tick_line },     { "move", true, move_line },     { "submit", true, submit_line },
     { "judge", true, judge_line },   { "land", true, land_line },     { "plan", true, plan_line },
     { "node", true, node_line },     { "list", true, list_line },     { "read", true, read_line },
-    { "docket", true, docket_line }, { "save", true, save_line },
+    { "docket", true, docket_line }, { "save", true, save_line },     { "call", true, call_line },
+    { "again", true, again_line },
 };
 
 static bool answer(char *line, size_t len)

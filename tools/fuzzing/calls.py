@@ -182,6 +182,15 @@ class CallSession(Session):
     OF_DESK = {name: Session.OF_DESK[name] for name in (b"docket", b"save")} | {b"call": call, b"again": again}
 
 
+class ServerSession(CallSession):
+    """The same through `kfs_call` of the library for C, which tells a full docket before it looks at the bytes."""
+
+    def call(self, words):
+        return "full" if self.docket == self.limit else super().call(words)
+
+    OF_DESK = CallSession.OF_DESK | {b"call": call}
+
+
 def kind_of(reply):
     """Returns in which way a call was answered."""
     words = reply.decode().split(" ")

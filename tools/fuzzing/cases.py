@@ -4,13 +4,13 @@ import os
 from typing import NamedTuple
 
 from . import words
-from .calls import CallMaker, CallSession
+from .calls import CallMaker, CallSession, ServerSession
 from .desk import LongLine, Session, Unknown
 from .scripts import Maker
 
 LINE_TOO_LONG = 3
 # The words whose inputs are sessions.
-SESSIONS = {"run": Session, "calls": CallSession}
+SESSIONS = {"run": Session, "calls": CallSession, "server": ServerSession}
 
 
 class Found(NamedTuple):
