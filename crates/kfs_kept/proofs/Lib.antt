@@ -1,0 +1,4 @@
+-- Lemmas on what files stand for.
+mod Meant
+mod Beside
+mod Stays
