@@ -2,3 +2,4 @@
 mod Meant
 mod Beside
 mod Stays
+mod OneState

@@ -1,6 +1,7 @@
 -- What a state and groups lead to.
-use Rattle.std.proofs.Common.{◌≡◌, inl, inr, ℕ, ◌+◌, ◌<◌, length, take, get_or, Vec, List, [], ◌∷◌, ◌++◌, Option, Some, None, Ok, refl, sym, ap, subst, ◌∙◌}
+use Rattle.std.proofs.Common.{◌≡◌, inl, inr, ℕ, ◌+◌, ◌<◌, ◌≤◌, length, take, drop, get_or, Vec, List, [], ◌∷◌, ◌++◌, Option, Some, None, Ok, refl, sym, ap, subst, ◌∙◌}
 use Rattle.std.specs.Prelude.{Result}
+use Rattle.std.proofs.lemmas.List.{drop_all, drop_more}
 use Rattle.kfs_model.specs.Judgement.{State}
 use Rattle.kfs_desk.specs.Machine.{Desk}
 use Rattle.kfs_call_desk.specs.declared.made.Called.{Called}
@@ -86,7 +87,26 @@ groups_so_far {A} s t u groups i d bytes lt is same so_far leads =
     let one : GroupLeads t (get_or groups i d).items u = subst (λ (l : List ℕ). GroupLeads t l u) (same ∙ ap (λ (v : Vec ℕ A). v.items) is) leads in
     subst (λ (gs : List (List ℕ)). GroupsLead s gs u) (sym (calls_so_far (λ (v : Vec ℕ A). v.items) groups i d lt)) (groups_more s t u (groups_of (take i groups)) (get_or groups i d).items so_far one)
 
+-- the next of the groups that are left, and the others
+pub next_group : {A : Type 0} (s t : State) (groups : List (Vec ℕ A)) (i : ℕ) (d : Vec ℕ A) (bytes : List ℕ) → i < length groups → d ≡ get_or groups i d → bytes ≡ d.items
+    → GroupsLead s (groups_of (drop i groups)) t → (u : State) × GroupLeads s bytes u × GroupsLead u (groups_of (drop (i + 1) groups)) t
+next_group {A} s t groups i d bytes lt is same lead =
+    let parts : groups_of (drop i groups) ≡ (get_or groups i d).items ∷ groups_of (drop (i + 1) groups) = ap groups_of (drop_more groups i d lt) in
+    let (u, leads, rest) = subst (λ (gs : List (List ℕ)). GroupsLead s gs t) parts lead in
+    (u, subst (λ (l : List ℕ). GroupLeads s l u) (sym (same ∙ ap (λ (v : Vec ℕ A). v.items) is)) leads, rest)
+
+-- none is left
+pub none_left : {A : Type 0} (s t : State) (groups : List (Vec ℕ A)) (i : ℕ) → length groups ≤ i → GroupsLead s (groups_of (drop i groups)) t → t ≡ s
+none_left {A} s t groups i le lead = subst (λ (gs : List (Vec ℕ A)). GroupsLead s (groups_of gs) t) (drop_all i groups le) lead
+
 pub found_stand : (new : Files) (bytes state : List ℕ) (made groups : List (List ℕ)) (first s : State) → meaning new ≡ Some (state, groups) → bytes ≡ state → made ≡ groups
     → RestoreAnswer bytes (Ok first) → GroupsLead first made s → StandFor new s
 found_stand new bytes state made groups first s is same alike restored lead =
     stand_for new (Some (state, groups)) s is (first, subst (λ (b : List ℕ). RestoreAnswer b (Ok first)) same restored, subst (λ (gs : List (List ℕ)). GroupsLead first gs s) alike lead)
+
+-- and what files stand for comes of what is found
+pub found_leads : (files : Files) (bytes state : List ℕ) (made groups : List (List ℕ)) (s : State) → meaning files ≡ Some (state, groups) → bytes ≡ state → made ≡ groups
+    → StandFor files s → (first : State) × RestoreAnswer bytes (Ok first) × GroupsLead first made s
+found_leads files bytes state made groups s is same alike stand =
+    let (first, restored, lead) = subst (λ (m : Meant). LeadTo m s) is stand in
+    (first, subst (λ (b : List ℕ). RestoreAnswer b (Ok first)) (sym same) restored, subst (λ (gs : List (List ℕ)). GroupsLead first gs s) (sym alike) lead)

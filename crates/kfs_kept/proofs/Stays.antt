@@ -1,5 +1,5 @@
 -- A disk to which nothing was done.
-use Rattle.std.proofs.Common.{◌≡◌, ℕ, sym, subst}
+use Rattle.std.proofs.Common.{ℕ, sym, subst}
 use Rattle.kfs_journal.specs.Disk.{Files, LeavesOnly, Only}
 use Rattle.kfs_journal.proofs.Moments.{started}
 

@@ -42,3 +42,14 @@ IsOfState (opening.Differs index) = Unit {0}
 IsOfState opening.DocketFull = Unit {0}
 IsOfState opening.OutOfMemory = Unit {0}
 IsOfState opening.Failed = ⊥
+
+-- the fault is of memory, of the docket's room or of the disk, and says nothing of what the files keep
+abbrev pub IsOutside : OpenFault → Type 0
+IsOutside opening.Empty = ⊥
+IsOutside opening.NotAJournal = ⊥
+IsOutside (opening.BadState fault) = ⊥
+IsOutside (opening.BadGroup index) = ⊥
+IsOutside (opening.Differs index) = ⊥
+IsOutside opening.DocketFull = Unit {0}
+IsOutside opening.OutOfMemory = Unit {0}
+IsOutside opening.Failed = Unit {0}

@@ -1,12 +1,13 @@
 //! A desk, and the journal that keeps it.
 ghost use Rattle.std.specs.Prelude.{◌≡◌, ◌⊎◌, ◌↔◌, [], None, OnOk, OnErr, IfErr, IfOk, IfSome, IsErrOf, IsFalse, IsNone, IsTrue, map};
+ghost use Rattle.kfs_model.specs.Judgement.{State};
 ghost use Rattle.kfs_desk.specs.Opening.{begin_fault};
 ghost use Rattle.kfs_journal.specs.Disk.{Files, LeavesOnly, Only};
 ghost use Rattle.kfs_journal.specs.Format.{meaning};
 ghost use Rattle.kfs_journal.specs.Journal.{AreEmpty};
 ghost use Rattle.kfs_kept_calls.specs.Making.{Runs};
 ghost use Rattle.kfs_restore.specs.Saved.{HasTooMany};
-ghost use Rattle.kfs_kept.specs.Faults.{IsWhy};
+ghost use Rattle.kfs_kept.specs.Faults.{IsOutside, IsWhy};
 ghost use Rattle.kfs_kept.specs.Keeping.{IsKept};
 ghost use Rattle.kfs_kept.specs.Standing.{MeanTheSame, StandFor, StandForAtMost, StandForBeforeOrAfter};
 
@@ -107,6 +108,7 @@ impl<A: Allocator + Copy, D: Disk + Drop> Kept<A, D> {
 
         // The desk is the one that the files stand for, and is kept.
         ensures found { IfOk result (λ kept. StandFor (D.seen disk) kept.desk.state) }
+        ensures only { (s : State) → StandFor (D.seen disk) s → IfOk result (λ kept. kept.desk.state ≡ s) }
         ensures kept { IfOk result (λ kept. IsKept D.seen D.may_leave kept) }
         ensures open { IfOk result (λ kept. IsTrue kept.is_open) }
 
@@ -114,6 +116,8 @@ impl<A: Allocator + Copy, D: Disk + Drop> Kept<A, D> {
         ensures any_moment { IfOk result (λ kept. LeavesOnly D.moment D.left_since disk kept.disk (MeanTheSame (D.seen disk))) }
         ensures any_moment_err { IfErr result (λ back. LeavesOnly D.moment D.left_since disk back.disk (MeanTheSame (D.seen disk))) }
 
+        // Files that stand for a state are opened, but for memory, the docket's room and the disk.
+        ensures due { (s : State) → StandFor (D.seen disk) s → IfErr result (λ back. IsOutside back.why) }
         ensures why { IfErr result (λ back. IsWhy (D.seen disk) (D.seen back.disk) (D.has_failed back.disk) back.why) }
     {
         match find(rt, alloc, &mut disk, first, second, limit) {

@@ -1,11 +1,12 @@
 //! What files keep, as a desk again.
 ghost use Rattle.std.specs.Prelude.{◌≡◌, Ok, Some, OnOk, IfErr, IfOk};
+ghost use Rattle.kfs_model.specs.Judgement.{State};
 ghost use Rattle.kfs_journal.specs.Disk.{LeavesOnly, Only};
 ghost use Rattle.kfs_journal.specs.Format.{meaning};
 ghost use Rattle.kfs_journal.specs.Journal.{IsSettled, groups_of, opened_pair};
 ghost use Rattle.kfs_kept_calls.specs.Leads.{GroupLeads, GroupsLead};
 ghost use Rattle.kfs_restore.specs.Restored.{RestoreAnswer};
-ghost use Rattle.kfs_kept.specs.Faults.{IsOfState, IsWhy};
+ghost use Rattle.kfs_kept.specs.Faults.{IsOfState, IsOutside, IsWhy};
 ghost use Rattle.kfs_kept.specs.Standing.{MeanTheSame, StandFor};
 
 use crate::fault::OpenFault;
@@ -36,6 +37,8 @@ pub fn find<A: Allocator + Copy, D: Disk>(
     requires durable { Only (D.seen disk.old) (D.may_leave disk.old) }
     ensures settled { IfOk result (λ found. IsSettled (D.seen disk.new) (D.may_leave disk.new) found.journal) }
     ensures stand { IfOk result (λ found. StandFor (D.seen disk.new) found.desk.state) }
+    ensures only { (s : State) → StandFor (D.seen disk.old) s → IfOk result (λ found. found.desk.state ≡ s) }
+    ensures due { (s : State) → StandFor (D.seen disk.old) s → IfErr result IsOutside }
     ensures same { OnOk result (MeanTheSame (D.seen disk.old) (D.seen disk.new)) }
     ensures any_moment { LeavesOnly D.moment D.left_since disk.old disk.new (MeanTheSame (D.seen disk.old)) }
     ensures why { IfErr result (IsWhy (D.seen disk.old) (D.seen disk.new) (D.has_failed disk.new)) }
@@ -60,6 +63,7 @@ fn read_journal<A: Allocator + Copy, D: Disk>(
     requires durable { Only (D.seen disk.old) (D.may_leave disk.old) }
     ensures settled { IfOk result (λ opened. IsSettled (D.seen disk.new) (D.may_leave disk.new) opened.journal) }
     ensures found { IfOk result (λ opened. meaning (D.seen disk.old) ≡ Some (opened_pair opened)) }
+    ensures due { (s : State) → StandFor (D.seen disk.old) s → IfErr result IsOutside }
     ensures same { OnOk result (MeanTheSame (D.seen disk.old) (D.seen disk.new)) }
     ensures any_moment { LeavesOnly D.moment D.left_since disk.old disk.new (MeanTheSame (D.seen disk.old)) }
     ensures why { IfErr result (IsWhy (D.seen disk.old) (D.seen disk.new) (D.has_failed disk.new)) }
@@ -81,12 +85,16 @@ fn desk_of<A: Allocator + Copy>(
     limit: u32,
 ) -> Result<Desk<A>, OpenFault>
     ensures restored { IfOk result (λ desk. RestoreAnswer state.now (Ok desk.state)) }
+    ensures only { (s : State) → RestoreAnswer state.now (Ok s) → IfOk result (λ desk. desk.state ≡ s) }
+    ensures due { (s : State) → RestoreAnswer state.now (Ok s) → IfErr result IsOutside }
     ensures why { IfErr result IsOfState }
 {
     match restore(rt, alloc, state, limit) {
         Ok(desk) => Ok(desk),
-        Err(RestoreFault::OutOfMemory) => Err(OpenFault::OutOfMemory),
-        Err(fault) => Err(OpenFault::BadState(fault)),
+        Err(fault) => match fault {
+            RestoreFault::OutOfMemory => Err(OpenFault::OutOfMemory),
+            why => Err(OpenFault::BadState(why)),
+        },
     }
 }
 
@@ -97,6 +105,8 @@ fn make_groups<A: Allocator + Copy, B: Allocator + Copy>(
     groups: &[Vec<u8, B>],
 ) -> Result<(), OpenFault>
     ensures lead { OnOk result (GroupsLead desk.old.state (groups_of groups.now) desk.new.state) }
+    ensures only { (t : State) → GroupsLead desk.old.state (groups_of groups.now) t → OnOk result (desk.new.state ≡ t) }
+    ensures due { (t : State) → GroupsLead desk.old.state (groups_of groups.now) t → IfErr result IsOutside }
     ensures why { IfErr result IsOfState }
 {
     for (index, group) in groups.iter().enumerate() {
@@ -113,6 +123,8 @@ fn make_group<A: Allocator + Copy, B: Allocator + Copy>(
     group: &[u8],
 ) -> Result<(), OpenFault>
     ensures leads { OnOk result (GroupLeads desk.old.state group.now desk.new.state) }
+    ensures only { (t : State) → GroupLeads desk.old.state group.now t → OnOk result (desk.new.state ≡ t) }
+    ensures due { (t : State) → GroupLeads desk.old.state group.now t → IfErr result IsOutside }
     ensures why { IfErr result IsOfState }
 {
     match make_again(alloc, desk, group) {
