@@ -238,4 +238,11 @@ impl<A: Allocator + Copy, D: Disk + Drop> Kept<A, D> {
     {
         &self.disk
     }
+
+    /// The disk, when the desk isn't needed any more.
+    pub fn into_disk(self) -> D
+        ensures { result ≡ self.disk }
+    {
+        self.disk
+    }
 }
