@@ -1,5 +1,5 @@
 mod Fields
-mod Moments
+pub mod Moments
 mod Records
 mod Heads
 mod Meaning

@@ -1,5 +1,5 @@
 -- A call that is answered leads on, and its answer is that of the machine.
-use Rattle.std.proofs.Common.{◌≡◌, ℕ, ◌≤◌, Bool, false, true, List, [], ◌∷◌, ◌++◌, length, drop, arith, length-append, Option, Some, None, Result, Ok, Err, refl, sym, ap, subst, ◌∙◌}
+use Rattle.std.proofs.Common.{◌≡◌, ℕ, ◌≤◌, Bool, false, true, List, [], ◌∷◌, ◌++◌, length, drop, arith, length-append, Option, Some, Result, Ok, Err, refl, sym, ap, subst, ◌∙◌}
 use Rattle.std.specs.Prelude.{IfSome, IfOk}
 use Rattle.kfs_model.specs.Judgement.{State, Submission, Reading, IsReadAs}
 use Rattle.kfs_model.specs.Machine as machine

@@ -1,11 +1,11 @@
 -- Bytes are those of one group: what is read stands there, and what stands there is read.
-use Rattle.std.proofs.Common.{◌≡◌, ℕ, ◌+◌, ◌^◌, ◌<◌, ◌≤◌, true, leb, List, ◌++◌, length, take, drop, Option, Some, None, refl, sym, ap, subst, ◌∙◌, append_assoc, arith}
+use Rattle.std.proofs.Common.{◌≡◌, ℕ, ◌+◌, ◌^◌, ◌<◌, ◌≤◌, true, leb, List, ◌++◌, length, take, drop, Some, refl, sym, ap, subst, ◌∙◌, append_assoc, arith}
 use Rattle.std.proofs.lemmas.Bool.{leb-true, le-leb}
 use Rattle.std.proofs.lemmas.List.{take_at, drop_at, take-append-drop, length-append, length-take}
 use Rattle.kfs_model.specs.Spelling.{IsBytes, number32}
 use Rattle.kfs_model.specs.Steps.{◌>>=◌}
 use Rattle.kfs_model.proofs.Reading.{number32_read, bytes_read}
-use Rattle.kfs_model.proofs.Fields.{IsBytes-drop, some_from, some_if, some_is, Stands, IsField, number32_field}
+use Rattle.kfs_model.proofs.Fields.{IsBytes-drop, some_from, some_if, some_is, Stands, number32_field}
 use Rattle.kfs_call.specs.Call.{long_bytes, IsLong}
 use Rattle.kfs_call.specs.Readers.{long_read}
 use Rattle.kfs_kept_calls.specs.Group.{CallAndAnswer, IsKept, kept_bytes, kept_read}

@@ -3,3 +3,4 @@ pub mod GroupLaws
 pub mod Answering
 pub mod OneMore
 pub mod OneCall
+pub mod OneLead

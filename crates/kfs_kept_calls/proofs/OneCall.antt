@@ -1,26 +1,15 @@
 -- Bytes are those of one call, which leads to one state with one answer.
-use Rattle.std.proofs.Common.{◌≡◌, ℕ, zero, suc, ◌+◌, ◌<◌, ◌≤◌, ◌^◌, List, [], ◌∷◌, ◌++◌, length, take, drop, get_or, map, ◌⊎◌, Option, Some, Result, Ok, Err, refl, sym, ap, subst, ◌∙◌, append_assoc, append-nil, arith, inl, inr}
+use Rattle.std.proofs.Common.{◌≡◌, ℕ, zero, suc, ◌<◌, ◌≤◌, ◌^◌, List, [], ◌∷◌, ◌++◌, length, take, drop, get_or, map, ◌⊎◌, Option, Some, Result, Ok, refl, sym, ap, subst, ◌∙◌, append_assoc, append-nil, arith, inl, inr}
 use Rattle.std.proofs.lemmas.Bool.{cases_lt}
 use Rattle.std.proofs.lemmas.List.{length-map}
-use Rattle.kfs_model.specs.Judgement.{State, Reading, IsReadAs, Submission}
-use Rattle.kfs_model.specs.Machine as machine
 use Rattle.kfs_model.specs.Migration.{Move}
-use Rattle.kfs_model.specs.Spelling.{IsBytes, byte, number16, number32}
+use Rattle.kfs_model.specs.Spelling.{number16}
 use Rattle.kfs_model.proofs.Fields.{number16_field}
 use Rattle.kfs_model.proofs.Reading.{number16_read}
-use Rattle.kfs_model.proofs.OneLogAnswer.{one_log_answer}
-use Rattle.kfs_model.proofs.OnePlanAnswer.{one_plan_answer}
-use Rattle.kfs_plan.specs.Judging.{submission_with}
-use Rattle.kfs_desk.specs.History.Runs.{made}
-use Rattle.kfs_desk.specs.Machine.{Desk}
-use Rattle.kfs_call.specs.AnswerRow.{told_fields}
-use Rattle.kfs_call.specs.Call.{Call, Submit, Lease, Drop, Tick, Migrate, IsCall, call_bytes, call_fields, CallAnswer, move_bytes}
-use Rattle.kfs_call.specs.Layout.{joined, BadField, Trailing, LacksField}
+use Rattle.kfs_call.specs.Call.{Call, Submit, Lease, Drop, Tick, Migrate, IsCall, call_bytes, call_fields, move_bytes}
+use Rattle.kfs_call.specs.Layout.{joined, LacksField}
 use Rattle.kfs_call.specs.Readers.{call_read}
 use Rattle.kfs_call.proofs.CallLaws.{call_layout}
-use Rattle.kfs_kept_calls.specs.Group.{CallAndAnswer}
-use Rattle.kfs_kept_calls.specs.Leads.{Asks, Leads}
-use Rattle.kfs_call_desk.specs.Told.{told_of}
 
 abbrev found : Call × List ℕ → Result (Call × List ℕ) ℕ
 found x = Ok x

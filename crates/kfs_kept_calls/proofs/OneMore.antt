@@ -3,7 +3,6 @@ use Rattle.std.proofs.Common.{◌≡◌, ℕ, ◌+◌, ◌<◌, length, take, ge
 use Rattle.std.proofs.lemmas.List.{map_push, take_more}
 use Rattle.kfs_model.specs.Judgement.{State}
 use Rattle.kfs_desk.specs.Machine.{Desk}
-use Rattle.kfs_call_desk.specs.Calls.{IsCalled, IsRefusal}
 use Rattle.kfs_call_desk.specs.declared.made.Called.{Called}
 use Rattle.kfs_call_desk.specs.declared.made.CallFault.{CallFault}
 use Rattle.kfs_kept_calls.specs.Group.{CallAndAnswer, IsGroup, IsKept, group_bytes, kept_bytes}

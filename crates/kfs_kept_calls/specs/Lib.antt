@@ -1,3 +1,4 @@
 pub mod Group
 pub mod Leads
 pub mod Making
+pub mod Again

@@ -1,5 +1,5 @@
 -- Calls that are made on a desk one after another, and the group that keeps them.
-use Rattle.std.specs.Prelude.{◌≡◌, ℕ, List, [], ◌∷◌, ◌++◌, map, Result, Ok, Err}
+use Rattle.std.specs.Prelude.{◌≡◌, ℕ, List, [], ◌∷◌, ◌++◌, Result, Ok, Err}
 use Rattle.kfs_model.specs.Judgement.{State}
 use Rattle.kfs_desk.specs.Machine.{Desk}
 use Rattle.kfs_call.specs.AnswerRow.{Told, told_fields}

@@ -1,5 +1,8 @@
 //! The calls of a group, made again.
-ghost use Rattle.std.specs.Prelude.{◌≡◌, OnOk};
+ghost use Rattle.std.specs.Prelude.{◌≡◌, IfErr, OnOk};
+ghost use Rattle.kfs_model.specs.Judgement.{State};
+ghost use Rattle.kfs_model.specs.Spelling.{IsBytes};
+ghost use Rattle.kfs_kept_calls.specs.Again.{WantsRoom};
 ghost use Rattle.kfs_kept_calls.specs.Group.{kept_shown};
 ghost use Rattle.kfs_kept_calls.specs.Leads.{GroupLeads, Leads};
 
@@ -21,6 +24,9 @@ pub fn make_again<A: Allocator + Copy, B: Allocator + Copy>(
     group: &[u8],
 ) -> Result<(), AgainFault>
     ensures lead { OnOk result (GroupLeads desk.old.state group.now desk.new.state) }
+    // A group leads to one state, and one that leads on is made, unless room is wanting.
+    ensures only { (t : State) → GroupLeads desk.old.state group.now t → OnOk result (desk.new.state ≡ t) }
+    ensures due { (t : State) → GroupLeads desk.old.state group.now t → IfErr result WantsRoom }
     ensures opening { desk.new.opening ≡ desk.old.opening }
 {
     let mut rest = group;
@@ -41,7 +47,9 @@ fn make_one<A: Allocator + Copy, B: Allocator + Copy>(
     desk: &mut Desk<A>,
     kept: &KeptCall<'_>,
 ) -> Result<(), AgainFault>
+    requires bytes { IsBytes kept.now.call.now }
     ensures leads { OnOk result (Leads desk.old.state (kept_shown kept.now) desk.new.state) }
+    ensures due { (t : State) → Leads desk.old.state (kept_shown kept.now) t → IfErr result WantsRoom }
     ensures opening { desk.new.opening ≡ desk.old.opening }
 {
     let called = match call(alloc, desk, kept.call) {

@@ -1,13 +1,15 @@
 -- The calls in front of the rest are made.
 use Rattle.std.proofs.Common.{◌≡◌, List, ◌++◌, length}
+use Rattle.kfs_model.specs.Judgement.{State}
 use Rattle.kfs_model.specs.Spelling.{IsBytes}
 use Rattle.kfs_kept_calls.specs.Group.{CallAndAnswer, IsGroup, group_bytes}
-use Rattle.kfs_kept_calls.specs.Leads.{LeadOn}
+use Rattle.kfs_kept_calls.specs.Leads.{GroupLeads, LeadOn}
 use Rattle.kfs_kept_calls.proofs.again.make_again.Given as goal
 
 abbrev pub invariant-calls : goal.invariant-calls
 invariant-calls g l = record {
   led : (done : List CallAndAnswer) × IsGroup done × (l.group ≡ group_bytes done ++ l.rest) × LeadOn l.initial.desk.state done l.desk.state;
+  due : (t : State) → GroupLeads l.initial.desk.state l.group t → GroupLeads l.desk.state l.rest t;
   opening : l.desk.opening ≡ l.initial.desk.opening;
   bytes : IsBytes l.rest;
 }

@@ -1,4 +1,4 @@
-use Rattle.std.proofs.Common.{◌≡◌, subst, sym}
+use Rattle.std.proofs.Common.{subst, sym}
 use Rattle.kfs_call.specs.AnswerViews.{told_shown}
 use Rattle.kfs_call.specs.Call.{IsLong}
 use Rattle.kfs_kept_calls.proofs.Answering.{row_told, told_short}

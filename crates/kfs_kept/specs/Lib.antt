@@ -1,0 +1,3 @@
+pub mod Standing
+pub mod Keeping
+pub mod Faults

@@ -1,0 +1,248 @@
+//! A desk, and the journal that keeps it.
+ghost use Rattle.std.specs.Prelude.{◌≡◌, ◌⊎◌, ◌↔◌, [], None, OnOk, OnErr, IfErr, IfOk, IfSome, IsErrOf, IsFalse, IsNone, IsTrue, map};
+ghost use Rattle.kfs_model.specs.Judgement.{State};
+ghost use Rattle.kfs_desk.specs.Opening.{begin_fault};
+ghost use Rattle.kfs_journal.specs.Disk.{Files, LeavesOnly, Only};
+ghost use Rattle.kfs_journal.specs.Format.{meaning};
+ghost use Rattle.kfs_journal.specs.Journal.{AreEmpty};
+ghost use Rattle.kfs_kept_calls.specs.Making.{Runs};
+ghost use Rattle.kfs_restore.specs.Saved.{HasTooMany};
+ghost use Rattle.kfs_kept.specs.Faults.{IsOutside, IsWhy};
+ghost use Rattle.kfs_kept.specs.Keeping.{IsKept};
+ghost use Rattle.kfs_kept.specs.Standing.{MeanTheSame, StandFor, StandForAtMost, StandForBeforeOrAfter};
+
+use crate::fault::{CallsFault, OpenFault, SaveFault};
+use crate::opening::find;
+use crate::saving::{begin_journal, state_of};
+use kfs_call_desk::{CallFault, Called};
+use kfs_desk::Desk;
+use kfs_journal::{Disk, Journal, JournalFault};
+use kfs_kept_calls::{Made, room_for};
+use std::alloc::Allocator;
+use std::thread::Threads;
+
+/// A desk, the journal that keeps it, and the disk that both files of the journal are on.
+///
+/// Once the disk has failed, or memory was refused behind a call that was made, the desk is closed: each call is
+/// refused with `Closed`. Drop it then, and open the files again.
+#[derive(Drop)]
+pub struct Kept<A: Allocator, D: Disk + Drop> {
+    desk: Desk<A>,
+    journal: Journal,
+    disk: D,
+    is_open: bool,
+}
+
+/// Why no journal is created. Desk and disk come back.
+#[derive(Drop)]
+pub struct CreateBack<A: Allocator, D: Disk + Drop> {
+    pub desk: Desk<A>,
+    pub disk: D,
+    pub why: SaveFault,
+}
+
+/// Why files aren't opened. The disk comes back.
+#[derive(Drop)]
+pub struct OpenBack<D: Disk + Drop> {
+    pub disk: D,
+    pub why: OpenFault,
+}
+
+impl<A: Allocator + Copy, D: Disk + Drop> Kept<A, D> {
+    /// Keeps a desk: its state is the first of a new journal on two empty files.
+    ///
+    /// Condition: the desk's clients can be beside each other, as those of each desk that was begun, resumed or
+    /// restored. `Err` hands desk and disk back. The disk is as it was then, unless it has failed.
+    pub fn create<B: Allocator + Copy>(
+        alloc: B,
+        desk: Desk<A>,
+        mut disk: D,
+    ) -> Result<Kept<A, D>, CreateBack<A, D>>
+        requires beside { begin_fault desk.state.clients ≡ None }
+        requires empty { AreEmpty (D.seen disk) }
+        requires durable { Only (D.seen disk) (D.may_leave disk) }
+
+        ensures kept { IfOk result (λ kept. IsKept D.seen D.may_leave kept) }
+        ensures open { IfOk result (λ kept. IsTrue kept.is_open) }
+        ensures desk { IfOk result (λ kept. kept.desk ≡ desk) }
+
+        // A crash at any moment leaves nothing, or the desk's state.
+        ensures any_moment { IfOk result (λ kept. LeavesOnly D.moment D.left_since disk kept.disk (StandForAtMost desk.state)) }
+        ensures any_moment_err { IfErr result (λ back. LeavesOnly D.moment D.left_since disk back.disk (StandForAtMost desk.state)) }
+
+        // It doesn't give up by itself.
+        ensures back { IfErr result (λ back. back.desk ≡ desk) }
+        ensures same { IfErr result (λ back. (back.why ≡ SaveFault.Failed) ⊎ (back.disk ≡ disk)) }
+        ensures failed { IfErr result (λ back. back.why ≡ SaveFault.Failed → IsTrue (D.has_failed back.disk)) }
+        ensures many { IfErr result (λ back. back.why ≡ SaveFault.TooMany → HasTooMany desk.state) }
+        ensures never_closed { IfErr result (λ back. back.why ≡ SaveFault.Closed → ⊥) }
+    {
+        match begin_journal(alloc, &desk, &mut disk) {
+            Ok(journal) => Ok(Kept {
+                desk,
+                journal,
+                disk,
+                is_open: true,
+            }),
+            Err(why) => Err(CreateBack { desk, disk, why }),
+        }
+    }
+
+    /// Opens files that a kept desk has left, whatever a crash cut short: the state that they keep is restored, and
+    /// the calls of their groups are made again, each with the answer that is kept. `first` and `second` are the
+    /// bytes of both.
+    ///
+    /// The docket has those calls then, and will have at most `limit` rows. `Err` hands the disk back; what its
+    /// files stand for is as it was.
+    pub fn open(
+        rt: &(impl Threads + Sync),
+        alloc: A,
+        mut disk: D,
+        first: &[u8],
+        second: &[u8],
+        limit: u32,
+    ) -> Result<Kept<A, D>, OpenBack<D>>
+        requires bytes { D.seen disk ≡ (first.now, second.now) }
+        // After a restart, what is there is what is on the disk.
+        requires durable { Only (D.seen disk) (D.may_leave disk) }
+
+        // The desk is the one that the files stand for, and is kept.
+        ensures found { IfOk result (λ kept. StandFor (D.seen disk) kept.desk.state) }
+        ensures only { (s : State) → StandFor (D.seen disk) s → IfOk result (λ kept. kept.desk.state ≡ s) }
+        ensures kept { IfOk result (λ kept. IsKept D.seen D.may_leave kept) }
+        ensures open { IfOk result (λ kept. IsTrue kept.is_open) }
+
+        // A crash at any moment leaves files that stand for what they did.
+        ensures any_moment { IfOk result (λ kept. LeavesOnly D.moment D.left_since disk kept.disk (MeanTheSame (D.seen disk))) }
+        ensures any_moment_err { IfErr result (λ back. LeavesOnly D.moment D.left_since disk back.disk (MeanTheSame (D.seen disk))) }
+
+        // Files that stand for a state are opened, but for memory, the docket's room and the disk.
+        ensures due { (s : State) → StandFor (D.seen disk) s → IfErr result (λ back. IsOutside back.why) }
+        ensures why { IfErr result (λ back. IsWhy (D.seen disk) (D.seen back.disk) (D.has_failed back.disk) back.why) }
+    {
+        match find(rt, alloc, &mut disk, first, second, limit) {
+            Ok(found) => Ok(Kept {
+                desk: found.desk,
+                journal: found.journal,
+                disk,
+                is_open: true,
+            }),
+            Err(why) => Err(OpenBack { disk, why }),
+        }
+    }
+
+    /// Makes calls one after another, keeps those that are answered as one group, and answers all of them.
+    ///
+    /// At `Ok` each crash leaves files from which the desk is opened as it is now. A call that isn't answered (its
+    /// bytes are no call, the docket is full, or memory is refused for it alone) is as if it hadn't been handed in.
+    pub fn call_all<B: Allocator + Copy>(
+        &mut self,
+        alloc: B,
+        calls: &[&[u8]],
+    ) -> Result<Vec<Result<Called, CallFault>, B>, CallsFault>
+        requires kept { IsKept D.seen D.may_leave self.old }
+        ensures kept { IsKept D.seen D.may_leave self.new }
+
+        // The answers are the machine's, and once they are handed out, each crash leaves the state after all calls.
+        ensures answers { IfOk result (λ answers. Runs self.old.desk (map (λ c. c.now) calls.now) answers.items self.new.desk) }
+        ensures open { OnOk result (IsTrue self.new.is_open) }
+        ensures acknowledged { OnOk result ((c : Files) → D.may_leave self.new.disk c → StandFor c self.new.desk.state) }
+
+        // At any moment: the state before all the calls or after all of them, none skipped and none in part.
+        ensures any_moment { IsTrue self.old.is_open → LeavesOnly D.moment D.left_since self.old.disk self.new.disk
+            (StandForBeforeOrAfter self.old.desk (map (λ c. c.now) calls.now)) }
+
+        ensures closed { IsErrOf result CallsFault.Closed ↔ IsFalse self.old.is_open }
+        ensures closed_same { IsErrOf result CallsFault.Closed → self.new ≡ self.old }
+        ensures long_same { IsErrOf result CallsFault.TooLong → self.new ≡ self.old }
+        ensures memory_same { IsErrOf result CallsFault.OutOfMemory → self.new ≡ self.old }
+        ensures not_kept { IsErrOf result CallsFault.NotKept → IsFalse self.new.is_open × (self.new.disk ≡ self.old.disk) }
+        ensures failed { IsErrOf result CallsFault.Failed → IsFalse self.new.is_open × IsTrue (D.has_failed self.new.disk) }
+    {
+        if !self.is_open {
+            return Err(CallsFault::Closed);
+        }
+        let Some(room) = room_for(calls) else {
+            return Err(CallsFault::TooLong);
+        };
+        let mut made = Made::with_room(alloc, calls.len(), room)?;
+        // The desk is open again once the group is kept.
+        self.is_open = false;
+        let Ok(()) = made.make_all(alloc, &mut self.desk, calls) else {
+            return Err(CallsFault::NotKept);
+        };
+        match self.journal.put(alloc, &mut self.disk, &made.group) {
+            Ok(()) => {
+                self.is_open = true;
+                Ok(made.answers)
+            }
+            Err(JournalFault::Failed) => Err(CallsFault::Failed),
+            Err(_) => Err(CallsFault::NotKept),
+        }
+    }
+
+    /// Begins the journal anew in the other file, with the desk's state and no group. Files grow with each group,
+    /// and so does the time to open them: this cuts both.
+    ///
+    /// The desk's state is written out in memory first. `Err` leaves all as it was, unless the disk has failed.
+    pub fn checkpoint<B: Allocator + Copy>(&mut self, alloc: B) -> Result<(), SaveFault>
+        requires kept { IsKept D.seen D.may_leave self.old }
+        ensures kept { IsKept D.seen D.may_leave self.new }
+        ensures desk { self.new.desk ≡ self.old.desk }
+        ensures open { OnOk result (IsTrue self.new.is_open) }
+        ensures short { OnOk result (IfSome (meaning (D.seen self.new.disk)) (λ kept. kept.1 ≡ [])) }
+
+        // A crash at any moment leaves the desk's state.
+        ensures any_moment { IsTrue self.old.is_open → LeavesOnly D.moment D.left_since self.old.disk self.new.disk (λ c. StandFor c self.old.desk.state) }
+
+        ensures closed { IsErrOf result SaveFault.Closed ↔ IsFalse self.old.is_open }
+        ensures many { IsErrOf result SaveFault.TooMany → HasTooMany self.old.desk.state }
+        ensures failed { IsErrOf result SaveFault.Failed → IsFalse self.new.is_open × IsTrue (D.has_failed self.new.disk) }
+        ensures same { IfErr result (λ why. (why ≡ SaveFault.Failed) ⊎ (self.new ≡ self.old)) }
+    {
+        if !self.is_open {
+            return Err(SaveFault::Closed);
+        }
+        let state = state_of(alloc, &self.desk)?;
+        match self.journal.change(alloc, &mut self.disk, &state) {
+            Ok(()) => Ok(()),
+            Err(JournalFault::OutOfMemory) => Err(SaveFault::OutOfMemory),
+            Err(JournalFault::Full) => Err(SaveFault::Full),
+            Err(JournalFault::Failed) => {
+                self.is_open = false;
+                Err(SaveFault::Failed)
+            }
+        }
+    }
+
+    /// The desk, to look at: what it shows is kept. None where it is closed.
+    pub fn desk(&self) -> Option<&Desk<A>>
+        requires kept { IsKept D.seen D.may_leave self.now }
+        ensures desk { IfSome result (λ desk. desk.now ≡ self.now.desk) }
+        ensures kept { IfSome result (λ desk. StandFor (D.seen self.now.disk) desk.now.state) }
+        ensures closed { IsNone result ↔ IsFalse self.now.is_open }
+    {
+        if self.is_open { Some(&self.desk) } else { None }
+    }
+
+    /// Whether the desk answers. Once it is closed, it stays so.
+    pub fn is_open(&self) -> bool
+        ensures { result ≡ self.now.is_open }
+    {
+        self.is_open
+    }
+
+    /// The disk, to look at.
+    pub fn disk(&self) -> &D
+        ensures { result.now ≡ self.now.disk }
+    {
+        &self.disk
+    }
+
+    /// The disk, when the desk isn't needed any more.
+    pub fn into_disk(self) -> D
+        ensures { result ≡ self.disk }
+    {
+        self.disk
+    }
+}
