@@ -7,6 +7,7 @@ use Rattle.kfs_model.specs.Lease as leases
 use Rattle.kfs_model.specs.Machine as machine
 use Rattle.kfs_model.specs.Machine.{CallAnswer, CallFault, Done, NotDone, Replied}
 use Rattle.kfs_model.specs.Migration as moves
+use Rattle.kfs_model.specs.Run.{EntryFault}
 use Rattle.kfs_model.specs.Spelling as spelling
 use Rattle.kfs_call_desk.specs.declared.made.Called.{Called}
 use Rattle.kfs_call_desk.specs.declared.made.Called.TheVariants.{Submitted, Acted}
