@@ -1,5 +1,5 @@
 -- What a state and groups lead to.
-use Rattle.std.proofs.Common.{◌≡◌, inl, inr, ℕ, ◌+◌, ◌<◌, ◌≤◌, length, take, drop, get_or, Vec, List, [], ◌∷◌, ◌++◌, Option, Some, None, Ok, refl, sym, ap, subst, ◌∙◌}
+use Rattle.std.proofs.Common.{◌≡◌, inl, inr, ℕ, ◌+◌, ◌<◌, ◌≤◌, ◌^◌, length, take, drop, get_or, Vec, List, [], ◌∷◌, ◌++◌, Option, Some, None, Ok, Err, refl, sym, ap, subst, ◌∙◌}
 use Rattle.std.specs.Prelude.{Result}
 use Rattle.std.proofs.lemmas.List.{drop_all, drop_more}
 use Rattle.kfs_model.specs.Judgement.{State}
@@ -9,11 +9,17 @@ use Rattle.kfs_call_desk.specs.declared.made.CallFault.{CallFault}
 use Rattle.kfs_journal.specs.Disk.{Files, Only}
 use Rattle.kfs_journal.specs.Format.{head_at, meaning, with_group}
 use Rattle.kfs_journal.specs.Journal.{AreEmpty, IsOneOf, groups_of}
+use Rattle.kfs_journal.specs.declared.fault.JournalFault.{JournalFault}
+use Rattle.kfs_journal.specs.declared.fault.JournalFault.TheVariants as journals
 use Rattle.kfs_restore.specs.Restored.{RestoreAnswer}
+use Rattle.kfs_restore.specs.Saved.{IsSaved}
+use Rattle.kfs_kept.specs.Faults.{of_journal}
+use Rattle.kfs_kept.specs.declared.fault.SaveFault.{SaveFault}
+use Rattle.kfs_kept.specs.declared.fault.SaveFault.TheVariants as saving
 use Rattle.kfs_kept_calls.specs.Leads.{GroupLeads, GroupsLead}
 use Rattle.kfs_kept_calls.specs.Making.{AreMade, answered}
 use Rattle.kfs_kept_calls.proofs.OneMore.{calls_so_far}
-use Rattle.kfs_kept.specs.Standing.{LeadTo, StandFor, StandForAtMost, StandForBeforeOrAfter}
+use Rattle.kfs_kept.specs.Standing.{HasLongBytes, LeadTo, StandFor, StandForAtMost, StandForBeforeOrAfter}
 
 abbrev Meant : Type 0
 Meant = Option (List ℕ × List (List ℕ))
@@ -32,6 +38,19 @@ with_group_leads (Some kept) s t group lead leads = (lead.0, lead.1, groups_more
 
 pub state_leads : (bytes : List ℕ) (s : State) → RestoreAnswer bytes (Ok s) → LeadTo (Some (bytes, [])) s
 state_leads bytes s restored = (s, restored, refl)
+
+-- bytes of a state that are too long
+pub long_bytes : (s : State) (bytes items : List ℕ) → IsSaved s items → bytes ≡ items → 2 ^ 60 ≤ length bytes → HasLongBytes s
+long_bytes s bytes items saved same long = (items, saved, subst (λ (l : List ℕ). 2 ^ 60 ≤ length l) same long)
+
+-- what is told as full is full
+pub full_of : (found : JournalFault) → of_journal found ≡ saving.Full → found ≡ journals.Full
+full_of journals.OutOfMemory is = cc
+full_of journals.Failed is = cc
+full_of journals.Full is = refl
+
+pub err_is : {T : Type 0} (one other : SaveFault) → ◌≡◌ {A = Result T SaveFault} (Err one) (Err other) → one ≡ other
+err_is one other is = cc
 
 -- ---- files
 

@@ -1,9 +1,10 @@
 -- What the files of a kept desk stand for.
-use Rattle.std.specs.Prelude.{◌≡◌, ◌⊎◌, ℕ, List, Option, Some, None, Result, Ok}
+use Rattle.std.specs.Prelude.{◌≡◌, ◌⊎◌, ◌≤◌, ◌^◌, ℕ, length, List, Option, Some, None, Result, Ok}
 use Rattle.kfs_model.specs.Judgement.{State}
 use Rattle.kfs_journal.specs.Disk.{Files}
 use Rattle.kfs_journal.specs.Format.{meaning}
 use Rattle.kfs_restore.specs.Restored.{RestoreAnswer}
+use Rattle.kfs_restore.specs.Saved.{IsSaved}
 use Rattle.kfs_kept_calls.specs.Leads.{GroupsLead}
 use Rattle.kfs_kept_calls.specs.Making.{Runs}
 use Rattle.kfs_desk.specs.Machine.{Desk}
@@ -14,6 +15,10 @@ use Rattle.kfs_call_desk.specs.declared.made.CallFault.{CallFault}
 abbrev pub LeadTo : Option (List ℕ × List (List ℕ)) → State → Type 0
 LeadTo None s = ⊥
 LeadTo (Some kept) s = (first : State) × RestoreAnswer kept.0 (Ok first) × GroupsLead first kept.1 s
+
+-- the state's bytes are more than a journal takes
+abbrev pub HasLongBytes : State → Type 0
+HasLongBytes s = (bytes : List ℕ) × IsSaved s bytes × (2 ^ 60 ≤ length bytes)
 
 -- the files stand for this state
 abbrev pub StandFor : Files → State → Type 0

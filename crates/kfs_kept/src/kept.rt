@@ -1,5 +1,5 @@
 //! A desk, and the journal that keeps it.
-ghost use Rattle.std.specs.Prelude.{◌≡◌, ◌⊎◌, ◌↔◌, [], None, OnOk, OnErr, IfErr, IfOk, IfSome, IsErrOf, IsFalse, IsNone, IsTrue, map};
+ghost use Rattle.std.specs.Prelude.{◌≡◌, ◌⊎◌, ◌≤◌, ◌+◌, ◌^◌, ◌↔◌, [], None, OnOk, OnErr, IfErr, IfOk, IfSome, IsErrOf, IsFalse, IsNone, IsTrue, map};
 ghost use Rattle.kfs_model.specs.Judgement.{State};
 ghost use Rattle.kfs_desk.specs.Opening.{begin_fault};
 ghost use Rattle.kfs_journal.specs.Disk.{Files, LeavesOnly, Only};
@@ -9,7 +9,7 @@ ghost use Rattle.kfs_kept_calls.specs.Making.{Runs};
 ghost use Rattle.kfs_restore.specs.Saved.{HasTooMany};
 ghost use Rattle.kfs_kept.specs.Faults.{IsOutside, IsWhy};
 ghost use Rattle.kfs_kept.specs.Keeping.{IsKept};
-ghost use Rattle.kfs_kept.specs.Standing.{MeanTheSame, StandFor, StandForAtMost, StandForBeforeOrAfter};
+ghost use Rattle.kfs_kept.specs.Standing.{HasLongBytes, MeanTheSame, StandFor, StandForAtMost, StandForBeforeOrAfter};
 
 use crate::fault::{CallsFault, OpenFault, SaveFault};
 use crate::opening::find;
@@ -75,6 +75,7 @@ impl<A: Allocator + Copy, D: Disk + Drop> Kept<A, D> {
         ensures same { IfErr result (λ back. (back.why ≡ SaveFault.Failed) ⊎ (back.disk ≡ disk)) }
         ensures failed { IfErr result (λ back. back.why ≡ SaveFault.Failed → IsTrue (D.has_failed back.disk)) }
         ensures many { IfErr result (λ back. back.why ≡ SaveFault.TooMany → HasTooMany desk.state) }
+        ensures full { IfErr result (λ back. back.why ≡ SaveFault.Full → HasLongBytes desk.state) }
         ensures never_closed { IfErr result (λ back. back.why ≡ SaveFault.Closed → ⊥) }
     {
         match begin_journal(alloc, &desk, &mut disk) {
@@ -197,6 +198,7 @@ impl<A: Allocator + Copy, D: Disk + Drop> Kept<A, D> {
 
         ensures closed { IsErrOf result SaveFault.Closed ↔ IsFalse self.old.is_open }
         ensures many { IsErrOf result SaveFault.TooMany → HasTooMany self.old.desk.state }
+        ensures full { IsErrOf result SaveFault.Full → HasLongBytes self.old.desk.state ⊎ (2 ^ 64 ≤ self.old.journal.number + 1) }
         ensures failed { IsErrOf result SaveFault.Failed → IsFalse self.new.is_open × IsTrue (D.has_failed self.new.disk) }
         ensures same { IfErr result (λ why. (why ≡ SaveFault.Failed) ⊎ (self.new ≡ self.old)) }
     {

@@ -4,8 +4,8 @@ ghost use Rattle.kfs_desk.specs.Opening.{begin_fault};
 ghost use Rattle.kfs_journal.specs.Disk.{LeavesOnly, Only};
 ghost use Rattle.kfs_journal.specs.Journal.{AreEmpty, IsSettled};
 ghost use Rattle.kfs_restore.specs.Restored.{RestoreAnswer};
-ghost use Rattle.kfs_restore.specs.Saved.{HasTooMany};
-ghost use Rattle.kfs_kept.specs.Standing.{StandFor, StandForAtMost};
+ghost use Rattle.kfs_restore.specs.Saved.{HasTooMany, IsSaved};
+ghost use Rattle.kfs_kept.specs.Standing.{HasLongBytes, StandFor, StandForAtMost};
 
 use crate::fault::SaveFault;
 use kfs_desk::Desk;
@@ -21,6 +21,7 @@ pub fn state_of<A: Allocator + Copy, B: Allocator + Copy>(
 ) -> Result<Vec<u8, B>, EncodeFault>
     requires beside { begin_fault desk.now.state.clients ≡ None }
     ensures state { IfOk result (λ bytes. RestoreAnswer bytes.items (Ok desk.now.state)) }
+    ensures saved { IfOk result (λ bytes. IsSaved desk.now.state bytes.items) }
     ensures refused { IfErr result (λ fault. (fault ≡ EncodeFault.OutOfMemory) ⊎ ((fault ≡ EncodeFault.TooMany) × HasTooMany desk.now.state)) }
 {
     a_saved_desk_is_restored(desk);
@@ -42,6 +43,7 @@ pub fn begin_journal<A: Allocator + Copy, B: Allocator + Copy, D: Disk>(
     ensures any_moment { LeavesOnly D.moment D.left_since disk.old disk.new (StandForAtMost desk.now.state) }
     ensures open { IsErrOf result SaveFault.Closed → ⊥ }
     ensures many { IsErrOf result SaveFault.TooMany → HasTooMany desk.now.state }
+    ensures full { IsErrOf result SaveFault.Full → HasLongBytes desk.now.state }
     ensures failed { IsErrOf result SaveFault.Failed → IsTrue (D.has_failed disk.new) }
     ensures same { IfErr result (λ why. (why ≡ SaveFault.Failed) ⊎ (disk.new ≡ disk.old)) }
 {

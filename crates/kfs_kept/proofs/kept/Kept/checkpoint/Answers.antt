@@ -1,7 +1,7 @@
-use Rattle.std.proofs.Common.{rules, IsTrue}
+use Rattle.std.proofs.Common.{rules, IsTrue, Err, ap, inl, inr, ⊎_elim}
 use Rattle.kfs_journal.proofs.Moments.{weaker}
 use Rattle.kfs_kept.proofs.Beside.{stand_beside}
-use Rattle.kfs_kept.proofs.Meant.{renewed, state_stand}
+use Rattle.kfs_kept.proofs.Meant.{long_bytes, renewed, state_stand}
 use Rattle.kfs_kept.proofs.kept.Kept.checkpoint.Goals as goal
 
 pub state_of-requires : goal.state_of-requires
@@ -28,3 +28,9 @@ returns-in-Err-Full-clause-any_moment g c = λ is_open.
 pub returns-clause-any_moment : goal.returns-clause-any_moment
 returns-clause-any_moment g c = λ is_open.
     weaker g.D.Disk.moment g.D.Disk.left_since c.args.self.now.disk c.change.new.disk _ _ (λ f one. renewed _ _ _ c.in_ok-state.ensures.state c.deref.ensures.value _ (c.requires.kept is_open).stand f one) c.change.ensures.any_moment
+
+pub returns-in-Err-Full-clause-full : goal.returns-in-Err-Full-clause-full
+returns-in-Err-Full-clause-full g c = λ _. ⊎_elim
+    (λ long. inl (long_bytes _ _ c.in_ok-state.state.items c.in_ok-state.ensures.saved c.deref.ensures.value long))
+    (λ last. inr last)
+    (c.in-Err-Full.ensures.full (ap Err c.in-Err-Full.field-0-is))
