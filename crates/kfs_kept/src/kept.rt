@@ -1,5 +1,6 @@
 //! A desk, and the journal that keeps it.
-ghost use Rattle.std.specs.Prelude.{◌≡◌, ◌⊎◌, ◌≤◌, ◌+◌, ◌^◌, ◌↔◌, [], None, OnOk, OnErr, IfErr, IfOk, IfSome, IsErrOf, IsFalse, IsNone, IsTrue, map};
+ghost use Rattle.std.specs.Prelude.{◌≡◌, ◌⊎◌, ◌≤◌, ◌+◌, ◌^◌, ◌↔◌, [], None, OnOk, OnErr, IfErr, IfOk, IfSome, IsErrOf, IsFalse, IsNone, IsTrue, length, map};
+ghost use Rattle.std.specs.List.{sum_by};
 ghost use Rattle.kfs_model.specs.Judgement.{State};
 ghost use Rattle.kfs_desk.specs.Opening.{begin_fault};
 ghost use Rattle.kfs_journal.specs.Disk.{Files, LeavesOnly, Only};
@@ -155,6 +156,7 @@ impl<A: Allocator + Copy, D: Disk + Drop> Kept<A, D> {
 
         ensures closed { IsErrOf result CallsFault.Closed ↔ IsFalse self.old.is_open }
         ensures closed_same { IsErrOf result CallsFault.Closed → self.new ≡ self.old }
+        ensures long { IsErrOf result CallsFault.TooLong → 2 ^ 32 ≤ sum_by (λ c. length c.now + 24) calls.now }
         ensures long_same { IsErrOf result CallsFault.TooLong → self.new ≡ self.old }
         ensures memory_same { IsErrOf result CallsFault.OutOfMemory → self.new ≡ self.old }
         ensures not_kept { IsErrOf result CallsFault.NotKept → IsFalse self.new.is_open × (self.new.disk ≡ self.old.disk) }

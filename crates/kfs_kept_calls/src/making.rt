@@ -1,5 +1,6 @@
 //! Calls made, and written into a group with their answers.
-ghost use Rattle.std.specs.Prelude.{◌≡◌, [], ◌≤◌, ◌<◌, ◌^◌, ◌++◌, All, List, length, drop, map, IfOk, IfSome, OnOk};
+ghost use Rattle.std.specs.Prelude.{◌≡◌, [], ◌≤◌, ◌<◌, ◌^◌, ◌++◌, ◌+◌, All, List, length, drop, map, IfOk, IfSome, IsNone, OnOk};
+ghost use Rattle.std.specs.List.{sum_by};
 ghost use Rattle.kfs_call.specs.Call.{IsLong};
 ghost use Rattle.kfs_kept_calls.specs.Making.{AreMade, IsNext, IsToldIn};
 
@@ -26,7 +27,8 @@ pub struct Made<B: Allocator> {
 
 /// How many bytes the group of these calls has at most. None where that may be more than 4,294,967,295.
 pub fn room_for(calls: &[&[u8]]) -> Option<usize>
-    ensures { IfSome result (λ _. All (λ c. length c.now < 2 ^ 32) calls.now) }
+    ensures short { IfSome result (λ _. All (λ c. length c.now < 2 ^ 32) calls.now) }
+    ensures long { IsNone result → 2 ^ 32 ≤ sum_by (λ c. length c.now + 24) calls.now }
 {
     let mut total = 0usize;
     for bytes in calls {
