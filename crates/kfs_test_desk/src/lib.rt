@@ -2,10 +2,9 @@
 //! nodes as there may be, and scripts of workers. What command lines can show is in the scripts of
 //! `kfs_rows`. The expected values come from docs/FORMATS.md and from the examples of
 //! `kfs_model`, never from the program's own output.
-//! `serving` has a server in thirty lines, and an example of each public type of `kfs_judge`, `kfs_plan` and `kfs_desk`; `plans`
-//! has the maker of plans: what it makes is what a desk accepts.
+//! `serving` has a server in thirty lines, and an example of each public type of `kfs_judge`, `kfs_plan` and `kfs_desk`.
 //!
-//! It stands on `kfs_workers_script`, `kfs_plan_maker`, `kfs_desk` and `kfs_test_support`. Begin with `desks.rt`, which has the
+//! It stands on `kfs_workers_script`, `kfs_desk` and `kfs_test_support`. Begin with `desks.rt`, which has the
 //! calls.
 //!
 //! A test is proved too, and would have to carry the clauses of each call that it makes. So each call
@@ -22,8 +21,6 @@ mod leases;
 mod moves;
 #[cfg(test)]
 mod pages;
-#[cfg(test)]
-mod plans;
 #[cfg(test)]
 mod scripts;
 #[cfg(test)]

@@ -1,7 +1,7 @@
 //! Plans that are made, and accepted.
 
-use crate::plans::desks::{Step, stepped};
-use crate::plans::logs::{
+use crate::desks::{Step, stepped};
+use crate::logs::{
     CREATE_AND_UNLINK, LAST_BYTE, NESTED, NO_BYTES, OUT_OF_STICKY, READ_ONLY, REGROUP,
     REMOVE_NESTED, RENAMES, STICKY, interleaved,
 };

@@ -1,7 +1,7 @@
 //! Where no plan is made: no log, another client's log, an entry's fault, and no memory.
 
-use crate::plans::desks::{Step, client, opened, planned, stepped};
-use crate::plans::logs::{NO_NODE, RENAMES};
+use crate::desks::{Step, client, opened, planned, stepped};
+use crate::logs::{NO_NODE, RENAMES};
 use kfs_mode::Client;
 use kfs_test_support::refusing::Refusing;
 use kfs_test_support::vectors::{CREATE_LOG, CREATE_PLAN, LETTERS_LOG};
