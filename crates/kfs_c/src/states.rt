@@ -21,9 +21,9 @@ use crate::opening::{Unopened, boxed, broken, misfit, tell, unbegun, unread};
 use crate::slot::put_in;
 use crate::submission::{FaultNumbers, fault};
 use kfs_call::StateFault;
+use kfs_call_desk::{EncodeFault, RestoreFault, encode_desk, restore_alone};
 use kfs_desk::Desk;
 use kfs_lease::LeaseRowFault;
-use kfs_call_desk::{EncodeFault, RestoreFault, encode_desk, restore_alone};
 use kfs_shape::ShapeFault;
 use std::alloc::Global;
 

@@ -10,6 +10,6 @@ mod restore;
 
 pub use answers::{answer_row, told};
 pub use made::{CallFault, Called, call};
-pub use restore::{EncodeFault, RestoreFault, encode_desk, restore_alone};
 #[doc(hidden)]
 pub use restore::restore_asking;
+pub use restore::{EncodeFault, RestoreFault, encode_desk, restore_alone};

@@ -10,10 +10,10 @@ ghost use Rattle.kfs_kept.specs.Faults.{IsOfState, IsOutside, IsWhy};
 ghost use Rattle.kfs_kept.specs.Standing.{MeanTheSame, StandFor};
 
 use crate::fault::OpenFault;
+use kfs_call_desk::RestoreFault;
 use kfs_desk::Desk;
 use kfs_journal::{Disk, Journal, OpenFault as JournalFault, Opened};
 use kfs_kept_calls::{AgainFault, make_again};
-use kfs_call_desk::RestoreFault;
 use kfs_restore_threads::restore;
 use std::alloc::Allocator;
 use std::thread::Threads;

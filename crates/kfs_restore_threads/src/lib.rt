@@ -14,9 +14,9 @@ ghost use Rattle.kfs_call_desk.specs.Restore.Restored as model;
 ghost use Rattle.kfs_call_desk.specs.Restore.Restored.{RestoreAnswer};
 ghost use Rattle.kfs_call_desk.specs.Restore.Told.{OnRestored};
 
+use kfs_call_desk::{RestoreFault, restore_asking};
 use kfs_desk::Desk;
 use kfs_fsck::InParts;
-use kfs_call_desk::{RestoreFault, restore_asking};
 use std::alloc::Allocator;
 use std::thread::Threads;
 
