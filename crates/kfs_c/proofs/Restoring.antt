@@ -5,9 +5,9 @@ use Rattle.kfs_model.specs.Judgement.{State}
 use Rattle.kfs_model.specs.Lease.{Leases}
 use Rattle.kfs_model.specs.Device.ShownTree.{DeviceImage}
 use Rattle.kfs_desk.specs.Machine.{IsImageOf, state_at}
-use Rattle.kfs_restore.specs.Restored.{RestoreAnswer}
-use Rattle.kfs_restore.specs.Told.{OnRefused}
-use Rattle.kfs_restore.specs.declared.fault.RestoreFault.{RestoreFault}
+use Rattle.kfs_call_desk.specs.Restore.Restored.{RestoreAnswer}
+use Rattle.kfs_call_desk.specs.Restore.Told.{OnRefused}
+use Rattle.kfs_call_desk.specs.declared.restore.fault.RestoreFault.{RestoreFault}
 use Rattle.kfs_c.specs.Opening.{IsRefusedAs}
 use Rattle.kfs_c.specs.States.{IsUnrestored, unrestored_as}
 use Rattle.kfs_c.proofs.Refusals.{refused_by}

@@ -5,11 +5,11 @@ use Rattle.kfs_call.specs.declared.state_fault.StateFault.TheVariants as states
 use Rattle.kfs_desk.specs.Machine.{Desk, opened_at}
 use Rattle.kfs_lease.specs.declared.leases.listed.LeaseRowFault.{LeaseRowFault}
 use Rattle.kfs_lease.specs.declared.leases.listed.LeaseRowFault.TheVariants as leases
-use Rattle.kfs_restore.specs.Restored.{RestoreAnswer}
-use Rattle.kfs_restore.specs.Saved.{IsSaved}
-use Rattle.kfs_restore.specs.Told.{OnRefused}
-use Rattle.kfs_restore.specs.declared.fault.RestoreFault.{RestoreFault}
-use Rattle.kfs_restore.specs.declared.fault.RestoreFault.TheVariants as faults
+use Rattle.kfs_call_desk.specs.Restore.Restored.{RestoreAnswer}
+use Rattle.kfs_call_desk.specs.Restore.Saved.{IsSaved}
+use Rattle.kfs_call_desk.specs.Restore.Told.{OnRefused}
+use Rattle.kfs_call_desk.specs.declared.restore.fault.RestoreFault.{RestoreFault}
+use Rattle.kfs_call_desk.specs.declared.restore.fault.RestoreFault.TheVariants as faults
 use Rattle.kfs_shape.specs.declared.fault.ShapeFault.TheVariants as shapes
 use Rattle.kfs_c.specs.Opening.{broken_as, misfit_told, unbegun_as, unread_as}
 use Rattle.kfs_c.specs.Reading.{AreLonger, BeginsWith}

@@ -1,7 +1,7 @@
 //! The state of a desk as bytes, and a desk from them.
 ghost use Rattle.std.specs.Prelude.{◌≡◌, ◌↔◌, ◌≤◌, ◌<◌, ◌⊎◌, None, Some, IfErr, IfOk};
-ghost use Rattle.kfs_restore.specs.Saved.{HasTooMany, IsSaved};
-ghost use Rattle.kfs_restore.specs.declared.fault.EncodeFault.TheVariants as encoding;
+ghost use Rattle.kfs_call_desk.specs.Restore.Saved.{HasTooMany, IsSaved};
+ghost use Rattle.kfs_call_desk.specs.declared.restore.fault.EncodeFault.TheVariants as encoding;
 ghost use Rattle.kfs_c.specs.Holding.{HoldsNoDesk, OnDesk};
 ghost use Rattle.kfs_c.specs.Opening.{IsRefusedAs};
 ghost use Rattle.kfs_c.specs.States.{IsRestored, IsStateGiven, IsStateLonger, IsUnrestored, stateless_as, unleased_as, unrestored_as};
@@ -21,9 +21,9 @@ use crate::opening::{Unopened, boxed, broken, misfit, tell, unbegun, unread};
 use crate::slot::put_in;
 use crate::submission::{FaultNumbers, fault};
 use kfs_call::StateFault;
+use kfs_call_desk::{EncodeFault, RestoreFault, encode_desk, restore_alone};
 use kfs_desk::Desk;
 use kfs_lease::LeaseRowFault;
-use kfs_restore::{EncodeFault, RestoreFault, encode_desk, restore_alone};
 use kfs_shape::ShapeFault;
 use std::alloc::Global;
 

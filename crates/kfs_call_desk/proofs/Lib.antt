@@ -1,2 +1,3 @@
 -- Lemmas on calls that were made.
 pub mod Outcomes
+pub mod RestoreLemmas

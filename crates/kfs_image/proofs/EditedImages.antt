@@ -14,10 +14,10 @@ use Rattle.kfs_model.specs.Device.ShownTree.{DeviceImage, IsLawful, shown_tree}
 use Rattle.kfs_types.specs.declared.plan.NameRow.{NameRow}
 use Rattle.kfs_types.specs.declared.plan.NodeRow.{NodeRow}
 use Rattle.kfs_types.specs.Views.{header_of}
-use Rattle.kfs_map_chunks.specs.Edits.{KeysAscend}
-use Rattle.kfs_map_chunks.specs.Overlays.{Say, overlaid}
-use Rattle.kfs_map_chunks.specs.Tables.{table_after}
-use Rattle.kfs_map_chunks.proofs.Overlays.{overlaid_none, table_after_said}
+use Rattle.kfs_maps.specs.Chunks.Edits.{KeysAscend}
+use Rattle.kfs_maps.specs.Chunks.Overlays.{Say, overlaid}
+use Rattle.kfs_maps.specs.Chunks.Tables.{table_after}
+use Rattle.kfs_maps.proofs.ChunksLemmas.Overlays.{overlaid_none, table_after_said}
 use Rattle.kfs_image.specs.declared.tier.tiers.NewBlock.{NewBlock}
 use Rattle.kfs_image.specs.Tier.Tiers.{with_blocks}
 use Rattle.kfs_image.proofs.TierLemmas.TierLists.{rest_at}

@@ -19,8 +19,8 @@ use Rattle.kfs_model.specs.Table.{Table, numbers, get, changed}
 use Rattle.kfs_model.specs.Placement.{Place, Placement, block_count}
 use Rattle.kfs_model.proofs.TableLaws.{same_table, get-changed, get-retain}
 use Rattle.kfs_model.specs.Device.ShownTree.{DeviceImage, IsLawful}
-use Rattle.kfs_map_pages.specs.declared.change.NumberEdit.{NumberEdit}
-use Rattle.kfs_map_pages.specs.Edits.{edited, AreEdits}
+use Rattle.kfs_maps.specs.declared.pages.change.NumberEdit.{NumberEdit}
+use Rattle.kfs_maps.specs.Pages.Edits.{edited, AreEdits}
 use Rattle.kfs_image.specs.declared.blocks.fill.BlockRun.{BlockRun}
 use Rattle.kfs_image.specs.Blocks.Fill.{is_in, is_in_one, less}
 use Rattle.kfs_image_nodes.specs.Change.{reheaded}

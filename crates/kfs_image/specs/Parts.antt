@@ -4,7 +4,7 @@ use Rattle.kfs_model.specs.Limits.{block_size}
 use Rattle.kfs_model.specs.Placement.{TierSizes, tier_size}
 use Rattle.kfs_model.specs.Plan.{number_now}
 use Rattle.kfs_model.specs.Device.ShownTree.{DeviceImage}
-use Rattle.kfs_map_chunks.specs.Overlays.{overlaid}
+use Rattle.kfs_maps.specs.Chunks.Overlays.{overlaid}
 use Rattle.kfs_image.specs.declared.tier.tiers.NewBlock.{NewBlock}
 use Rattle.kfs_image.specs.Tier.Tiers.{with_blocks}
 use Rattle.kfs_image_nodes.specs.Change.{led_to, renamed, reheaded}

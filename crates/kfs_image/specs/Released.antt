@@ -3,7 +3,7 @@ use Rattle.std.specs.Prelude.{◌≡◌, ◌-◌, ◌^◌, List, min, option_map
 use Rattle.kfs_types.specs.declared.entry.Header.{Header as CodeHeader}
 use Rattle.kfs_types.specs.declared.plan.NodeRow.{NodeRow}
 use Rattle.kfs_types.specs.Views.{header_of}
-use Rattle.kfs_map_pages.specs.declared.change.NumberEdit.{NumberEdit}
+use Rattle.kfs_maps.specs.declared.pages.change.NumberEdit.{NumberEdit}
 use Rattle.kfs_model.specs.Device.ShownTree.{DeviceImage, IsLawful}
 use Rattle.kfs_image.specs.declared.blocks.fill.BlockRun.{BlockRun}
 use Rattle.kfs_image.specs.Blocks.Fill.{less}

@@ -7,7 +7,7 @@ ghost use Rattle.kfs_image.specs.Image.{place_at};
 ghost use Rattle.kfs_image.specs.Parts.{plain, with_parts, PartsAreOf, BlocksAreWhole};
 
 use crate::blocks::{NewBlock, Place};
-use kfs_map_chunks::Overlay;
+use kfs_maps::Overlay;
 use kfs_types::{Header, Name, NameRow, NodeRow};
 use std::alloc::{AllocError, Allocator};
 

@@ -10,7 +10,7 @@ ghost use Rattle.kfs_image.specs.Net.{blocks_in};
 use crate::blocks::BlockRun;
 use crate::image::Image;
 use kfs_image_nodes::NodeChanges;
-use kfs_map_pages::NumberEdit;
+use kfs_maps::NumberEdit;
 use kfs_types::{BLOCK_SIZE, Header, Kind};
 use std::alloc::{AllocError, Allocator};
 use thiserror::Error;

@@ -3,8 +3,8 @@ use Rattle.std.proofs.Common.{◌≡◌, ℕ, zero, suc, ◌<◌, ◌≤◌, Boo
 use Rattle.std.specs.List.Sorted.{IsPartitionedBy, IsPartitionPoint}
 use Rattle.std.specs.Cmp.{unsigned_tied}
 use Rattle.std.proofs.lemmas.Bool.{eq-eqb, ne_eqb, ltb-true, ltb-false}
-use Rattle.kfs_map_pages.specs.declared.change.NumberEdit.{NumberEdit}
-use Rattle.kfs_map_pages.specs.Edits.{edited}
+use Rattle.kfs_maps.specs.declared.pages.change.NumberEdit.{NumberEdit}
+use Rattle.kfs_maps.specs.Pages.Edits.{edited}
 
 module _ {X : Type 0} where
   abbrev Ascend : List (NumberEdit X) → Type 0

@@ -2,14 +2,14 @@
 use Rattle.std.proofs.Common.{◌≡◌, ℕ, sym, ap, subst}
 use Rattle.kfs_model.specs.Table.{Table, numbers}
 use Rattle.kfs_model.specs.Tree.{NameTable, name_order}
-use Rattle.kfs_map_chunks.specs.Tables.{table}
+use Rattle.kfs_maps.specs.Chunks.Tables.{table}
 use Rattle.kfs_image_nodes.specs.declared.name_edits.NameEdits.{NameEdits}
 use Rattle.kfs_image_nodes.specs.declared.rows.NodeTables.{NodeTables}
 use Rattle.kfs_image_nodes.specs.Indexes.{by_node, AreNames, IsCounted}
 use Rattle.kfs_image_nodes.specs.NameEdits.{names_edited, counts_edited, ways_edited}
 use Rattle.kfs_image_nodes.specs.Rows.{names_in, CountsAreExact}
-use Rattle.kfs_map_chunks.specs.Edits.{rewritten}
-use Rattle.kfs_map_pages.specs.Edits as numbered
+use Rattle.kfs_maps.specs.Chunks.Edits.{rewritten}
+use Rattle.kfs_maps.specs.Pages.Edits as numbered
 
 module _ {A : Type 0} where
   pub edited_indexed : (old new : NodeTables A) (edits : NameEdits A) → CountsAreExact old

@@ -3,9 +3,9 @@ use Rattle.std.specs.Prelude.{IsSome}
 use Rattle.std.proofs.Common.{◌≡◌, ℕ, ◌==◌, Bool, true, false, cond, Option, Some, None, option_map, refl, sym, ap, subst, ◌∙◌}
 use Rattle.kfs_types.specs.declared.entry.Header.{Header as CodeHeader}
 use Rattle.kfs_types.specs.Views.{header_of}
-use Rattle.kfs_map_pages.specs.Edits.{page_of}
-use Rattle.kfs_map_pages.specs.Shown.{part}
-use Rattle.kfs_map_pages.specs.Values.{IsNextNumber}
+use Rattle.kfs_maps.specs.Pages.Edits.{page_of}
+use Rattle.kfs_maps.specs.Pages.Shown.{part}
+use Rattle.kfs_maps.specs.Pages.Values.{IsNextNumber}
 use Rattle.kfs_model.specs.Table.{Table, numbers, empty, get}
 use Rattle.kfs_model.proofs.TableLaws.{same_table, get-mapped, get-retain}
 use Rattle.kfs_image_nodes.specs.Look.{IsNextNode}

@@ -14,9 +14,9 @@ use Rattle.std.proofs.lemmas.Bool.Decides.{nat_tests}
 use Rattle.kfs_model.specs.Table.{Table, numbers, get}
 use Rattle.kfs_model.specs.Tree.{NameTable, name_order}
 use Rattle.kfs_model.specs.Sight.{holder}
-use Rattle.kfs_map_chunks.specs.Starts.{is_from, IsNextEntry}
-use Rattle.kfs_map_chunks.specs.Tables.{table}
-use Rattle.kfs_map_chunks.proofs.Tables.{get-table}
+use Rattle.kfs_maps.specs.Chunks.Starts.{is_from, IsNextEntry}
+use Rattle.kfs_maps.specs.Chunks.Tables.{table}
+use Rattle.kfs_maps.proofs.ChunksLemmas.Tables.{get-table}
 use Rattle.kfs_image_nodes.specs.Indexes.{by_node, ways_count, IsCounted}
 
 abbrev Entry : Type 0

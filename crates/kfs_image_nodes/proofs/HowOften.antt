@@ -10,9 +10,9 @@ use Rattle.std.specs.declared.cmp.Ordering.{Ordering}
 use Rattle.std.specs.declared.cmp.Ordering.TheVariants.{Less, Equal, Greater}
 use Rattle.std.specs.Ordering.{is_eq, is_lt, eq_by_cmp, ordering_reverse}
 use Rattle.kfs_model.specs.Table.{Order, Table, numbers, empty, get}
-use Rattle.kfs_map_chunks.specs.declared.entries.KeyEdit.{KeyEdit}
-use Rattle.kfs_map_chunks.specs.Edits.{edited}
-use Rattle.kfs_map_chunks.proofs.Overlays.{overlaid_none}
+use Rattle.kfs_maps.specs.declared.chunks.entries.KeyEdit.{KeyEdit}
+use Rattle.kfs_maps.specs.Chunks.Edits.{edited}
+use Rattle.kfs_maps.proofs.ChunksLemmas.Overlays.{overlaid_none}
 use Rattle.kfs_image_nodes.specs.Indexes.{count_at}
 use Rattle.kfs_image_nodes.specs.SortedRows.{goes_on, tallied_at, SayHowOften}
 

@@ -12,11 +12,11 @@ use Rattle.kfs_types.specs.declared.plan.NodeRow.{NodeRow}
 use Rattle.kfs_model.specs.Spelling.{IsName}
 use Rattle.kfs_model.specs.Table.{Order, Table, get, changed}
 use Rattle.kfs_model.specs.Tree.{NameTable, name_order}
-use Rattle.kfs_map_pages.specs.Edits as numbered
-use Rattle.kfs_map_chunks.specs.declared.entries.KeyEdit.{KeyEdit}
-use Rattle.kfs_map_chunks.specs.Edits.{edited, KeysAscend}
-use Rattle.kfs_map_chunks.specs.Tables.{table, table_after}
-use Rattle.kfs_map_chunks.proofs.Tables.{get-table, get-table_after}
+use Rattle.kfs_maps.specs.Pages.Edits as numbered
+use Rattle.kfs_maps.specs.declared.chunks.entries.KeyEdit.{KeyEdit}
+use Rattle.kfs_maps.specs.Chunks.Edits.{edited, KeysAscend}
+use Rattle.kfs_maps.specs.Chunks.Tables.{table, table_after}
+use Rattle.kfs_maps.proofs.ChunksLemmas.Tables.{get-table, get-table_after}
 use Rattle.kfs_image_nodes.specs.Change.{led_to, renamed}
 use Rattle.kfs_image_nodes.specs.Indexes.{AreNames}
 use Rattle.kfs_image_nodes.specs.NameEdits.{name_edit}

@@ -12,21 +12,21 @@ use Rattle.std.specs.FinMap.Entries.{find}
 use Rattle.std.specs.BTreeMap.{BTreeMap, get as get_slot}
 use Rattle.kfs_model.specs.Table.{Order, Table, numbers, get}
 use Rattle.kfs_model.specs.Tree.{NameTable, name_order, entry_count}
-use Rattle.kfs_map_pages.specs.declared.change.NumberEdit as numbered
-use Rattle.kfs_map_pages.specs.Edits as numbered_edits
-use Rattle.kfs_map_pages.specs.Edits.{AreEdits}
-use Rattle.kfs_map_pages.proofs.Tables.{get-rewritten}
-use Rattle.kfs_map_chunks.specs.declared.entries.KeyEdit.{KeyEdit}
-use Rattle.kfs_map_chunks.specs.Edits.{rewritten}
-use Rattle.kfs_map_chunks.specs.Tables.{table}
-use Rattle.kfs_map_chunks.proofs.Tables.{get-table, find-rewritten}
+use Rattle.kfs_maps.specs.declared.pages.change.NumberEdit as numbered
+use Rattle.kfs_maps.specs.Pages.Edits as numbered_edits
+use Rattle.kfs_maps.specs.Pages.Edits.{AreEdits}
+use Rattle.kfs_maps.proofs.PagesLemmas.Tables.{get-rewritten}
+use Rattle.kfs_maps.specs.declared.chunks.entries.KeyEdit.{KeyEdit}
+use Rattle.kfs_maps.specs.Chunks.Edits.{rewritten}
+use Rattle.kfs_maps.specs.Chunks.Tables.{table}
+use Rattle.kfs_maps.proofs.ChunksLemmas.Tables.{get-table, find-rewritten}
 use Rattle.kfs_image_nodes.specs.Indexes.{IsCounted, AreInPages, ArePositive, by_node, count_at}
 use Rattle.kfs_image_nodes.specs.NodeEdits.{IsNumber}
-use Rattle.kfs_map_chunks.specs.Overlays.{said_or, overlaid, Say}
+use Rattle.kfs_maps.specs.Chunks.Overlays.{said_or, overlaid, Say}
 use Rattle.kfs_image_nodes.specs.Overlays.{SayOfNumbers}
 use Rattle.kfs_image_nodes.proofs.Indexes.{counted_less, counted_more, still_positive}
 use Rattle.kfs_image_nodes.proofs.NodeEdits.{number_or_not, edited_beside}
-use Rattle.kfs_map_chunks.proofs.Overlays.{get-overlaid, overlaid_set, is_overlaid}
+use Rattle.kfs_maps.proofs.ChunksLemmas.Overlays.{get-overlaid, overlaid_set, is_overlaid}
 
 module _ {K X : Type 0} {R : Order K} where
   -- what was read is what the table seen has at the key

@@ -7,9 +7,9 @@ use Rattle.std.specs.FinMap.Entries.{find}
 use Rattle.std.specs.declared.ops.Bound.{Bound}
 use Rattle.kfs_model.specs.Spelling.{IsName}
 use Rattle.kfs_model.specs.Tree.{name_order, target}
-use Rattle.kfs_map_chunks.specs.Starts.{is_from, IsNextEntry}
-use Rattle.kfs_map_chunks.specs.Tables.{table}
-use Rattle.kfs_map_chunks.proofs.Tables.{get-table}
+use Rattle.kfs_maps.specs.Chunks.Starts.{is_from, IsNextEntry}
+use Rattle.kfs_maps.specs.Chunks.Tables.{table}
+use Rattle.kfs_maps.proofs.ChunksLemmas.Tables.{get-table}
 use Rattle.kfs_image_nodes.specs.Indexes.{AreNames}
 use Rattle.kfs_image_nodes.specs.Look.{IsAfter, IsNext}
 use Rattle.kfs_image_nodes.proofs.NameOrder.{in_directory, earlier_directory}

@@ -15,17 +15,17 @@ use Rattle.std.specs.BTreeMap.{is_at}
 use Rattle.kfs_types.specs.declared.entry.Header.{Header as CodeHeader}
 use Rattle.kfs_types.specs.declared.plan.NodeRow.{NodeRow}
 use Rattle.kfs_types.specs.Views.{header_of}
-use Rattle.kfs_map_pages.specs.declared.change.NumberEdit.{NumberEdit}
-use Rattle.kfs_map_pages.specs.Edits.{edited, rewritten, AreEdits}
-use Rattle.kfs_map_pages.proofs.Tables.{get-rewritten}
+use Rattle.kfs_maps.specs.declared.pages.change.NumberEdit.{NumberEdit}
+use Rattle.kfs_maps.specs.Pages.Edits.{edited, rewritten, AreEdits}
+use Rattle.kfs_maps.proofs.PagesLemmas.Tables.{get-rewritten}
 use Rattle.kfs_model.specs.Header.{Header}
 use Rattle.kfs_model.specs.Table.{Table, numbers, empty, get, changed}
 use Rattle.kfs_model.proofs.TableLaws.{same_table, get-mapped, get-changed}
 use Rattle.kfs_image_nodes.specs.Change.{reheaded}
 use Rattle.kfs_image_nodes.specs.Rows.{heads_of}
 use Rattle.kfs_image_nodes.specs.NodeEdits.{left_by, edits_from, IsNumber, AreNumbered}
-use Rattle.kfs_map_chunks.specs.Overlays.{said_or}
-use Rattle.kfs_map_chunks.proofs.Overlays.{nothing_more}
+use Rattle.kfs_maps.specs.Chunks.Overlays.{said_or}
+use Rattle.kfs_maps.proofs.ChunksLemmas.Overlays.{nothing_more}
 
 -- the rows that are left begin with the row at the index
 pub rows_left : {X : Type 0} (xs : List X) (i : ℕ) (d : X) → i < length xs → drop i xs ≡ slice_index_or xs i d ∷ drop (i + 1) xs

@@ -6,13 +6,13 @@ use Rattle.std.proofs.lemmas.List.Elements.{All-from_recursion}
 use Rattle.kfs_model.specs.Limits.{greatest_number}
 use Rattle.kfs_model.specs.Tree.{name_order}
 use Rattle.kfs_model.specs.Table.{Table, numbers, changed}
-use Rattle.kfs_map_pages.specs.declared.change.NumberEdit.{NumberEdit}
-use Rattle.kfs_map_pages.specs.Edits as numbered
-use Rattle.kfs_map_pages.specs.Edits.{AreEdits}
-use Rattle.kfs_map_chunks.specs.declared.entries.KeyEdit.{KeyEdit}
-use Rattle.kfs_map_chunks.specs.Edits.{KeysAscend, rewritten}
-use Rattle.kfs_map_chunks.specs.Tables.{table, table_after}
-use Rattle.kfs_map_chunks.proofs.Tables.{get-table, table-rewritten}
+use Rattle.kfs_maps.specs.declared.pages.change.NumberEdit.{NumberEdit}
+use Rattle.kfs_maps.specs.Pages.Edits as numbered
+use Rattle.kfs_maps.specs.Pages.Edits.{AreEdits}
+use Rattle.kfs_maps.specs.declared.chunks.entries.KeyEdit.{KeyEdit}
+use Rattle.kfs_maps.specs.Chunks.Edits.{KeysAscend, rewritten}
+use Rattle.kfs_maps.specs.Chunks.Tables.{table, table_after}
+use Rattle.kfs_maps.proofs.ChunksLemmas.Tables.{get-table, table-rewritten}
 use Rattle.kfs_image_nodes.specs.declared.tallies.CountEdits.{CountEdits}
 use Rattle.kfs_image_nodes.specs.Indexes.{ArePositive, IsCounted, by_node, count_at, count_step, uplink_step}
 use Rattle.kfs_image_nodes.specs.NameEdits.{AreCountEdits, AreMovedBy}

@@ -9,8 +9,8 @@ use Rattle.std.specs.FinMap.Entries.{find, is_sorted}
 use Rattle.kfs_types.specs.declared.plan.NameRow.{NameRow}
 use Rattle.kfs_model.specs.Table.{Table, numbers, get}
 use Rattle.kfs_model.specs.Tree.{name_order}
-use Rattle.kfs_map_chunks.specs.Tables.{table}
-use Rattle.kfs_map_chunks.proofs.Tables.{get-table, entries-table}
+use Rattle.kfs_maps.specs.Chunks.Tables.{table}
+use Rattle.kfs_maps.proofs.ChunksLemmas.Tables.{get-table, entries-table}
 use Rattle.kfs_image_nodes.specs.Indexes.{by_node, count_at, IsCounted, ArePositive}
 use Rattle.kfs_image_nodes.specs.SortedRows.{name_entry, name_entries, dir_of, uplink_of}
 use Rattle.kfs_image_nodes.proofs.Indexes.{turned, turned_pair}

@@ -4,17 +4,17 @@ use Rattle.kfs_types.specs.declared.plan.NameRow.{NameRow}
 use Rattle.kfs_model.specs.Spelling.{IsName}
 use Rattle.kfs_model.specs.Table.{Table, numbers}
 use Rattle.kfs_model.specs.Tree.{NameTable, name_order}
-use Rattle.kfs_map_pages.specs.Edits as numbered
-use Rattle.kfs_map_chunks.specs.declared.entries.KeyEdit.{KeyEdit}
-use Rattle.kfs_map_chunks.specs.Edits as keyed
-use Rattle.kfs_map_chunks.specs.Tables.{table, table_after}
+use Rattle.kfs_maps.specs.Pages.Edits as numbered
+use Rattle.kfs_maps.specs.declared.chunks.entries.KeyEdit.{KeyEdit}
+use Rattle.kfs_maps.specs.Chunks.Edits as keyed
+use Rattle.kfs_maps.specs.Chunks.Tables.{table, table_after}
 use Rattle.kfs_image_nodes.specs.declared.name_edits.NameEdits.{NameEdits}
 use Rattle.kfs_image_nodes.specs.declared.name_edits.Overlays.{Overlays}
 use Rattle.kfs_image_nodes.specs.declared.tallies.CountEdits.{CountEdits}
 use Rattle.kfs_image_nodes.specs.declared.tallies.Tallies.{Tallies}
 use Rattle.kfs_image_nodes.specs.Change.{led_to, renamed}
 use Rattle.kfs_image_nodes.specs.Indexes.{AreNames, IsCounted, AreInPages, ArePositive, CountsMoved, by_node, count_step, uplink_step}
-use Rattle.kfs_map_chunks.specs.Overlays.{overlaid}
+use Rattle.kfs_maps.specs.Chunks.Overlays.{overlaid}
 
 -- the edit of the names that a row makes
 abbrev pub name_edit : NameRow → KeyEdit (ℕ × List ℕ) ℕ

@@ -6,8 +6,8 @@ use Rattle.kfs_types.specs.declared.plan.NodeRow.{NodeRow}
 use Rattle.kfs_model.specs.Header.{Header}
 use Rattle.kfs_model.specs.Limits.{greatest_number}
 use Rattle.kfs_model.specs.Table.{Table, numbers, get}
-use Rattle.kfs_map_pages.specs.declared.change.NumberEdit.{NumberEdit}
-use Rattle.kfs_map_pages.specs.Edits.{edited, AreEdits}
+use Rattle.kfs_maps.specs.declared.pages.change.NumberEdit.{NumberEdit}
+use Rattle.kfs_maps.specs.Pages.Edits.{edited, AreEdits}
 
 -- the header of a number after the rows, given its header before
 abbrev pub left_by : List NodeRow → ℕ → Option CodeHeader → Option CodeHeader

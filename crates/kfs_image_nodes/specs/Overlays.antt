@@ -3,9 +3,9 @@ use Rattle.std.specs.Prelude.{◌≡◌, ℕ, ◌+◌, ◌<◌, List, Option, So
 use Rattle.std.specs.declared.cmp.Ordering.{Ordering}
 use Rattle.std.specs.Ordering.{nat_cmp, eq_by_cmp}
 use Rattle.std.specs.BTreeMap.{BTreeMap, get}
-use Rattle.kfs_map_pages.specs.declared.change.NumberEdit as numbered
-use Rattle.kfs_map_pages.specs.Edits as numbered_edits
-use Rattle.kfs_map_chunks.specs.Overlays.{said_or}
+use Rattle.kfs_maps.specs.declared.pages.change.NumberEdit as numbered
+use Rattle.kfs_maps.specs.Pages.Edits as numbered_edits
+use Rattle.kfs_maps.specs.Chunks.Overlays.{said_or}
 use Rattle.kfs_image_nodes.specs.NodeEdits.{IsNumber}
 
 module _ {X : Type 0} where

@@ -5,7 +5,7 @@ use Rattle.kfs_types.specs.Views.{header_of}
 use Rattle.kfs_model.specs.Header.{Header}
 use Rattle.kfs_model.specs.Table.{Table, numbers, mapped}
 use Rattle.kfs_model.specs.Tree.{NameTable, name_order}
-use Rattle.kfs_map_chunks.specs.Tables.{table}
+use Rattle.kfs_maps.specs.Chunks.Tables.{table}
 use Rattle.kfs_image_nodes.specs.declared.rows.NodeTables.{NodeTables}
 use Rattle.kfs_image_nodes.specs.Indexes.{by_node, AreNames, AreInPages, IsCounted}
 use Rattle.kfs_image_nodes.specs.NodeEdits.{AreNumbered}

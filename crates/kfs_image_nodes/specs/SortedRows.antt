@@ -3,9 +3,9 @@ use Rattle.std.specs.Prelude.{◌≡◌, ℕ, ◌<◌, Bool, false, List, [], �
 use Rattle.std.specs.Ordering.{eq_by_cmp}
 use Rattle.kfs_types.specs.declared.plan.NameRow.{NameRow}
 use Rattle.kfs_model.specs.Table.{Order, numbers, empty}
-use Rattle.kfs_map_chunks.specs.declared.entries.KeyEdit.{KeyEdit}
-use Rattle.kfs_map_chunks.specs.Edits.{edited}
-use Rattle.kfs_map_chunks.specs.Overlays.{overlaid}
+use Rattle.kfs_maps.specs.declared.chunks.entries.KeyEdit.{KeyEdit}
+use Rattle.kfs_maps.specs.Chunks.Edits.{edited}
+use Rattle.kfs_maps.specs.Chunks.Overlays.{overlaid}
 use Rattle.kfs_image_nodes.specs.Indexes.{count_at}
 
 -- the entry of a row: its name leads to its number

@@ -2,13 +2,12 @@
 ghost use Rattle.std.specs.Prelude.{◌≡◌, ℕ, Option, IfOk, IfSome, map};
 ghost use Rattle.std.specs.Ordering.{nat_cmp};
 ghost use Rattle.std.specs.BTreeMap.{get};
-ghost use Rattle.kfs_map_pages.specs.Edits.{edited, AreEdits};
+ghost use Rattle.kfs_maps.specs.Pages.Edits.{edited, AreEdits};
 ghost use Rattle.kfs_image_nodes.specs.NodeEdits.{left_by, node_edit, AreHeaderEdits, IsNumber};
-ghost use Rattle.kfs_map_chunks.specs.Overlays.{said_or};
+ghost use Rattle.kfs_maps.specs.Chunks.Overlays.{said_or};
 
 use crate::name_edits::number_edits;
-use kfs_map_chunks::Overlay;
-use kfs_map_pages::NumberEdit;
+use kfs_maps::{NumberEdit, Overlay};
 use kfs_types::{GREATEST_NUMBER, Header, NodeRow};
 use std::alloc::{AllocError, Allocator};
 use std::marker::Model;

@@ -3,7 +3,7 @@ ghost use Rattle.std.specs.Prelude.{◌≡◌, option_map};
 ghost use Rattle.kfs_types.specs.Views.{header_of};
 ghost use Rattle.kfs_model.specs.Table.{get};
 
-use kfs_map_pages::Page;
+use kfs_maps::Page;
 use kfs_types::Header;
 use std::alloc::Allocator;
 

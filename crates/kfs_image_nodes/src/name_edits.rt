@@ -3,9 +3,9 @@
 ghost use Rattle.std.specs.Prelude.{◌≡◌, [], OnOk, IfOk, IfSome};
 ghost use Rattle.kfs_model.specs.Table.{get, changed};
 ghost use Rattle.kfs_model.specs.Tree.{name_order};
-ghost use Rattle.kfs_map_pages.specs.Edits.{AreEdits};
-ghost use Rattle.kfs_map_chunks.specs.Edits.{KeysAscend};
-ghost use Rattle.kfs_map_chunks.specs.Tables.{table, table_after};
+ghost use Rattle.kfs_maps.specs.Pages.Edits.{AreEdits};
+ghost use Rattle.kfs_maps.specs.Chunks.Edits.{KeysAscend};
+ghost use Rattle.kfs_maps.specs.Chunks.Tables.{table, table_after};
 ghost use Rattle.kfs_image_nodes.specs.Change.{led_to};
 ghost use Rattle.kfs_image_nodes.specs.Indexes.{AreNames, IsCounted, by_node};
 ghost use Rattle.kfs_image_nodes.specs.NameEdits.{names_seen, counts_seen, ways_seen, IsCountedOver, AreCountEdits, AreEditsOf, AreRowsInOrder};
@@ -16,8 +16,7 @@ ghost use Rattle.kfs_image_nodes.specs.Overlays.{SayOfNumbers};
 
 use crate::rows::{name_key, target_of};
 use crate::tallies::{CountEdits, Tallies, edits_of_one};
-use kfs_map_chunks::{Chunks, KeyEdit, Near, Overlay, key_edits, push_above};
-use kfs_map_pages::{NumberEdit, Pages};
+use kfs_maps::{Chunks, KeyEdit, Near, NumberEdit, Overlay, Pages, key_edits, push_above};
 use kfs_types::{GREATEST_NUMBER, Name, NameRow};
 use std::alloc::{AllocError, Allocator};
 use std::collections::BTreeMap;

@@ -6,8 +6,8 @@ ghost use Rattle.std.specs.Ordering.{eq_by_cmp, nat_cmp};
 ghost use Rattle.kfs_model.specs.Table.{numbers};
 ghost use Rattle.kfs_model.specs.Tree.{name_order};
 ghost use Rattle.kfs_model.specs.Spelling.{IsName};
-ghost use Rattle.kfs_map_chunks.specs.Edits.{KeysAscend};
-ghost use Rattle.kfs_map_chunks.specs.Tables.{table};
+ghost use Rattle.kfs_maps.specs.Chunks.Edits.{KeysAscend};
+ghost use Rattle.kfs_maps.specs.Chunks.Tables.{table};
 ghost use Rattle.kfs_image_nodes.specs.Indexes.{by_node, IsCounted};
 ghost use Rattle.kfs_image_nodes.specs.NodeEdits.{IsNumber};
 ghost use Rattle.kfs_image_nodes.specs.SortedRows.{name_entry, name_entries, dir_of, uplink_of, tallied_at, goes_on, SayHowOften};
@@ -15,8 +15,7 @@ ghost use Rattle.kfs_image_nodes.specs.SortedRows.{name_entry, name_entries, dir
 use crate::name_edits::number_edits;
 use crate::rows::name_key;
 use crate::tallies::add;
-use kfs_map_chunks::{ChunkList, Chunks, Key, KeyEdit, Overlay, push_above};
-use kfs_map_pages::Pages;
+use kfs_maps::{ChunkList, Chunks, Key, KeyEdit, Overlay, Pages, push_above};
 use kfs_types::{Name, NameRow, Nothing};
 use std::alloc::{AllocError, Allocator};
 

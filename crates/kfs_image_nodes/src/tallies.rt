@@ -3,14 +3,13 @@
 ghost use Rattle.std.specs.Prelude.{◌≡◌, ℕ, ◌+◌, ◌<◌, ◌∷◌, [], OnOk, IfOk, IfSome, Some, unwrap_or, if◌then◌else◌};
 ghost use Rattle.std.specs.Ordering.{eq_by_cmp, nat_cmp};
 ghost use Rattle.kfs_model.specs.Table.{get};
-ghost use Rattle.kfs_map_chunks.specs.Tables.{table};
+ghost use Rattle.kfs_maps.specs.Chunks.Tables.{table};
 ghost use Rattle.kfs_image_nodes.specs.Indexes.{CountsFewer, CountsMore, CountsMoved, count_at, count_step, uplink_step, by_node, ArePositive};
 ghost use Rattle.kfs_image_nodes.specs.NameEdits.{counts_seen, ways_seen, AreMovedBy};
 ghost use Rattle.kfs_image_nodes.specs.Overlays.{IsOneMore};
 ghost use Rattle.kfs_image_nodes.specs.SortedRows.{tallied_at};
 
-use kfs_map_chunks::{Chunks, KeyEdit, Near, Overlay};
-use kfs_map_pages::{NumberEdit, Pages};
+use kfs_maps::{Chunks, KeyEdit, Near, NumberEdit, Overlay, Pages};
 use kfs_types::GREATEST_NUMBER;
 use std::alloc::{AllocError, Allocator};
 

@@ -11,8 +11,8 @@ use Rattle.kfs_journal.specs.Format.{head_at, meaning, with_group}
 use Rattle.kfs_journal.specs.Journal.{AreEmpty, IsOneOf, groups_of}
 use Rattle.kfs_journal.specs.declared.fault.JournalFault.{JournalFault}
 use Rattle.kfs_journal.specs.declared.fault.JournalFault.TheVariants as journals
-use Rattle.kfs_restore.specs.Restored.{RestoreAnswer}
-use Rattle.kfs_restore.specs.Saved.{IsSaved}
+use Rattle.kfs_call_desk.specs.Restore.Restored.{RestoreAnswer}
+use Rattle.kfs_call_desk.specs.Restore.Saved.{IsSaved}
 use Rattle.kfs_kept.specs.Faults.{of_journal}
 use Rattle.kfs_kept.specs.declared.fault.SaveFault.{SaveFault}
 use Rattle.kfs_kept.specs.declared.fault.SaveFault.TheVariants as saving

@@ -2,10 +2,10 @@
 use Rattle.std.proofs.Common.{◌≡◌, inl, inr, ℕ, Result, Ok, Err}
 use Rattle.kfs_model.specs.Judgement.{State}
 use Rattle.kfs_desk.specs.Machine.{Desk}
-use Rattle.kfs_restore.specs.Restored.{RestoreFault}
-use Rattle.kfs_restore.specs.Told.{OnRefused, OnRestored}
-use Rattle.kfs_restore.specs.declared.fault.RestoreFault.{RestoreFault as CodeFault}
-use Rattle.kfs_restore.specs.declared.fault.RestoreFault.TheVariants.{OutOfMemory}
+use Rattle.kfs_call_desk.specs.Restore.Restored.{RestoreFault}
+use Rattle.kfs_call_desk.specs.Restore.Told.{OnRefused, OnRestored}
+use Rattle.kfs_call_desk.specs.declared.restore.fault.RestoreFault.{RestoreFault as CodeFault}
+use Rattle.kfs_call_desk.specs.declared.restore.fault.RestoreFault.TheVariants.{OutOfMemory}
 
 abbrev Answer : Type 0
 Answer = Result State RestoreFault

@@ -4,8 +4,8 @@ use Rattle.kfs_journal.specs.Disk.{Files}
 use Rattle.kfs_journal.specs.Journal.{AreEmpty, AreForeign}
 use Rattle.kfs_journal.specs.declared.fault.JournalFault.{JournalFault}
 use Rattle.kfs_journal.specs.declared.fault.JournalFault.TheVariants as journals
-use Rattle.kfs_restore.specs.declared.fault.EncodeFault.{EncodeFault}
-use Rattle.kfs_restore.specs.declared.fault.EncodeFault.TheVariants as encoding
+use Rattle.kfs_call_desk.specs.declared.restore.fault.EncodeFault.{EncodeFault}
+use Rattle.kfs_call_desk.specs.declared.restore.fault.EncodeFault.TheVariants as encoding
 use Rattle.kfs_kept.specs.declared.fault.OpenFault.{OpenFault}
 use Rattle.kfs_kept.specs.declared.fault.OpenFault.TheVariants as opening
 use Rattle.kfs_kept.specs.declared.fault.SaveFault.{SaveFault}

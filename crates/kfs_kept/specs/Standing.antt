@@ -3,8 +3,8 @@ use Rattle.std.specs.Prelude.{◌≡◌, ◌⊎◌, ◌≤◌, ◌^◌, ℕ, len
 use Rattle.kfs_model.specs.Judgement.{State}
 use Rattle.kfs_journal.specs.Disk.{Files}
 use Rattle.kfs_journal.specs.Format.{meaning}
-use Rattle.kfs_restore.specs.Restored.{RestoreAnswer}
-use Rattle.kfs_restore.specs.Saved.{IsSaved}
+use Rattle.kfs_call_desk.specs.Restore.Restored.{RestoreAnswer}
+use Rattle.kfs_call_desk.specs.Restore.Saved.{IsSaved}
 use Rattle.kfs_kept_calls.specs.Leads.{GroupsLead}
 use Rattle.kfs_kept_calls.specs.Making.{Runs}
 use Rattle.kfs_desk.specs.Machine.{Desk}

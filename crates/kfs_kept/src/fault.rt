@@ -3,8 +3,8 @@ ghost use Rattle.std.specs.Prelude.{◌≡◌};
 ghost use Rattle.kfs_kept.specs.Faults.{of_encoding, of_journal};
 ghost use Rattle.kfs_kept.specs.declared.fault.CallsFault.TheVariants as calls;
 
+use kfs_call_desk::{EncodeFault, RestoreFault};
 use kfs_journal::JournalFault;
-use kfs_restore::{EncodeFault, RestoreFault};
 use std::alloc::{AllocError, AllocFailed};
 use thiserror::Error;
 

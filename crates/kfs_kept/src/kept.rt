@@ -7,7 +7,7 @@ ghost use Rattle.kfs_journal.specs.Disk.{Files, LeavesOnly, Only};
 ghost use Rattle.kfs_journal.specs.Format.{meaning};
 ghost use Rattle.kfs_journal.specs.Journal.{AreEmpty};
 ghost use Rattle.kfs_kept_calls.specs.Making.{Runs};
-ghost use Rattle.kfs_restore.specs.Saved.{HasTooMany};
+ghost use Rattle.kfs_call_desk.specs.Restore.Saved.{HasTooMany};
 ghost use Rattle.kfs_kept.specs.Faults.{IsOutside, IsWhy};
 ghost use Rattle.kfs_kept.specs.Keeping.{IsKept};
 ghost use Rattle.kfs_kept.specs.Standing.{HasLongBytes, MeanTheSame, StandFor, StandForAtMost, StandForBeforeOrAfter};

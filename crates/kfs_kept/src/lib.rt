@@ -1,7 +1,7 @@
 //! A desk whose answers outlive a crash: what it has answered stands on two files before the answer is handed out.
 //!
 //! It stands on `kfs_journal` (groups of bytes on two files), `kfs_kept_calls` (calls with their answers as such
-//! groups) and `kfs_restore` (states as bytes). Begin with `Kept`; `specs/Standing` has what files stand for.
+//! groups) and `kfs_call_desk` (states as bytes). Begin with `Kept`; `specs/Standing` has what files stand for.
 #![tactic(auto)]
 
 mod fault;

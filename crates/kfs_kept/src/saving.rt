@@ -3,14 +3,14 @@ ghost use Rattle.std.specs.Prelude.{◌≡◌, ◌⊎◌, None, Ok, OnOk, IfErr,
 ghost use Rattle.kfs_desk.specs.Opening.{begin_fault};
 ghost use Rattle.kfs_journal.specs.Disk.{LeavesOnly, Only};
 ghost use Rattle.kfs_journal.specs.Journal.{AreEmpty, IsSettled};
-ghost use Rattle.kfs_restore.specs.Restored.{RestoreAnswer};
-ghost use Rattle.kfs_restore.specs.Saved.{HasTooMany, IsSaved};
+ghost use Rattle.kfs_call_desk.specs.Restore.Restored.{RestoreAnswer};
+ghost use Rattle.kfs_call_desk.specs.Restore.Saved.{HasTooMany, IsSaved};
 ghost use Rattle.kfs_kept.specs.Standing.{HasLongBytes, StandFor, StandForAtMost};
 
 use crate::fault::SaveFault;
+use kfs_call_desk::{EncodeFault, encode_desk};
 use kfs_desk::Desk;
 use kfs_journal::{Disk, Journal};
-use kfs_restore::{EncodeFault, encode_desk};
 use kfs_restore_threads::laws::a_saved_desk_is_restored;
 use std::alloc::Allocator;
 

@@ -15,11 +15,11 @@ use Rattle.kfs_lease.proofs.ListLemmas.OneList.{one_list}
 use Rattle.kfs_fsck.specs.SavedImages.{IsReadAgain}
 use Rattle.kfs_fsck.proofs.SavedImages.{lawful_image, read_again}
 use Rattle.kfs_call.specs.StateRows.{state_bytes}
-use Rattle.kfs_restore.specs.Saved.{IsSaved, lease_of_row, rows_of_state, spelled_lease}
-use Rattle.kfs_restore.specs.Restored.{BadClients, BadLease, BrokenRule, RestoreAnswer, begin_refusal, clients_refusal, leases_refusal, rule_refusal, shown_state, unless, verdict}
+use Rattle.kfs_call_desk.specs.Restore.Saved.{IsSaved, lease_of_row, rows_of_state, spelled_lease}
+use Rattle.kfs_call_desk.specs.Restore.Restored.{BadClients, BadLease, BrokenRule, RestoreAnswer, begin_refusal, clients_refusal, leases_refusal, rule_refusal, shown_state, unless, verdict}
 use Rattle.kfs_restore_threads.specs.Laws.{CanBegin, SavedApart, SavedIsRestored, SavedOnce}
-use Rattle.kfs_restore.proofs.ClientRows.{clients_pass}
-use Rattle.kfs_restore.proofs.OneAnswer.{one_answer, passes}
+use Rattle.kfs_call_desk.proofs.RestoreLemmas.ClientRows.{clients_pass}
+use Rattle.kfs_call_desk.proofs.RestoreLemmas.OneAnswer.{one_answer, passes}
 
 -- rows are the leases that they were written for
 pub same_leases : (leases : List LeaseRow) → map lease_of_row (map spelled_lease leases) ≡ leases

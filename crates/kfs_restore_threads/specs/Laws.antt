@@ -6,8 +6,8 @@ use Rattle.kfs_model.specs.Spelling.{IsBytes}
 use Rattle.kfs_lease.specs.LeaseLists.{HasLawfulLeases}
 use Rattle.kfs_desk.specs.Machine.{IsShown}
 use Rattle.kfs_desk.specs.Opening.{begin_fault}
-use Rattle.kfs_restore.specs.Saved.{IsSaved}
-use Rattle.kfs_restore.specs.Restored.{RestoreAnswer}
+use Rattle.kfs_call_desk.specs.Restore.Saved.{IsSaved}
+use Rattle.kfs_call_desk.specs.Restore.Restored.{RestoreAnswer}
 
 -- a state that a desk can begin with: in order, with lawful leases, shown by a well formed image, and its clients can
 -- be beside each other

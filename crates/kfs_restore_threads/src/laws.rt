@@ -2,8 +2,8 @@
 ghost use Rattle.std.specs.Prelude.{◌≡◌, ℕ, List, None, Ok};
 ghost use Rattle.kfs_desk.specs.Opening.{begin_fault};
 ghost use Rattle.kfs_restore_threads.specs.Laws.{SavedApart, SavedIsRestored, SavedOnce};
-ghost use Rattle.kfs_restore.specs.Restored.{RestoreAnswer};
-ghost use Rattle.kfs_restore.specs.Saved.{IsSaved};
+ghost use Rattle.kfs_call_desk.specs.Restore.Restored.{RestoreAnswer};
+ghost use Rattle.kfs_call_desk.specs.Restore.Saved.{IsSaved};
 
 use kfs_desk::Desk;
 use std::alloc::Allocator;

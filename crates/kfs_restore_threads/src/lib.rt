@@ -1,8 +1,8 @@
 //! A desk from the bytes of a state, with the rules of single nodes tested in several threads.
 //!
-//! It stands on `kfs_restore`, which has what one thread does, and on `kfs_fsck`, which asks rows in threads and has the
+//! It stands on `kfs_call_desk`, which has what one thread does, and on `kfs_fsck`, which asks rows in threads and has the
 //! lemmas on saved images; so `laws` has here what holds of states that are saved and restored. It is a crate of its own
-//! so that what mustn't start threads can stand on `kfs_restore`, as `kfs_c` does.
+//! so that what mustn't start threads can stand on `kfs_call_desk`, as `kfs_c` does.
 #![tactic(auto)]
 
 #[doc(hidden)]
@@ -10,20 +10,20 @@ pub mod laws;
 
 ghost use Rattle.std.specs.Prelude.{◌≡◌, Result};
 ghost use Rattle.kfs_model.specs.Judgement.{State};
-ghost use Rattle.kfs_restore.specs.Restored as model;
-ghost use Rattle.kfs_restore.specs.Restored.{RestoreAnswer};
-ghost use Rattle.kfs_restore.specs.Told.{OnRestored};
+ghost use Rattle.kfs_call_desk.specs.Restore.Restored as model;
+ghost use Rattle.kfs_call_desk.specs.Restore.Restored.{RestoreAnswer};
+ghost use Rattle.kfs_call_desk.specs.Restore.Told.{OnRestored};
 
+use kfs_call_desk::{RestoreFault, restore_asking};
 use kfs_desk::Desk;
 use kfs_fsck::InParts;
-use kfs_restore::{RestoreFault, restore_asking};
 use std::alloc::Allocator;
 use std::thread::Threads;
 
 /// A desk that goes on where another stood: its state is that of the bytes. The docket is empty, and will have at most
 /// `limit` rows.
 ///
-/// What is let in, and what is refused with which fault, is as for `restore_alone` of `kfs_restore`. The rules of
+/// What is let in, and what is refused with which fault, is as for `restore_alone` of `kfs_call_desk`. The rules of
 /// single nodes of the image are tested in several threads, as `fsck` tests them.
 pub fn restore<A: Allocator + Copy>(
     rt: &(impl Threads + Sync),

@@ -15,7 +15,7 @@ use crate::node_test::{AskRows, InTurn};
 use crate::places::least_shared;
 use crate::{names, nodes};
 use kfs_image::RawImage;
-use kfs_map_pages::Pages;
+use kfs_maps::Pages;
 use kfs_types::Header;
 use std::alloc::Allocator;
 

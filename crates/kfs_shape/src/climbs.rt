@@ -11,7 +11,7 @@ use crate::counts::span;
 use crate::heads::has_directory;
 use crate::node_test::{AskRows, NodeTest};
 use kfs_image::{RawImage, RawNode};
-use kfs_map_pages::Pages;
+use kfs_maps::Pages;
 use kfs_types::{Header, Kind, NameRow, ROOT};
 use std::alloc::{AllocError, Allocator};
 

@@ -10,7 +10,7 @@ ghost use Rattle.kfs_image.specs.Codec.RawImages.{extent_row_of, raw_of};
 
 use crate::least::{noted, previous};
 use kfs_image::{ExtentRow, RawImage};
-use kfs_map_pages::Pages;
+use kfs_maps::Pages;
 use kfs_types::{BLOCK_SIZE, Header, Kind, TierSizes};
 use std::alloc::Allocator;
 

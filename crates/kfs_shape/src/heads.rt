@@ -8,7 +8,7 @@ ghost use Rattle.kfs_shape.specs.Heads.{head_at, ShowsHeads};
 
 use crate::least::noted;
 use kfs_image::{RawImage, raw_headers};
-use kfs_map_pages::Pages;
+use kfs_maps::Pages;
 use kfs_types::{Header, Kind, ROOT};
 use std::alloc::{AllocError, Allocator};
 

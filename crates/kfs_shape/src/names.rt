@@ -15,7 +15,7 @@ use crate::heads::{has_directory, has_node};
 use crate::least::{noted, previous};
 use crate::node_test::{AskRows, NodeTest};
 use kfs_image::{RawImage, RawNode};
-use kfs_map_pages::Pages;
+use kfs_maps::Pages;
 use kfs_types::{Header, Kind, LINK_LIMIT, NameRow, ROOT};
 use std::alloc::{AllocError, Allocator};
 

@@ -2,11 +2,11 @@
 
 use crate::saved::{is_saved_as, restored, saved};
 use kfs_call::StateFault;
+use kfs_call_desk::{EncodeFault, RestoreFault};
 use kfs_desk::BeginFault;
 use kfs_image::ImageFault;
 use kfs_lease::LeaseRowFault;
 use kfs_mode::ClientFault;
-use kfs_restore::{EncodeFault, RestoreFault};
 use kfs_shape::Finding;
 use kfs_test_support::refusing::Refusing;
 use std::alloc::{AllocError, Allocator, Global};

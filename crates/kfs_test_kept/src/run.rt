@@ -4,13 +4,12 @@ ghost use Rattle.kfs_desk.specs.Opening.{begin_fault};
 ghost use Rattle.kfs_journal.specs.Memory.{memory_may_leave, memory_seen};
 ghost use Rattle.kfs_kept.specs.Keeping.{IsKept};
 
-use kfs_call_desk::call;
+use kfs_call_desk::{call, encode_desk};
 use kfs_desk::Desk;
 use kfs_image::{Image, TierSizes};
 use kfs_journal::MemoryDisk;
 use kfs_kept::Kept;
 use kfs_mode::Client;
-use kfs_restore::encode_desk;
 use kfs_test_support::vectors::{CREATE_LOG, CREATE_PLAN, LETTERS_LOG, LETTERS_PLAN};
 use std::alloc::{AllocError, Global};
 

@@ -78,8 +78,10 @@ pub mod call {
         StateFault, StateRows, Told, decode_answer, decode_call, decode_state, encode_answer,
         encode_call, encode_state, spell_answer,
     };
-    pub use kfs_call_desk::{CallFault, Called, answer_row, call, told};
-    pub use kfs_restore::{EncodeFault, RestoreFault, encode_desk, restore_alone};
+    pub use kfs_call_desk::{
+        CallFault, Called, EncodeFault, RestoreFault, answer_row, call, encode_desk, restore_alone,
+        told,
+    };
     pub use kfs_restore_threads::restore;
 }
 

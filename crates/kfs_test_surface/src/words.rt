@@ -1,7 +1,7 @@
 //! What each fault says of itself as an `Error`: the words of docs/FORMATS.md, where these have some.
 
 use kfs_call::{FieldFault, StateFault};
-use kfs_call_desk::CallFault;
+use kfs_call_desk::{CallFault, EncodeFault, RestoreFault};
 use kfs_desk::{ActFault, BeginFault, Unanswered, Why};
 use kfs_entry::SpellFault;
 use kfs_image::{ImageFault, ReadFault};
@@ -12,7 +12,6 @@ use kfs_mode::ClientFault;
 use kfs_plan::{Fault, RowFault};
 use kfs_program::EngineFault;
 use kfs_report::fault_line;
-use kfs_restore::{EncodeFault, RestoreFault};
 use kfs_shape::{Finding, ShapeFault};
 use kfs_test_support::refusing::Refusing;
 use kfs_workers::{SharedWant, Unreturned};

@@ -13,9 +13,9 @@ use Rattle.std.proofs.lemmas.Map.Keys.{ge_from_not_lt}
 use Rattle.kfs_model.specs.Table.{pairs, numbers, get, changed}
 use Rattle.kfs_model.specs.Placement.{Place, Placement}
 use Rattle.kfs_model.proofs.TableLaws.{same_table, get-retain, get-changed}
-use Rattle.kfs_map_chunks.specs.Starts.{is_from, IsNextEntry}
-use Rattle.kfs_map_chunks.specs.Tables.{table}
-use Rattle.kfs_map_chunks.proofs.Tables.{get-table}
+use Rattle.kfs_maps.specs.Chunks.Starts.{is_from, IsNextEntry}
+use Rattle.kfs_maps.specs.Chunks.Tables.{table}
+use Rattle.kfs_maps.proofs.ChunksLemmas.Tables.{get-table}
 use Rattle.kfs_image.specs.declared.blocks.fill.BlockRun.{BlockRun}
 use Rattle.kfs_image.specs.Blocks.Fill.{is_in, is_in_one, less}
 

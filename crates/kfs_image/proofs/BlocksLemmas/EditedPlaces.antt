@@ -8,9 +8,9 @@ use Rattle.std.proofs.lemmas.Bool.{both_ways, cases_Bool, or_cases, or_left}
 use Rattle.std.proofs.lemmas.List.{drop_all}
 use Rattle.kfs_model.specs.Table.{numbers, pairs, get}
 use Rattle.kfs_model.specs.Placement.{TierSizes, Place, Placement, IsLaid}
-use Rattle.kfs_map_chunks.specs.Edits.{edited, KeysAscend}
-use Rattle.kfs_map_chunks.specs.Tables.{table_after}
-use Rattle.kfs_map_chunks.proofs.Tables.{get-table_after}
+use Rattle.kfs_maps.specs.Chunks.Edits.{edited, KeysAscend}
+use Rattle.kfs_maps.specs.Chunks.Tables.{table_after}
+use Rattle.kfs_maps.proofs.ChunksLemmas.Tables.{get-table_after}
 use Rattle.kfs_image.specs.Tier.Tiers.{is_place, is_among, PlacesAreDistinct}
 use Rattle.kfs_image.specs.Tier.Unused.{IsLeft, AreMoved}
 use Rattle.kfs_image.proofs.TierLemmas.MovedPlaces.{is_place-is, is_place-same, among_at}

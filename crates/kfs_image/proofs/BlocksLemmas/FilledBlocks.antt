@@ -7,8 +7,8 @@ use Rattle.kfs_model.specs.Table.{pairs, numbers, get, changed, insert}
 use Rattle.kfs_model.specs.Placement.{Place, Placement, tier_size, IsLaid}
 use Rattle.kfs_model.proofs.TableLaws.{same_table, get-retain}
 use Rattle.kfs_model.specs.Device.Device.{Devices}
-use Rattle.kfs_map_chunks.specs.Edits.{KeysAscend}
-use Rattle.kfs_map_chunks.specs.Tables.{table_after}
+use Rattle.kfs_maps.specs.Chunks.Edits.{KeysAscend}
+use Rattle.kfs_maps.specs.Chunks.Tables.{table_after}
 use Rattle.kfs_image.specs.declared.tier.tiers.NewBlock.{NewBlock}
 use Rattle.kfs_image.specs.Tier.Tiers.{with_blocks}
 use Rattle.kfs_image.proofs.TierLemmas.TierLists.{rest_at}

@@ -4,9 +4,9 @@ use Rattle.std.specs.Prelude.{IfSome, IfNone, OnOk, OnErr, vec_len}
 use Rattle.kfs_model.specs.Limits.{block_size}
 use Rattle.kfs_model.specs.Table.{numbers, pairs, empty, get}
 use Rattle.kfs_model.specs.Placement.{Place, Placement, TierSizes, tier_size, IsLaid}
-use Rattle.kfs_map_chunks.specs.Edits.{rewritten}
-use Rattle.kfs_map_chunks.specs.Tables.{table, table_after}
-use Rattle.kfs_map_chunks.proofs.Tables.{table-rewritten}
+use Rattle.kfs_maps.specs.Chunks.Edits.{rewritten}
+use Rattle.kfs_maps.specs.Chunks.Tables.{table, table_after}
+use Rattle.kfs_maps.proofs.ChunksLemmas.Tables.{table-rewritten}
 use Rattle.kfs_image.specs.declared.tier.tiers.NewBlock.{NewBlock}
 use Rattle.kfs_image.specs.Tier.Places.{IsNextFree, AreUsedFrom}
 use Rattle.kfs_image.specs.Tier.Tiers.{TiersShown, places_in, IsInTier, CanMove, with_blocks, changed as changed_tiers}

@@ -9,7 +9,7 @@ use Rattle.kfs_model.specs.Limits.{block_size}
 use Rattle.kfs_model.specs.Placement.{Placement}
 use Rattle.kfs_model.specs.Device.Device.{Devices}
 use Rattle.kfs_model.specs.Device.ShownTree.{file_byte}
-use Rattle.kfs_map_pages.proofs.Numbers.{by_less}
+use Rattle.kfs_maps.proofs.PagesLemmas.Numbers.{by_less}
 
 module _ (placement : Placement) (devices : Devices) (number start : ℕ) where
   -- the buffer's first bytes, so many, are those of the file

@@ -10,7 +10,7 @@ use Rattle.std.proofs.lemmas.Cmp.{ranked}
 use Rattle.kfs_model.specs.Header.{Header}
 use Rattle.kfs_model.specs.Table.{Table, numbers, get}
 use Rattle.kfs_image_nodes.specs.Look.{IsNextNode}
-use Rattle.kfs_map_chunks.specs.Starts.{IsNextEntry}
+use Rattle.kfs_maps.specs.Chunks.Starts.{IsNextEntry}
 use Rattle.kfs_model.specs.Device.ShownTree.{DeviceImage, IsLawful}
 use Rattle.kfs_image.specs.Encode.Rows.{entries_from}
 use Rattle.kfs_image.proofs.EncodeLemmas.Walks.{nothing_from, next_from, each_from}

@@ -9,7 +9,7 @@ use Rattle.kfs_model.specs.Table.{Table, pairs, numbers, get}
 use Rattle.kfs_model.specs.Tree.{Tree, content_of}
 use Rattle.kfs_model.specs.Placement.{Place}
 use Rattle.kfs_model.proofs.CleanIsAllowed.{left, right}
-use Rattle.kfs_map_chunks.specs.Starts.{is_from, IsNextEntry}
+use Rattle.kfs_maps.specs.Chunks.Starts.{is_from, IsNextEntry}
 use Rattle.kfs_model.specs.Device.ShownTree.{DeviceImage, IsLawful, shown_tree}
 use Rattle.kfs_model.specs.Device.RawImage.{ExtentRow}
 use Rattle.kfs_model.specs.Device.Spelling.{greatest_block}

@@ -9,8 +9,8 @@ use Rattle.std.specs.declared.ops.Bound.TheVariants.{Included, Excluded, Unbound
 use Rattle.std.specs.Ordering.{is_eq, is_lt, is_gt, ordering_reverse}
 use Rattle.std.specs.FinMap.Entries.{find, where_key, below_all, is_sorted, is_sorted-where_key, find-where_key, same_entries}
 use Rattle.kfs_model.specs.Table.{Order, Table, get}
-use Rattle.kfs_map_chunks.specs.Starts.{is_from, IsNextEntry, IsNextRun}
-use Rattle.kfs_map_chunks.proofs.Runs.{whole_run, run_begins}
+use Rattle.kfs_maps.specs.Chunks.Starts.{is_from, IsNextEntry, IsNextRun}
+use Rattle.kfs_maps.proofs.ChunksLemmas.Runs.{whole_run, run_begins}
 use Rattle.kfs_image.specs.Encode.Rows.{entries_from}
 
 greater : (o : Ordering) → is_gt o ≡ true → o ≡ Greater

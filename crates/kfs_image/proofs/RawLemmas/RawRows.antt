@@ -30,9 +30,9 @@ use Rattle.kfs_model.proofs.DeviceLemmas.SoundImage.{each_head, some_directory}
 use Rattle.kfs_image.specs.declared.codec.raw.RawNode.{RawNode as CodeRawNode}
 use Rattle.kfs_image.specs.declared.codec.raw.RawImage.{RawImage as CodeRawImage}
 use Rattle.kfs_image.specs.Codec.RawImages.{raw_node_of, raw_of}
-use Rattle.kfs_map_chunks.specs.Tables.{table}
-use Rattle.kfs_map_pages.specs.declared.change.NumberEdit.{NumberEdit}
-use Rattle.kfs_map_pages.specs.Edits.{rewritten, AreEdits}
+use Rattle.kfs_maps.specs.Chunks.Tables.{table}
+use Rattle.kfs_maps.specs.declared.pages.change.NumberEdit.{NumberEdit}
+use Rattle.kfs_maps.specs.Pages.Edits.{rewritten, AreEdits}
 use Rattle.kfs_image_nodes.specs.NodeEdits.{IsNumber}
 use Rattle.kfs_image_nodes.specs.Rows.{heads_of as heads_shown}
 use Rattle.kfs_image_nodes.specs.SortedRows.{name_entries}

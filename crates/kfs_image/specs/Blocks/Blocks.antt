@@ -4,8 +4,8 @@ use Rattle.kfs_model.specs.Limits.{block_size}
 use Rattle.kfs_model.specs.Table.{numbers, pairs}
 use Rattle.kfs_model.specs.Placement.{TierSizes, Placement, tier_size, IsLaid}
 use Rattle.kfs_model.specs.Device.Device.{Devices, AreBlocks}
-use Rattle.kfs_map_chunks.specs.Edits.{KeysAscend}
-use Rattle.kfs_map_chunks.specs.Tables.{table_after}
+use Rattle.kfs_maps.specs.Chunks.Edits.{KeysAscend}
+use Rattle.kfs_maps.specs.Chunks.Tables.{table_after}
 use Rattle.kfs_image.specs.declared.tier.tiers.NewBlock.{NewBlock}
 use Rattle.kfs_image.specs.Tier.Tiers.{TiersShown, with_blocks}
 use Rattle.kfs_image.specs.Tier.Unused.{FreeIsUnused}

@@ -2,7 +2,7 @@
 use Rattle.std.specs.Prelude.{ℕ, List, [], ◌∷◌, ◌++◌, Option, Some, None, if◌then◌else◌}
 use Rattle.kfs_model.specs.Table.{get}
 use Rattle.kfs_model.specs.Placement.{Place, Placement}
-use Rattle.kfs_map_chunks.specs.declared.entries.KeyEdit.{KeyEdit}
+use Rattle.kfs_maps.specs.declared.chunks.entries.KeyEdit.{KeyEdit}
 use Rattle.kfs_image.specs.Tier.Tiers.{is_place}
 
 -- an edit of a block's place: the new place, or none

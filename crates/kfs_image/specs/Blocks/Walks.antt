@@ -2,9 +2,9 @@
 use Rattle.std.specs.Prelude.{◌≡◌, ℕ, ◌<◌, ◌≤◌, List, None}
 use Rattle.kfs_model.specs.Table.{pairs, numbers, get}
 use Rattle.kfs_model.specs.Placement.{Place, Placement}
-use Rattle.kfs_map_chunks.specs.Tables.{table}
-use Rattle.kfs_map_chunks.specs.declared.overlay.Overlay.{Overlay}
-use Rattle.kfs_map_chunks.specs.Overlays.{overlaid}
+use Rattle.kfs_maps.specs.Chunks.Tables.{table}
+use Rattle.kfs_maps.specs.declared.chunks.overlay.Overlay.{Overlay}
+use Rattle.kfs_maps.specs.Chunks.Overlays.{overlaid}
 
 -- no block of the file from `first` on and below `end` is mapped
 abbrev pub AreUnmapped : List ((ℕ × ℕ) × Place) → (number first end : ℕ) → Type 0

@@ -7,7 +7,7 @@ use Rattle.kfs_model.specs.Spelling.{name_row_bytes}
 use Rattle.kfs_model.specs.Table.{Order, Table}
 use Rattle.kfs_model.specs.Device.Listed.{raw_node, name_row}
 use Rattle.kfs_model.specs.Device.Spelling.{raw_node_bytes}
-use Rattle.kfs_map_chunks.specs.Starts as starts
+use Rattle.kfs_maps.specs.Chunks.Starts as starts
 use Rattle.kfs_image.specs.declared.codec.raw.RawNode.{RawNode}
 
 module _ {K X : Type 0} {R : Order K} where

@@ -1,7 +1,7 @@
 -- The node and name rows of a raw image, as what they make of a shape.
 use Rattle.std.specs.Prelude.{Some}
 use Rattle.kfs_types.specs.declared.entry.Header.{Header}
-use Rattle.kfs_map_pages.specs.declared.change.NumberEdit.{NumberEdit}
+use Rattle.kfs_maps.specs.declared.pages.change.NumberEdit.{NumberEdit}
 use Rattle.kfs_model.specs.Device.RawImage.{RawImage, heads_of, names_of}
 use Rattle.kfs_image.specs.declared.codec.raw.RawNode.{RawNode as CodeRawNode}
 use Rattle.kfs_image_nodes.specs.Contents.{Contents}

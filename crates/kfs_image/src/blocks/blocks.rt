@@ -6,16 +6,16 @@ ghost use Rattle.kfs_model.specs.Table.{empty, get, pairs, numbers};
 ghost use Rattle.kfs_model.specs.Device.Device.{AreBlocks};
 ghost use Rattle.kfs_model.specs.Device.ShownTree.{file_byte};
 ghost use Rattle.kfs_image.specs.Tier.Unused.{IsNextUnused, AreTakenFrom, unused_places};
-ghost use Rattle.kfs_map_chunks.specs.Edits.{KeysAscend};
-ghost use Rattle.kfs_map_chunks.specs.Starts.{is_from, IsNextEntry};
-ghost use Rattle.kfs_map_chunks.specs.Tables.{table_after};
+ghost use Rattle.kfs_maps.specs.Chunks.Edits.{KeysAscend};
+ghost use Rattle.kfs_maps.specs.Chunks.Starts.{is_from, IsNextEntry};
+ghost use Rattle.kfs_maps.specs.Chunks.Tables.{table_after};
 ghost use Rattle.kfs_image.specs.Blocks.Blocks.{CanChange, changed};
 ghost use Rattle.kfs_image.specs.Blocks.Fill.{CanFill, filled, placement_after};
 
 use crate::blocks::fill::{BlockEdits, BlockRow, BlockRun, Moves, copies, fill_edits, moved};
 use crate::blocks::staged::ChangeTiers;
 use crate::tier::{NewBlock, Place, Tiers};
-use kfs_map_chunks::{Chunks, KeyEdit};
+use kfs_maps::{Chunks, KeyEdit};
 use kfs_types::TierSizes;
 use std::alloc::{AllocError, Allocator};
 use std::marker::Model;
@@ -31,7 +31,7 @@ pub struct FileBlocks<A: Allocator> {
 
 impl<A: Allocator> Model for FileBlocks<A> {
     ghost use Rattle.kfs_model.specs.Table.{pairs, numbers};
-    ghost use Rattle.kfs_map_chunks.specs.Tables.{table};
+    ghost use Rattle.kfs_maps.specs.Chunks.Tables.{table};
     ghost use Rattle.kfs_image.specs.Blocks.Blocks.{BlocksShown, AreHeld};
 
     ghost Value = { BlocksShown };

@@ -2,14 +2,14 @@
 //! free, and those that become used, when blocks change places.
 ghost use Rattle.std.specs.Prelude.{◌≡◌, ◌∷◌, [], ◌≤◌, ◌<◌, map, IfSome, IfNone, IfOk, OnOk, ◌++◌};
 ghost use Rattle.kfs_model.specs.Table.{pairs, numbers};
-ghost use Rattle.kfs_map_chunks.specs.Edits.{KeysAscend};
-ghost use Rattle.kfs_map_chunks.specs.Tables.{table_after, table};
+ghost use Rattle.kfs_maps.specs.Chunks.Edits.{KeysAscend};
+ghost use Rattle.kfs_maps.specs.Chunks.Tables.{table_after, table};
 ghost use Rattle.kfs_image.specs.Blocks.Fill.{less, mapped_by, placement_after, new_part, row_edit, row_part};
 ghost use Rattle.kfs_image.specs.Blocks.Walks.{AreUnmapped, placed, seen, SeesMapped};
 ghost use Rattle.kfs_image.specs.Blocks.Moves.{left_by, given_by, taken_by};
 
 use crate::tier::{NewBlock, Place};
-use kfs_map_chunks::{Chunks, KeyEdit, Near, Overlay, key_edits, push_above};
+use kfs_maps::{Chunks, KeyEdit, Near, Overlay, key_edits, push_above};
 use std::alloc::{AllocError, Allocator};
 use std::ops::Bound;
 

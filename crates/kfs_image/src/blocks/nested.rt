@@ -3,7 +3,7 @@ ghost use Rattle.std.proofs.Common.{rules};
 
 use crate::blocks::blocks::FileBlocks;
 use crate::tier::{NewBlock, Place};
-use kfs_map_chunks::KeyEdit;
+use kfs_maps::KeyEdit;
 use kfs_types::Change;
 use std::alloc::{AllocError, Allocator};
 use std::mem;

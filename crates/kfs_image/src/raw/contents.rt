@@ -9,7 +9,7 @@ ghost use Rattle.kfs_image.specs.Raw.Rows.{header_edit, contents_of_raw};
 
 use crate::codec::{RawImage, RawNode};
 use kfs_image_nodes::{Header, Shape};
-use kfs_map_pages::{NumberEdit, Pages};
+use kfs_maps::{NumberEdit, Pages};
 use kfs_types::Nothing;
 use std::alloc::{AllocError, Allocator};
 

@@ -15,9 +15,9 @@ use Rattle.kfs_model.specs.Lease as model
 use Rattle.kfs_model.specs.Table.{get}
 use Rattle.kfs_model.proofs.FirstAnswer.{each_from_none, none_from_each, none_more}
 use Rattle.kfs_model.proofs.TableLaws.{get-insert, same_table}
-use Rattle.kfs_map_chunks.specs.Starts.{is_from, IsNextEntry}
-use Rattle.kfs_map_chunks.specs.Tables.{table}
-use Rattle.kfs_map_chunks.proofs.Tables.{get-table}
+use Rattle.kfs_maps.specs.Chunks.Starts.{is_from, IsNextEntry}
+use Rattle.kfs_maps.specs.Chunks.Tables.{table}
+use Rattle.kfs_maps.proofs.ChunksLemmas.Tables.{get-table}
 use Rattle.kfs_lease.specs.LeaseLists.{Ascend, LeaseRow, is_before, lease_in, listed_table}
 use Rattle.kfs_lease.specs.Rows.Listed.{NoneFrom}
 use Rattle.kfs_lease.specs.Rows.Rows.{by_node, lease_of, shown}

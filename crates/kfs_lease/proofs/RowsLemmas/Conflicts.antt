@@ -17,8 +17,8 @@ use Rattle.kfs_model.specs.Table.{pairs, numbers, get}
 use Rattle.kfs_model.specs.Check.{is_some_and}
 use Rattle.kfs_model.specs.Lease as model
 use Rattle.kfs_model.proofs.Tables.{left_part, right_part}
-use Rattle.kfs_map_chunks.specs.Tables.{table}
-use Rattle.kfs_map_chunks.proofs.Tables.{get-table}
+use Rattle.kfs_maps.specs.Chunks.Tables.{table}
+use Rattle.kfs_maps.proofs.ChunksLemmas.Tables.{get-table}
 use Rattle.kfs_lease.specs.declared.rows.rows.Lease.{Lease}
 use Rattle.kfs_lease.specs.InForce.{AreInForce}
 use Rattle.kfs_lease.specs.Rows.Ending.{IsFirstOther, NoOtherOn}

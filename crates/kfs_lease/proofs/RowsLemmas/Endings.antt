@@ -7,10 +7,10 @@ use Rattle.std.specs.FinMap.Entries.{find}
 use Rattle.std.proofs.lemmas.Bool.{both_ways}
 use Rattle.kfs_model.specs.Table.{get, changed}
 use Rattle.kfs_model.specs.Lease.{live_at}
-use Rattle.kfs_map_chunks.specs.Starts.{is_from, IsNextEntry}
-use Rattle.kfs_map_chunks.specs.Tables.{table}
-use Rattle.kfs_map_chunks.proofs.Tables.{get-table}
-use Rattle.kfs_map_chunks.proofs.Overlays.{overlaid_none}
+use Rattle.kfs_maps.specs.Chunks.Starts.{is_from, IsNextEntry}
+use Rattle.kfs_maps.specs.Chunks.Tables.{table}
+use Rattle.kfs_maps.proofs.ChunksLemmas.Tables.{get-table}
+use Rattle.kfs_maps.proofs.ChunksLemmas.Overlays.{overlaid_none}
 use Rattle.kfs_lease.specs.declared.rows.rows.RowEnd.{RowEnd}
 use Rattle.kfs_lease.specs.declared.rows.rows.Lease.{Lease}
 use Rattle.kfs_lease.specs.declared.rows.rows.LeaseRows.{LeaseRows}

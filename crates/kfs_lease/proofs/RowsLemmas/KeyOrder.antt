@@ -6,7 +6,7 @@ use Rattle.std.specs.declared.ops.Bound.TheVariants.{Included}
 use Rattle.std.specs.Ordering.{nat_cmp, is_lt, is_gt, ordering_then}
 use Rattle.std.specs.Cmp.{nat_cmp_is}
 use Rattle.std.proofs.lemmas.Cmp.{ranked}
-use Rattle.kfs_map_chunks.specs.Starts.{is_from}
+use Rattle.kfs_maps.specs.Chunks.Starts.{is_from}
 use Rattle.kfs_lease.specs.Rows.Ending.{start_on}
 use Rattle.kfs_lease.specs.Rows.Rows.{by_node}
 

@@ -5,8 +5,8 @@ use Rattle.std.specs.FinMap.Entries.{find}
 use Rattle.std.specs.declared.ops.Bound.{Bound}
 use Rattle.std.specs.declared.ops.Bound.TheVariants.{Included, Excluded}
 use Rattle.kfs_model.specs.Table.{Order, Table, get, changed}
-use Rattle.kfs_map_chunks.specs.Overlays.{overlaid}
-use Rattle.kfs_map_chunks.specs.Starts.{is_from}
+use Rattle.kfs_maps.specs.Chunks.Overlays.{overlaid}
+use Rattle.kfs_maps.specs.Chunks.Starts.{is_from}
 use Rattle.kfs_lease.specs.declared.rows.rows.Ending.{Ending}
 use Rattle.kfs_lease.specs.declared.rows.rows.RowEnd.{RowEnd}
 use Rattle.kfs_lease.specs.declared.rows.rows.Lease.{Lease}

@@ -2,7 +2,7 @@
 use Rattle.std.specs.Prelude.{◌≡◌, ℕ, true, List, None}
 use Rattle.std.specs.FinMap.Entries.{find}
 use Rattle.std.specs.declared.ops.Bound.{Bound}
-use Rattle.kfs_map_chunks.specs.Starts.{is_from}
+use Rattle.kfs_maps.specs.Chunks.Starts.{is_from}
 use Rattle.kfs_lease.specs.declared.rows.rows.Lease.{Lease}
 use Rattle.kfs_lease.specs.Rows.Rows.{by_node}
 

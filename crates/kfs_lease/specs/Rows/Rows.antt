@@ -6,7 +6,7 @@ use Rattle.std.specs.FinMap.{IsAntisymmetric}
 use Rattle.kfs_model.specs.Table.{Order, Table, numbers, pairs, pairs_exact, get, insert, empty}
 use Rattle.kfs_model.specs.Check.{is_some_and}
 use Rattle.kfs_model.specs.Lease as model
-use Rattle.kfs_map_chunks.specs.Tables.{table}
+use Rattle.kfs_maps.specs.Chunks.Tables.{table}
 use Rattle.kfs_lease.specs.declared.rows.rows.RowEnd.{RowEnd}
 use Rattle.kfs_lease.specs.declared.rows.rows.LeaseKind.{LeaseKind}
 use Rattle.kfs_lease.specs.declared.rows.rows.LeaseKind.TheVariants.{Read, Write}

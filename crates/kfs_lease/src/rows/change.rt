@@ -1,13 +1,13 @@
 //! A change of rows with their ends, which may be made together with another change.
 ghost use Rattle.std.specs.Prelude.{◌≡◌, OnOk, OnErr, option_map};
 ghost use Rattle.kfs_model.specs.Table.{changed};
-ghost use Rattle.kfs_map_chunks.specs.Edits.{KeysAscend};
-ghost use Rattle.kfs_map_chunks.specs.Tables.{table_after};
+ghost use Rattle.kfs_maps.specs.Chunks.Edits.{KeysAscend};
+ghost use Rattle.kfs_maps.specs.Chunks.Tables.{table_after};
 ghost use Rattle.kfs_lease.specs.Rows.Ending.{AreListed, rows_left};
 ghost use Rattle.kfs_lease.specs.Rows.Rows.{by_node, by_end, lease_of, row_table, end_table, table_in, AreEndsOf, EndsAreExact};
 
 use crate::rows::rows::{Ending, Lease, LeaseRows, RowEnd};
-use kfs_map_chunks::{Chunks, KeyEdit, key_edits};
+use kfs_maps::{Chunks, KeyEdit, key_edits};
 use kfs_types::{Change, Nothing};
 use std::alloc::{AllocError, Allocator};
 
@@ -28,7 +28,7 @@ struct EditEnds<'a, 'b, A: Allocator, T> {
 impl<'a, 'b, A: Allocator + Clone, T: Change> Change for EditEnds<'a, 'b, A, T> {
     ghost use Rattle.std.specs.Prelude.{refl};
     ghost use Rattle.kfs_types.specs.Nested.{Becomes};
-    ghost use Rattle.kfs_map_chunks.specs.Edits.{rewritten, KeysAscend};
+    ghost use Rattle.kfs_maps.specs.Chunks.Edits.{rewritten, KeysAscend};
     ghost use Rattle.kfs_lease.specs.Rows.Ending.{HoldsOfLent};
     ghost use Rattle.kfs_lease.specs.Rows.Rows.{by_end};
 

@@ -9,7 +9,7 @@ ghost use Rattle.kfs_lease.specs.Rows.Ending.{AddsRow, AddsEnd};
 
 use crate::rows::change::EndEdit;
 use crate::rows::walk::first_other;
-use kfs_map_chunks::{Chunks, Key, KeyEdit, Overlay};
+use kfs_maps::{Chunks, Key, KeyEdit, Overlay};
 use kfs_types::{Change, Nothing};
 use std::alloc::{AllocError, Allocator};
 

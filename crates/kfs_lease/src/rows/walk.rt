@@ -1,13 +1,13 @@
 //! Walks over rows and ends, one after another in their order, and the first row of another client.
 ghost use Rattle.std.specs.Prelude.{◌≡◌, ◌≤◌, IfSome, IfNone, OnOk};
 ghost use Rattle.kfs_model.specs.Lease.{live_at};
-ghost use Rattle.kfs_map_chunks.specs.Starts.{IsNextEntry};
+ghost use Rattle.kfs_maps.specs.Chunks.Starts.{IsNextEntry};
 ghost use Rattle.kfs_lease.specs.Rows.Ending.{rows_left, start_on, AreLater, AreListed, IsFirstOther, NoneOn, NoOtherOn};
 ghost use Rattle.kfs_lease.specs.Rows.Listed.{NoneFrom};
 ghost use Rattle.kfs_lease.specs.Rows.Rows.{by_node, by_end, shown, without_node, EndsAreExact};
 
 use crate::rows::rows::{Ending, Lease, LeaseRows, RowEnd};
-use kfs_map_chunks::Chunks;
+use kfs_maps::Chunks;
 use std::alloc::{AllocError, Allocator};
 use std::ops::Bound;
 

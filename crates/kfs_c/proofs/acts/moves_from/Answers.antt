@@ -1,4 +1,4 @@
-use Rattle.kfs_map_chunks.proofs.InOrder.{one_made, all_made}
+use Rattle.kfs_maps.proofs.ChunksLemmas.InOrder.{one_made, all_made}
 use Rattle.kfs_image_nodes.proofs.NodeEdits.{rows_left}
 use Rattle.kfs_c.specs.Calls.{move_of}
 use Rattle.kfs_c.specs.declared.numbers.MoveRow.{MoveRow}

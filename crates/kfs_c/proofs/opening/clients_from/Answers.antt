@@ -1,7 +1,7 @@
 use Rattle.std.proofs.Common.{◌++◌, ◌∷◌, [], All, map, false, ap, subst, ◌∙◌, slice_index_or}
 use Rattle.std.proofs.lemmas.List.{take_all}
 use Rattle.std.proofs.lemmas.List.Elements.{All-nil, All-more}
-use Rattle.kfs_map_chunks.proofs.InOrder.{one_made, all_made}
+use Rattle.kfs_maps.proofs.ChunksLemmas.InOrder.{one_made, all_made}
 use Rattle.kfs_image_nodes.proofs.NodeEdits.{rows_left}
 use Rattle.kfs_c.specs.Opening.{AreRowsRefused, IsRowRight, client_of}
 use Rattle.kfs_c.specs.declared.numbers.ClientRow.{ClientRow}

@@ -1,8 +1,8 @@
 use Rattle.std.proofs.Common.{◌⊎◌, ◌≡◌, List, ℕ, IfOk, IfErr, subst}
 use Rattle.kfs_model.specs.Judgement.{State}
-use Rattle.kfs_restore.specs.Saved.{HasTooMany, IsSaved}
-use Rattle.kfs_restore.specs.declared.fault.EncodeFault.{EncodeFault}
-use Rattle.kfs_restore.specs.declared.fault.EncodeFault.TheVariants as encoding
+use Rattle.kfs_call_desk.specs.Restore.Saved.{HasTooMany, IsSaved}
+use Rattle.kfs_call_desk.specs.declared.restore.fault.EncodeFault.{EncodeFault}
+use Rattle.kfs_call_desk.specs.declared.restore.fault.EncodeFault.TheVariants as encoding
 use Rattle.kfs_c.proofs.Restoring.{state_shown}
 use Rattle.kfs_c.proofs.states.state_of.Goals as goal
 

@@ -2,9 +2,9 @@ use Rattle.std.proofs.Common.{◌≡◌, ◌<◌, ◌≤◌, [], ◌∷◌, ◌+
 use Rattle.std.proofs.lemmas.List.Elements.{All-nil, All-push, All-weaker}
 use Rattle.kfs_types.specs.declared.entry.Header.{Header}
 use Rattle.kfs_types.specs.declared.plan.NodeRow.{NodeRow}
-use Rattle.kfs_map_pages.specs.declared.change.NumberEdit.{NumberEdit}
-use Rattle.kfs_map_pages.specs.Edits.{AreEdits}
-use Rattle.kfs_map_chunks.proofs.InOrder.{ascends_further, none_ascends, one_made, all_made}
+use Rattle.kfs_maps.specs.declared.pages.change.NumberEdit.{NumberEdit}
+use Rattle.kfs_maps.specs.Pages.Edits.{AreEdits}
+use Rattle.kfs_maps.proofs.ChunksLemmas.InOrder.{ascends_further, none_ascends, one_made, all_made}
 use Rattle.kfs_image_nodes.specs.NodeEdits.{node_edit, IsNumber}
 use Rattle.kfs_image_nodes.proofs.NodeEdits.{rows_left}
 use Rattle.kfs_image_nodes.proofs.edits.edits_in_order.Goals as goal

@@ -1,5 +1,5 @@
 use Rattle.std.proofs.Common.{◌≡◌, ◌≤◌, ◌++◌, All, drop, map}
-use Rattle.kfs_map_pages.specs.Edits.{AreEdits}
+use Rattle.kfs_maps.specs.Pages.Edits.{AreEdits}
 use Rattle.kfs_image_nodes.specs.NodeEdits.{node_edit}
 use Rattle.kfs_image_nodes.proofs.edits.edits_in_order.Given as goal
 

@@ -1,6 +1,6 @@
 use Rattle.std.proofs.Common.{◌≡◌, map, ap, subst, ◌∙◌}
 use Rattle.std.specs.Prelude.{IfSome}
-use Rattle.kfs_map_pages.specs.Edits.{edited}
+use Rattle.kfs_maps.specs.Pages.Edits.{edited}
 use Rattle.kfs_image_nodes.specs.NodeEdits.{node_edit}
 use Rattle.kfs_image_nodes.proofs.InOrder.{edits_leave}
 use Rattle.kfs_image_nodes.proofs.edits.header_edits.Goals as goal

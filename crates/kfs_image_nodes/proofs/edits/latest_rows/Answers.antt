@@ -2,9 +2,9 @@ use Rattle.std.proofs.Common.{◌+◌, drop, sym, ap, ◌∙◌}
 use Rattle.std.specs.Ordering.{nat_cmp, eq_by_cmp}
 use Rattle.std.specs.BTreeMap.{get}
 use Rattle.kfs_image_nodes.specs.NodeEdits.{left_by}
-use Rattle.kfs_map_chunks.specs.Overlays.{said_or}
+use Rattle.kfs_maps.specs.Chunks.Overlays.{said_or}
 use Rattle.kfs_image_nodes.proofs.NodeEdits.{rows_left}
-use Rattle.kfs_map_chunks.proofs.Overlays.{said_first}
+use Rattle.kfs_maps.proofs.ChunksLemmas.Overlays.{said_first}
 use Rattle.kfs_image_nodes.proofs.edits.latest_rows.Goals as goal
 
 pub loop-row-preserved : goal.loop-row-preserved

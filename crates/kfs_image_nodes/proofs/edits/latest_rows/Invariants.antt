@@ -3,7 +3,7 @@ use Rattle.std.specs.Ordering.{nat_cmp}
 use Rattle.std.specs.BTreeMap.{get}
 use Rattle.kfs_types.specs.declared.entry.Header.{Header}
 use Rattle.kfs_image_nodes.specs.NodeEdits.{left_by}
-use Rattle.kfs_map_chunks.specs.Overlays.{said_or}
+use Rattle.kfs_maps.specs.Chunks.Overlays.{said_or}
 use Rattle.kfs_image_nodes.proofs.edits.latest_rows.Given as goal
 
 -- the rows that are left make of what was said so far what all rows make

@@ -2,15 +2,15 @@ use Rattle.std.proofs.Common.{◌+◌, drop, sym, ap, subst, ◌∙◌}
 use Rattle.std.proofs.lemmas.List.{at_drop_all}
 use Rattle.kfs_model.specs.Table.{changed}
 use Rattle.kfs_model.specs.Tree.{NameTable, name_order}
-use Rattle.kfs_map_chunks.specs.Edits.{rewritten}
-use Rattle.kfs_map_chunks.specs.Tables.{table}
+use Rattle.kfs_maps.specs.Chunks.Edits.{rewritten}
+use Rattle.kfs_maps.specs.Chunks.Tables.{table}
 use Rattle.kfs_types.specs.declared.plan.NameRow.{NameRow}
 use Rattle.kfs_image_nodes.specs.Change.{led_to, renamed}
 use Rattle.kfs_image_nodes.specs.Indexes.{AreNames, IsCounted, by_node}
 use Rattle.kfs_image_nodes.specs.NameEdits.{names_seen, counts_seen}
 use Rattle.kfs_image_nodes.proofs.NameEdits.{edited_seen, counted_edits}
 use Rattle.kfs_image_nodes.proofs.NodeEdits.{rows_left}
-use Rattle.kfs_map_chunks.proofs.Overlays.{overlaid_none}
+use Rattle.kfs_maps.proofs.ChunksLemmas.Overlays.{overlaid_none}
 use Rattle.kfs_image_nodes.proofs.name_edits.edits_of_all.Goals as goal
 
 pub loop-row-init : goal.loop-row-init

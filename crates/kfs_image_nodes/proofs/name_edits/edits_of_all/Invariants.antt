@@ -1,6 +1,6 @@
 use Rattle.std.proofs.Common.{◌≡◌, drop}
 use Rattle.kfs_model.specs.Tree.{name_order}
-use Rattle.kfs_map_chunks.specs.Tables.{table}
+use Rattle.kfs_maps.specs.Chunks.Tables.{table}
 use Rattle.kfs_image_nodes.specs.Change.{renamed}
 use Rattle.kfs_image_nodes.specs.Indexes.{AreNames}
 use Rattle.kfs_image_nodes.specs.NameEdits.{names_seen, IsCountedOver}

@@ -1,10 +1,10 @@
 use Rattle.std.proofs.Common.{◌≡◌, sym, ap, subst, ◌∙◌}
 use Rattle.std.specs.Prelude.{IfSome}
 use Rattle.kfs_model.specs.Tree.{NameTable, name_order}
-use Rattle.kfs_map_pages.specs.Edits as numbered
-use Rattle.kfs_map_chunks.specs.Edits.{rewritten}
-use Rattle.kfs_map_chunks.specs.Tables.{table, table_after}
-use Rattle.kfs_map_chunks.proofs.Tables.{table-rewritten}
+use Rattle.kfs_maps.specs.Pages.Edits as numbered
+use Rattle.kfs_maps.specs.Chunks.Edits.{rewritten}
+use Rattle.kfs_maps.specs.Chunks.Tables.{table, table_after}
+use Rattle.kfs_maps.proofs.ChunksLemmas.Tables.{table-rewritten}
 use Rattle.kfs_image_nodes.specs.Indexes.{AreInPages, AreNames, IsCounted, by_node}
 use Rattle.kfs_image_nodes.specs.NameEdits.{AreCountEdits, AreRowsInOrder}
 use Rattle.kfs_image_nodes.proofs.InOrder.{edits_rename, edits_of_names}

@@ -1,5 +1,5 @@
 use Rattle.std.proofs.Common.{sym, ap, subst, ◌∙◌}
-use Rattle.kfs_map_pages.specs.Edits.{edited, AreEdits}
+use Rattle.kfs_maps.specs.Pages.Edits.{edited, AreEdits}
 use Rattle.kfs_image_nodes.proofs.NodeEdits.{are_edits, edits_say}
 use Rattle.kfs_image_nodes.proofs.name_edits.number_edits.Goals as goal
 

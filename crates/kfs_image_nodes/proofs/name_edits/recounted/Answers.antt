@@ -1,8 +1,8 @@
 use Rattle.std.proofs.Common.{take, sym, ap, subst, ◌∙◌}
 use Rattle.std.proofs.lemmas.List.{take_all}
 use Rattle.kfs_model.specs.Tree.{NameTable, name_order}
-use Rattle.kfs_map_chunks.specs.Tables.{table, table_after}
-use Rattle.kfs_map_chunks.proofs.Overlays.{overlaid_none}
+use Rattle.kfs_maps.specs.Chunks.Tables.{table, table_after}
+use Rattle.kfs_maps.proofs.ChunksLemmas.Overlays.{overlaid_none}
 use Rattle.kfs_image_nodes.specs.Indexes.{IsCounted, by_node}
 use Rattle.kfs_image_nodes.specs.NameEdits.{counts_seen, ways_seen}
 use Rattle.kfs_image_nodes.proofs.Indexes.{counted_name, counted_moved}

@@ -1,6 +1,6 @@
 use Rattle.std.proofs.Common.{take}
 use Rattle.kfs_model.specs.Tree.{name_order}
-use Rattle.kfs_map_chunks.specs.Tables.{table, table_after}
+use Rattle.kfs_maps.specs.Chunks.Tables.{table, table_after}
 use Rattle.kfs_image_nodes.specs.Indexes.{IsCounted}
 use Rattle.kfs_image_nodes.specs.NameEdits.{counts_seen, ways_seen}
 use Rattle.kfs_image_nodes.proofs.name_edits.recounted.Given as goal

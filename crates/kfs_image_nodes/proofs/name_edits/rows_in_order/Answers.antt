@@ -3,9 +3,9 @@ use Rattle.std.proofs.lemmas.List.Elements.{All-nil, All-push}
 use Rattle.std.specs.declared.cmp.Ordering.TheVariants.{Less}
 use Rattle.kfs_model.specs.Spelling.{IsName}
 use Rattle.kfs_model.specs.Tree.{name_order}
-use Rattle.kfs_map_chunks.specs.declared.entries.KeyEdit.{KeyEdit}
-use Rattle.kfs_map_chunks.specs.Edits.{KeysAscend}
-use Rattle.kfs_map_chunks.proofs.InOrder.{none_ascends, one_made, all_made}
+use Rattle.kfs_maps.specs.declared.chunks.entries.KeyEdit.{KeyEdit}
+use Rattle.kfs_maps.specs.Chunks.Edits.{KeysAscend}
+use Rattle.kfs_maps.proofs.ChunksLemmas.InOrder.{none_ascends, one_made, all_made}
 use Rattle.kfs_image_nodes.specs.NameEdits.{name_edit}
 use Rattle.kfs_image_nodes.proofs.NodeEdits.{rows_left}
 use Rattle.kfs_image_nodes.proofs.name_edits.rows_in_order.Goals as goal

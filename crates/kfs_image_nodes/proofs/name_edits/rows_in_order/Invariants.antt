@@ -1,7 +1,7 @@
 use Rattle.std.proofs.Common.{◌≡◌, ◌++◌, All, drop, map}
 use Rattle.kfs_model.specs.Spelling.{IsName}
 use Rattle.kfs_model.specs.Tree.{name_order}
-use Rattle.kfs_map_chunks.specs.Edits.{KeysAscend}
+use Rattle.kfs_maps.specs.Chunks.Edits.{KeysAscend}
 use Rattle.kfs_image_nodes.specs.NameEdits.{name_edit}
 use Rattle.kfs_image_nodes.proofs.name_edits.rows_in_order.Given as goal
 

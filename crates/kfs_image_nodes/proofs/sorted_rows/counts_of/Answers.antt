@@ -4,11 +4,11 @@ use Rattle.std.specs.FinMap.Entries.{find}
 use Rattle.std.proofs.lemmas.List.Elements.{recursion_from_All}
 use Rattle.kfs_model.specs.Table.{Table, numbers, empty, get}
 use Rattle.kfs_model.specs.Tree.{NameTable, name_order}
-use Rattle.kfs_map_pages.specs.Edits as numbered
-use Rattle.kfs_map_chunks.specs.Overlays.{overlaid}
-use Rattle.kfs_map_chunks.specs.Tables.{table}
-use Rattle.kfs_map_chunks.specs.Edits as keyed
-use Rattle.kfs_map_chunks.proofs.Tables.{get-table, find-rewritten}
+use Rattle.kfs_maps.specs.Pages.Edits as numbered
+use Rattle.kfs_maps.specs.Chunks.Overlays.{overlaid}
+use Rattle.kfs_maps.specs.Chunks.Tables.{table}
+use Rattle.kfs_maps.specs.Chunks.Edits as keyed
+use Rattle.kfs_maps.proofs.ChunksLemmas.Tables.{get-table, find-rewritten}
 use Rattle.kfs_image_nodes.specs.Indexes.{by_node, IsCounted, AreInPages}
 use Rattle.kfs_image_nodes.specs.NodeEdits.{IsNumber}
 use Rattle.kfs_image_nodes.specs.SortedRows.{name_entries}

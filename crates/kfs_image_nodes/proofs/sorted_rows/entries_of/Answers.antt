@@ -1,5 +1,5 @@
 use Rattle.std.proofs.Common.{◌≡◌, ◌+◌, ◌++◌, [], ◌∷◌, drop, sym, ap, ◌∙◌}
-use Rattle.kfs_map_chunks.proofs.InOrder.{one_made, all_made}
+use Rattle.kfs_maps.proofs.ChunksLemmas.InOrder.{one_made, all_made}
 use Rattle.kfs_image_nodes.specs.SortedRows.{name_entry, name_entries}
 use Rattle.kfs_image_nodes.proofs.NodeEdits.{rows_left}
 use Rattle.kfs_image_nodes.proofs.sorted_rows.entries_of.Goals as goal

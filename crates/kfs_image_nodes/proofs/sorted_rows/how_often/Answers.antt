@@ -3,9 +3,9 @@ use Rattle.std.specs.Prelude.{unwrap_or}
 use Rattle.std.specs.List.Sorted.{IsSorted}
 use Rattle.std.specs.declared.cmp.Ordering.TheVariants.{Less}
 use Rattle.std.proofs.lemmas.List.{nil_from_length}
-use Rattle.kfs_map_chunks.specs.declared.entries.KeyEdit.{KeyEdit}
-use Rattle.kfs_map_chunks.specs.Edits.{edited, KeysAscend}
-use Rattle.kfs_map_chunks.proofs.InOrder.{none_ascends}
+use Rattle.kfs_maps.specs.declared.chunks.entries.KeyEdit.{KeyEdit}
+use Rattle.kfs_maps.specs.Chunks.Edits.{edited, KeysAscend}
+use Rattle.kfs_maps.proofs.ChunksLemmas.InOrder.{none_ascends}
 use Rattle.kfs_image_nodes.specs.Indexes.{by_node}
 use Rattle.kfs_image_nodes.specs.SortedRows.{goes_on}
 use Rattle.kfs_image_nodes.proofs.HowOften.{held, often, before_all, run_on, run_ends, all_runs, AreBelow, none_below, none_positive, sorted_rest, below_next, said_more, still_positive, same_below}

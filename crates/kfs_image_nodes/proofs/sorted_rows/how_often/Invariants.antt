@@ -1,7 +1,7 @@
 use Rattle.std.proofs.Common.{◌≡◌, ℕ, ◌+◌, ◌<◌, ◌≤◌, Some, None, length}
 use Rattle.std.specs.Prelude.{unwrap_or}
 use Rattle.std.specs.List.Sorted.{IsSorted}
-use Rattle.kfs_map_chunks.specs.Edits.{edited, KeysAscend}
+use Rattle.kfs_maps.specs.Chunks.Edits.{edited, KeysAscend}
 use Rattle.kfs_image_nodes.specs.Indexes.{by_node}
 use Rattle.kfs_image_nodes.proofs.HowOften.{held, often, AreBelow}
 use Rattle.kfs_image_nodes.proofs.sorted_rows.how_often.Given as goal

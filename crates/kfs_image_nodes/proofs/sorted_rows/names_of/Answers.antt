@@ -2,7 +2,7 @@ use Rattle.std.proofs.Common.{◌≡◌, ◌++◌, T, sym, ap, subst, ◌∙◌}
 use Rattle.std.proofs.lemmas.List.{map-append}
 use Rattle.std.specs.FinMap.Entries.{is_sorted}
 use Rattle.kfs_model.specs.Tree.{name_order}
-use Rattle.kfs_map_chunks.proofs.Parts.{sorted_left, sorted_right}
+use Rattle.kfs_maps.proofs.ChunksLemmas.Parts.{sorted_left, sorted_right}
 use Rattle.kfs_image_nodes.specs.SortedRows.{name_entry, name_entries}
 use Rattle.kfs_image_nodes.proofs.sorted_rows.names_of.Goals as goal
 

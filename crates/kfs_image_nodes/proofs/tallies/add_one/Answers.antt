@@ -1,7 +1,7 @@
 use Rattle.std.proofs.Common.{◌≡◌, ◌+◌, Bool, true, false, cond, Some, refl, sym, ap, ◌∙◌}
 use Rattle.std.specs.Prelude.{unwrap_or}
 use Rattle.std.specs.Ordering.{eq_by_cmp}
-use Rattle.kfs_map_chunks.specs.Overlays.{said_or}
+use Rattle.kfs_maps.specs.Chunks.Overlays.{said_or}
 use Rattle.kfs_image_nodes.proofs.tallies.add_one.Goals as goal
 
 twice : {X : Type 0} (b : Bool) (last first there : X) → cond b last (cond b first there) ≡ cond b last there

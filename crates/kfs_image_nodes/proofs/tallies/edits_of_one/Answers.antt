@@ -1,6 +1,6 @@
 use Rattle.std.proofs.Common.{◌<◌, ◌+◌, ℕ, Option, Some, None, sym, ap, subst, ◌∙◌, arith}
 use Rattle.std.specs.Prelude.{unwrap_or}
-use Rattle.kfs_map_chunks.proofs.Tables.{get-table}
+use Rattle.kfs_maps.proofs.ChunksLemmas.Tables.{get-table}
 use Rattle.kfs_image_nodes.specs.Indexes.{by_node}
 use Rattle.kfs_image_nodes.specs.NameEdits.{AreMovedBy}
 use Rattle.kfs_image_nodes.proofs.OneEdit.{moved_in, moved_out}

@@ -1,7 +1,7 @@
 use Rattle.std.proofs.Common.{◌∙◌, Some}
 use Rattle.kfs_model.specs.Table.{pairs, numbers}
-use Rattle.kfs_map_chunks.specs.Tables.{table}
-use Rattle.kfs_map_chunks.proofs.Overlays.{overlaid_set, table_after_said}
+use Rattle.kfs_maps.specs.Chunks.Tables.{table}
+use Rattle.kfs_maps.proofs.ChunksLemmas.Overlays.{overlaid_set, table_after_said}
 use Rattle.kfs_image.specs.Blocks.Fill.{mapped_by}
 use Rattle.kfs_image.specs.Blocks.Walks.{seen}
 use Rattle.kfs_image.proofs.BlocksLemmas.FilledBlocks.{mapped_row, mapped_all}

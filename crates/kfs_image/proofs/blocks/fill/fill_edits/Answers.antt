@@ -3,8 +3,8 @@ use Rattle.std.proofs.lemmas.List.{nil_from_length}
 use Rattle.std.specs.Prelude.{IfOk, IfSome}
 use Rattle.kfs_model.specs.Table.{pairs, numbers, get}
 use Rattle.kfs_model.specs.Placement.{Placement}
-use Rattle.kfs_map_chunks.specs.Tables.{table, table_after}
-use Rattle.kfs_map_chunks.proofs.Overlays.{overlaid_none}
+use Rattle.kfs_maps.specs.Chunks.Tables.{table, table_after}
+use Rattle.kfs_maps.proofs.ChunksLemmas.Overlays.{overlaid_none}
 use Rattle.kfs_image.specs.Blocks.Fill.{less, mapped_by, placement_after, row_edit}
 use Rattle.kfs_image.specs.Blocks.Walks.{placed, seen}
 use Rattle.kfs_image.proofs.BlocksLemmas.FilledBlocks.{edits_map, less_run, less_all, still_unmapped}

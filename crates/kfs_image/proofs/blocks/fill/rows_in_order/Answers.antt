@@ -2,9 +2,9 @@ use Rattle.std.proofs.Common.{◌≡◌, ℕ, ◌++◌, map, sym, ap, subst}
 use Rattle.std.specs.declared.cmp.Ordering.TheVariants.{Less}
 use Rattle.kfs_model.specs.Table.{pairs, numbers}
 use Rattle.kfs_model.specs.Placement.{Place}
-use Rattle.kfs_map_chunks.specs.declared.entries.KeyEdit.{KeyEdit}
-use Rattle.kfs_map_chunks.specs.Edits.{KeysAscend}
-use Rattle.kfs_map_chunks.proofs.InOrder.{none_ascends, one_made, all_made}
+use Rattle.kfs_maps.specs.declared.chunks.entries.KeyEdit.{KeyEdit}
+use Rattle.kfs_maps.specs.Chunks.Edits.{KeysAscend}
+use Rattle.kfs_maps.proofs.ChunksLemmas.InOrder.{none_ascends, one_made, all_made}
 use Rattle.kfs_image.proofs.TierLemmas.TierLists.{rest_at}
 use Rattle.kfs_image.specs.Blocks.Fill.{row_edit}
 use Rattle.kfs_image.specs.Blocks.Moves.{BlockEdit}

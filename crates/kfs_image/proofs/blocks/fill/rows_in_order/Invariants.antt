@@ -1,6 +1,6 @@
 use Rattle.std.proofs.Common.{◌≡◌, ◌++◌, drop, map}
 use Rattle.kfs_model.specs.Table.{pairs, numbers}
-use Rattle.kfs_map_chunks.specs.Edits.{KeysAscend}
+use Rattle.kfs_maps.specs.Chunks.Edits.{KeysAscend}
 use Rattle.kfs_image.specs.Blocks.Fill.{row_edit}
 use Rattle.kfs_image.proofs.blocks.fill.rows_in_order.Given as goal
 

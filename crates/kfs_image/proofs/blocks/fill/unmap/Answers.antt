@@ -1,8 +1,8 @@
 use Rattle.std.proofs.Common.{◌+◌, None, sym, subst, arith}
 use Rattle.kfs_model.specs.Table.{pairs, numbers}
 use Rattle.kfs_model.specs.Placement.{Placement}
-use Rattle.kfs_map_chunks.specs.Tables.{table}
-use Rattle.kfs_map_chunks.proofs.Overlays.{overlaid_set}
+use Rattle.kfs_maps.specs.Chunks.Tables.{table}
+use Rattle.kfs_maps.proofs.ChunksLemmas.Overlays.{overlaid_set}
 use Rattle.kfs_image.specs.Blocks.Walks.{seen}
 use Rattle.kfs_image.proofs.BlocksLemmas.BlockWalks.{IsLess, less_none, less_step, less_end}
 use Rattle.kfs_image.proofs.blocks.fill.unmap.Goals as goal

@@ -9,8 +9,8 @@ use Rattle.kfs_model.specs.Table.{changed, insert}
 use Rattle.kfs_image_nodes.specs.Change.{led_to, renamed, reheaded}
 use Rattle.kfs_image.specs.declared.tier.tiers.NewBlock.{NewBlock}
 use Rattle.kfs_image.specs.Tier.Tiers.{with_blocks}
-use Rattle.kfs_map_chunks.specs.Overlays.{overlaid}
-use Rattle.kfs_map_chunks.proofs.Overlays.{overlaid_set}
+use Rattle.kfs_maps.specs.Chunks.Overlays.{overlaid}
+use Rattle.kfs_maps.proofs.ChunksLemmas.Overlays.{overlaid_set}
 use Rattle.kfs_image.specs.Edit.{edited, WritesWholeBlocks}
 use Rattle.kfs_image.specs.Parts.{plain, with_parts, BlocksAreWhole}
 use Rattle.kfs_image.proofs.EditedImages.{one_name, one_node, one_block, whole_copy}

@@ -2,7 +2,7 @@ use Rattle.std.proofs.Common.{◌≡◌, ℕ, true, None, sym, subst, ◌∙◌}
 use Rattle.std.specs.declared.ops.Bound.TheVariants.{Excluded}
 use Rattle.kfs_model.specs.Table.{pairs, numbers, get}
 use Rattle.kfs_model.specs.Placement.{Place}
-use Rattle.kfs_map_chunks.specs.Starts.{is_from, IsNextEntry}
+use Rattle.kfs_maps.specs.Chunks.Starts.{is_from, IsNextEntry}
 use Rattle.kfs_image.proofs.EncodeLemmas.RunExtents.{run_goes_on, run_ends, run_is_last, next_is_small}
 use Rattle.kfs_image.proofs.encode.extents.goes_on.Goals as goal
 

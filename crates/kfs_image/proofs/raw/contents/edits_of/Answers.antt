@@ -1,7 +1,7 @@
 use Rattle.std.proofs.Common.{◌++◌, map, ap}
 use Rattle.kfs_types.specs.declared.entry.Kind.TheVariants as kinds
 use Rattle.kfs_image.specs.declared.codec.raw.RawNode.{RawNode}
-use Rattle.kfs_map_chunks.proofs.InOrder.{one_made, all_made}
+use Rattle.kfs_maps.proofs.ChunksLemmas.InOrder.{one_made, all_made}
 use Rattle.kfs_image_nodes.proofs.NodeEdits.{rows_left}
 use Rattle.kfs_image.specs.Raw.Rows.{header_edit}
 use Rattle.kfs_image.proofs.raw.contents.edits_of.Goals as goal

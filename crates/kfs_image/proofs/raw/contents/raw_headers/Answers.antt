@@ -1,5 +1,5 @@
 use Rattle.std.proofs.Common.{◌≡◌, map, sym, ap, subst, ◌∙◌}
-use Rattle.kfs_map_pages.specs.Edits.{rewritten, AreEdits}
+use Rattle.kfs_maps.specs.Pages.Edits.{rewritten, AreEdits}
 use Rattle.kfs_image_nodes.specs.Rows.{heads_of}
 use Rattle.kfs_image.specs.Raw.Rows.{header_edit}
 use Rattle.kfs_image.proofs.RawLemmas.RawRows.{are_edits, heads_made}

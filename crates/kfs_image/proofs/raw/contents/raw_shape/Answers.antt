@@ -2,7 +2,7 @@ use Rattle.std.proofs.Common.{T, All, sym, ap, subst, ◌∙◌}
 use Rattle.std.specs.FinMap.Entries.{is_sorted}
 use Rattle.kfs_model.specs.Spelling.{IsName}
 use Rattle.kfs_model.specs.Tree.{name_order}
-use Rattle.kfs_map_chunks.specs.Tables.{table}
+use Rattle.kfs_maps.specs.Chunks.Tables.{table}
 use Rattle.kfs_image_nodes.specs.NodeEdits.{IsNumber}
 use Rattle.kfs_image_nodes.specs.SortedRows.{name_entries}
 use Rattle.kfs_image.proofs.RawLemmas.RawRows.{in_range, directories_numbered, names_sorted, names_made, names_are_names}

@@ -1,6 +1,6 @@
 use Rattle.std.proofs.Common.{◌≡◌, ℕ, Some, None, IfSome, IfNone, option_map, sym, ap, ◌∙◌}
 use Rattle.kfs_types.specs.Views.{header_of}
-use Rattle.kfs_map_pages.specs.Shown.{part}
+use Rattle.kfs_maps.specs.Pages.Shown.{part}
 use Rattle.kfs_model.specs.Table.{get, empty}
 use Rattle.kfs_image_nodes.proofs.HeaderPages.{get-heads_in_page, no_headers, no_heads_in_page}
 use Rattle.kfs_image_nodes.proofs.layout.Shape.page.Goals as goal

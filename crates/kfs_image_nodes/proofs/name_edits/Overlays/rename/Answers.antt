@@ -2,12 +2,12 @@ use Rattle.std.proofs.Common.{◌≡◌, ℕ, List, sym, ap, subst, ◌∙◌}
 use Rattle.kfs_model.specs.Table.{changed}
 use Rattle.kfs_model.specs.Spelling.{IsName}
 use Rattle.kfs_model.specs.Tree.{NameTable, name_order}
-use Rattle.kfs_map_chunks.specs.Tables.{table}
+use Rattle.kfs_maps.specs.Chunks.Tables.{table}
 use Rattle.kfs_image_nodes.specs.Change.{led_to}
 use Rattle.kfs_image_nodes.specs.Indexes.{AreNames, IsCounted}
 use Rattle.kfs_image_nodes.specs.NameEdits.{names_seen, counts_seen, ways_seen}
 use Rattle.kfs_image_nodes.proofs.Indexes.{still_names, counted_name, counted_moved}
-use Rattle.kfs_map_chunks.proofs.Overlays.{overlaid_set}
+use Rattle.kfs_maps.proofs.ChunksLemmas.Overlays.{overlaid_set}
 use Rattle.kfs_image_nodes.proofs.name_edits.Overlays.rename.Goals as goal
 
 pub recount-requires-clause-counts : goal.recount-requires-clause-counts

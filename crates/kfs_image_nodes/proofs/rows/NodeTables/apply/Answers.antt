@@ -1,9 +1,9 @@
 use Rattle.std.proofs.Common.{◌≡◌, Ok, Err, sym, ap, subst, ◌∙◌}
 use Rattle.std.specs.Prelude.{OnOk, OnErr}
 use Rattle.kfs_model.specs.Tree.{NameTable, name_order}
-use Rattle.kfs_map_pages.specs.Edits.{rewritten}
-use Rattle.kfs_map_chunks.specs.Edits as keyed
-use Rattle.kfs_map_chunks.specs.Tables.{table}
+use Rattle.kfs_maps.specs.Pages.Edits.{rewritten}
+use Rattle.kfs_maps.specs.Chunks.Edits as keyed
+use Rattle.kfs_maps.specs.Chunks.Tables.{table}
 use Rattle.kfs_image_nodes.specs.Change.{renamed, reheaded}
 use Rattle.kfs_image_nodes.specs.Indexes.{by_node, AreInPages}
 use Rattle.kfs_image_nodes.specs.Rows.{heads_of, heads_in, names_in, CountsAreExact}

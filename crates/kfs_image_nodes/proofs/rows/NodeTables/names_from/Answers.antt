@@ -1,8 +1,8 @@
 use Rattle.std.proofs.Common.{sym, subst, Bor}
 use Rattle.std.specs.Range.Bound.{bound_map}
 use Rattle.kfs_model.specs.Tree.{name_order}
-use Rattle.kfs_map_chunks.specs.Starts.{IsNextRun}
-use Rattle.kfs_map_chunks.proofs.Tables.{entries-table}
+use Rattle.kfs_maps.specs.Chunks.Starts.{IsNextRun}
+use Rattle.kfs_maps.proofs.ChunksLemmas.Tables.{entries-table}
 use Rattle.kfs_image_nodes.proofs.rows.NodeTables.names_from.Goals as goal
 
 pub returns : goal.returns

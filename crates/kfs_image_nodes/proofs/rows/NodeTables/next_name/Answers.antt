@@ -1,7 +1,7 @@
 use Rattle.std.proofs.Common.{◌≡◌, ℕ, true, Some, List, sym, subst}
 use Rattle.std.specs.Prelude.{IfNone}
 use Rattle.kfs_model.specs.Tree.{name_order, target}
-use Rattle.kfs_map_chunks.specs.Starts.{is_from, IsNextEntry}
+use Rattle.kfs_maps.specs.Chunks.Starts.{is_from, IsNextEntry}
 use Rattle.kfs_image_nodes.specs.Look.{IsAfter}
 use Rattle.kfs_image_nodes.specs.Rows.{names_in}
 use Rattle.kfs_image_nodes.proofs.NextNames.{no_later, next_here, next_beyond}

@@ -2,7 +2,7 @@ use Rattle.std.proofs.Common.{sym, ap, subst}
 use Rattle.std.proofs.lemmas.List.Elements.{recursion_from_All}
 use Rattle.kfs_model.specs.Spelling.{IsName}
 use Rattle.kfs_model.specs.Tree.{NameTable, name_order}
-use Rattle.kfs_map_chunks.specs.Tables.{table}
+use Rattle.kfs_maps.specs.Chunks.Tables.{table}
 use Rattle.kfs_image_nodes.specs.Indexes.{by_node, AreNames, IsCounted}
 use Rattle.kfs_image_nodes.proofs.SortedRows.{keys_of_rows}
 use Rattle.kfs_image_nodes.proofs.rows.NodeTables.of_rows.Goals as goal

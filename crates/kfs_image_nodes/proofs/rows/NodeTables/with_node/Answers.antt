@@ -1,7 +1,7 @@
 use Rattle.std.proofs.Common.{◌≡◌, ap, ◌∙◌}
 use Rattle.kfs_model.specs.Table.{empty}
 use Rattle.kfs_model.specs.Tree.{name_order}
-use Rattle.kfs_map_chunks.specs.Tables.{table}
+use Rattle.kfs_maps.specs.Chunks.Tables.{table}
 use Rattle.kfs_image_nodes.specs.Indexes.{by_node}
 use Rattle.kfs_image_nodes.specs.Rows.{heads_of}
 use Rattle.kfs_image_nodes.proofs.Indexes.{no_names, nothing_counted}

@@ -1,7 +1,7 @@
 use Rattle.std.proofs.Common.{ℕ, ◌+◌, sym, ap, ◌∙◌}
 use Rattle.std.specs.Prelude.{unwrap_or}
-use Rattle.kfs_map_chunks.specs.Tables.{table}
-use Rattle.kfs_map_chunks.proofs.Tables.{get-table}
+use Rattle.kfs_maps.specs.Chunks.Tables.{table}
+use Rattle.kfs_maps.proofs.ChunksLemmas.Tables.{get-table}
 use Rattle.kfs_image_nodes.specs.Indexes.{by_node, count_at, count_step, uplink_step}
 use Rattle.kfs_image_nodes.specs.NameEdits.{counts_seen, ways_seen}
 use Rattle.kfs_image_nodes.proofs.NameEdits.{read_seen, seen_more, seen_positive}

@@ -1,8 +1,8 @@
 use Rattle.std.proofs.Common.{◌+◌, ◌<◌, sym, ap, subst, ◌∙◌}
 use Rattle.std.specs.Prelude.{unwrap_or}
-use Rattle.kfs_map_chunks.specs.Tables.{table}
+use Rattle.kfs_maps.specs.Chunks.Tables.{table}
 use Rattle.kfs_image_nodes.specs.Indexes.{by_node, count_at, count_step, uplink_step}
-use Rattle.kfs_map_chunks.specs.Overlays.{overlaid}
+use Rattle.kfs_maps.specs.Chunks.Overlays.{overlaid}
 use Rattle.kfs_image_nodes.proofs.NameEdits.{seen_less, seen_positive}
 use Rattle.kfs_image_nodes.proofs.tallies.Tallies.leave.Goals as goal
 

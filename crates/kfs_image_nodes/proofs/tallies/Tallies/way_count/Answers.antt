@@ -1,6 +1,6 @@
 use Rattle.std.proofs.Common.{sym, ◌∙◌}
-use Rattle.kfs_map_chunks.specs.Tables.{table}
-use Rattle.kfs_map_chunks.proofs.Tables.{get-table}
+use Rattle.kfs_maps.specs.Chunks.Tables.{table}
+use Rattle.kfs_maps.proofs.ChunksLemmas.Tables.{get-table}
 use Rattle.kfs_image_nodes.specs.Indexes.{by_node}
 use Rattle.kfs_image_nodes.proofs.NameEdits.{read_seen}
 use Rattle.kfs_image_nodes.proofs.tallies.Tallies.way_count.Goals as goal

@@ -1,4 +1,4 @@
-use Rattle.kfs_map_chunks.specs.Starts.{is_from}
+use Rattle.kfs_maps.specs.Chunks.Starts.{is_from}
 use Rattle.kfs_lease.specs.LeaseLists.{Ascend}
 use Rattle.kfs_lease.specs.Rows.Rows.{by_node}
 use Rattle.kfs_lease.specs.ShownLists.{rows_shown}

@@ -1,7 +1,7 @@
 use Rattle.std.proofs.Common.{◌≡◌, true, sym, ap, subst}
 use Rattle.std.specs.Prelude.{IfNone, is_some}
 use Rattle.std.proofs.lemmas.Bool.{both_ways}
-use Rattle.kfs_map_chunks.specs.Starts.{is_from, IsNextEntry}
+use Rattle.kfs_maps.specs.Chunks.Starts.{is_from, IsNextEntry}
 use Rattle.kfs_lease.specs.Rows.Ending.{AreLater}
 use Rattle.kfs_lease.specs.Rows.Rows.{by_end, row_end}
 use Rattle.kfs_lease.proofs.RowsLemmas.Endings.{ends_later}

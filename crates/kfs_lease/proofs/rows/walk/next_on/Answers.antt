@@ -1,6 +1,6 @@
 use Rattle.std.proofs.Common.{◌≡◌, true, sym, subst, ◌∙◌}
 use Rattle.std.specs.Prelude.{IfNone}
-use Rattle.kfs_map_chunks.specs.Starts.{is_from, IsNextEntry}
+use Rattle.kfs_maps.specs.Chunks.Starts.{is_from, IsNextEntry}
 use Rattle.kfs_lease.specs.Rows.Ending.{start_on, NoneOn}
 use Rattle.kfs_lease.specs.Rows.Rows.{by_node}
 use Rattle.kfs_lease.proofs.RowsLemmas.Endings.{other_node}

@@ -1,6 +1,6 @@
 use Rattle.std.proofs.Common.{◌≡◌, true, sym, subst}
 use Rattle.std.specs.Prelude.{IfNone}
-use Rattle.kfs_map_chunks.specs.Starts.{is_from, IsNextEntry}
+use Rattle.kfs_maps.specs.Chunks.Starts.{is_from, IsNextEntry}
 use Rattle.kfs_lease.specs.Rows.Listed.{NoneFrom}
 use Rattle.kfs_lease.specs.Rows.Rows.{by_node}
 use Rattle.kfs_lease.proofs.rows.walk.next_row.Goals as goal

@@ -1,6 +1,6 @@
 use Rattle.std.proofs.Common.{length, ap, ◌∙◌}
 use Rattle.kfs_model.specs.Table.{numbers, pairs}
-use Rattle.kfs_map_chunks.specs.Tables.{table}
+use Rattle.kfs_maps.specs.Chunks.Tables.{table}
 use Rattle.kfs_image.specs.Tier.Unused.{unused_places}
 use Rattle.kfs_image.proofs.TierLemmas.UnusedPlaces.{CountsUnused-holds}
 use Rattle.kfs_image.specs.Blocks.Blocks.{BlocksShown}

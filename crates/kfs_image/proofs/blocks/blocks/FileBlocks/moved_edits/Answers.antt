@@ -1,5 +1,5 @@
 use Rattle.std.proofs.Common.{◌≡◌, subst}
-use Rattle.kfs_map_chunks.specs.Tables.{table_after}
+use Rattle.kfs_maps.specs.Chunks.Tables.{table_after}
 use Rattle.kfs_image.specs.Blocks.Fill.{placement_after}
 use Rattle.kfs_image.proofs.BlocksLemmas.FilledBlocks.{can_change, changed_is}
 use Rattle.kfs_image.proofs.blocks.blocks.FileBlocks.moved_edits.Goals as goal

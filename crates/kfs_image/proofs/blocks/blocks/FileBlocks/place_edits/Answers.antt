@@ -1,6 +1,6 @@
 use Rattle.std.proofs.Common.{◌≡◌, subst}
 use Rattle.std.specs.Prelude.{IfOk}
-use Rattle.kfs_map_chunks.specs.Tables.{table_after}
+use Rattle.kfs_maps.specs.Chunks.Tables.{table_after}
 use Rattle.kfs_image.specs.Blocks.Blocks.{BlocksShown}
 use Rattle.kfs_image.specs.Blocks.Fill.{placement_after}
 use Rattle.kfs_image.proofs.blocks.blocks.FileBlocks.place_edits.Goals as goal

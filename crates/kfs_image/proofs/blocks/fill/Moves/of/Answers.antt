@@ -1,7 +1,7 @@
 use Rattle.std.proofs.Common.{refl, sym, ◌∙◌, arith}
 use Rattle.kfs_model.specs.Table.{numbers, pairs, get}
-use Rattle.kfs_map_chunks.specs.Tables.{table}
-use Rattle.kfs_map_chunks.proofs.Tables.{get-table}
+use Rattle.kfs_maps.specs.Chunks.Tables.{table}
+use Rattle.kfs_maps.proofs.ChunksLemmas.Tables.{get-table}
 use Rattle.kfs_image.proofs.BlocksLemmas.EditedPlaces.{left_step, left_end}
 use Rattle.kfs_image.proofs.blocks.fill.Moves.of.Goals as goal
 

@@ -1,6 +1,6 @@
 use Rattle.std.proofs.Common.{◌≡◌, ◌++◌, drop}
 use Rattle.kfs_model.specs.Table.{pairs, numbers}
-use Rattle.kfs_map_chunks.specs.Tables.{table}
+use Rattle.kfs_maps.specs.Chunks.Tables.{table}
 use Rattle.kfs_image.specs.Blocks.Moves.{given_by, taken_by}
 use Rattle.kfs_image.proofs.blocks.fill.Moves.of.Given as goal
 

@@ -1,5 +1,5 @@
 use Rattle.std.proofs.Common.{None}
-use Rattle.kfs_map_chunks.proofs.Overlays.{overlaid_set}
+use Rattle.kfs_maps.proofs.ChunksLemmas.Overlays.{overlaid_set}
 use Rattle.kfs_lease.proofs.rows.rows.Ending.add.Goals as goal
 
 pub returns-clause-rows : goal.returns-clause-rows

@@ -1,7 +1,7 @@
 use Rattle.std.proofs.Common.{◌≡◌, Ok, Err, option_map, ap, ◌∙◌}
 use Rattle.std.specs.Prelude.{OnOk}
 use Rattle.kfs_model.specs.Table.{changed}
-use Rattle.kfs_map_chunks.specs.Tables.{table_after}
+use Rattle.kfs_maps.specs.Chunks.Tables.{table_after}
 use Rattle.kfs_lease.specs.Rows.Rows.{lease_of, row_table, table_in, shown}
 use Rattle.kfs_lease.proofs.RowsLemmas.RowTables.{shown_changed}
 use Rattle.kfs_lease.proofs.rows.rows.LeaseRows.change_row.Goals as goal

@@ -1,5 +1,5 @@
 use Rattle.std.proofs.Common.{Some, None, sym, ◌∙◌}
-use Rattle.kfs_map_chunks.proofs.Tables.{get-table}
+use Rattle.kfs_maps.proofs.ChunksLemmas.Tables.{get-table}
 use Rattle.kfs_lease.specs.Rows.Rows.{by_node, kind_of}
 use Rattle.kfs_lease.proofs.RowsLemmas.Conflicts.{is_conflict, none_in_conflict, first_is_least_barred, none_behind_first}
 use Rattle.kfs_lease.proofs.rows.rows.LeaseRows.contest.Goals as goal

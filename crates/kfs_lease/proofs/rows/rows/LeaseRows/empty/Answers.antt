@@ -1,6 +1,6 @@
 use Rattle.std.proofs.Common.{[], refl, sym, ap, subst}
 use Rattle.kfs_model.specs.Table.{get}
-use Rattle.kfs_map_chunks.specs.Tables.{table}
+use Rattle.kfs_maps.specs.Chunks.Tables.{table}
 use Rattle.kfs_lease.specs.Rows.Rows.{by_node, by_end, table_of, shown, AreEndsOf}
 use Rattle.kfs_lease.proofs.rows.rows.LeaseRows.empty.Goals as goal
 

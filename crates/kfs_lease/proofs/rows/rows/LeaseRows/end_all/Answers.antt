@@ -1,7 +1,7 @@
 use Rattle.std.proofs.Common.{◌≡◌, Ok, Err, sym, ap, subst, ◌∙◌}
 use Rattle.std.specs.Prelude.{OnOk}
-use Rattle.kfs_map_chunks.specs.Tables.{table_after}
-use Rattle.kfs_map_chunks.proofs.Overlays.{table_after_said}
+use Rattle.kfs_maps.specs.Chunks.Tables.{table_after}
+use Rattle.kfs_maps.proofs.ChunksLemmas.Overlays.{table_after_said}
 use Rattle.kfs_lease.specs.Rows.Ending.{rows_left}
 use Rattle.kfs_lease.specs.Rows.Rows.{row_table, end_table, AreEndsOf, RowTable, EndTable}
 use Rattle.kfs_lease.proofs.rows.rows.LeaseRows.end_all.Goals as goal

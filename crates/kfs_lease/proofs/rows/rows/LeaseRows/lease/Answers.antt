@@ -1,5 +1,5 @@
 use Rattle.std.proofs.Common.{option_map, sym, ap, ◌∙◌}
-use Rattle.kfs_map_chunks.proofs.Tables.{get-table}
+use Rattle.kfs_maps.proofs.ChunksLemmas.Tables.{get-table}
 use Rattle.kfs_lease.specs.Rows.Rows.{lease_of, by_node, row_table}
 use Rattle.kfs_lease.proofs.RowsLemmas.RowTables.{get-shown}
 use Rattle.kfs_lease.proofs.rows.rows.LeaseRows.lease.Goals as goal

@@ -1,6 +1,6 @@
 use Rattle.std.proofs.Common.{ℕ, ◌≤◌, refl, sym, ap, subst, ◌∙◌}
 use Rattle.kfs_model.specs.Lease.{live_at}
-use Rattle.kfs_map_chunks.proofs.Tables.{get-table}
+use Rattle.kfs_maps.proofs.ChunksLemmas.Tables.{get-table}
 use Rattle.kfs_lease.specs.Rows.Ending.{rows_left, ends_left}
 use Rattle.kfs_lease.specs.Rows.Rows.{by_end, row_table, end_table, shown, RowTable}
 use Rattle.kfs_lease.proofs.RowsLemmas.Endings.{listed_more, only_of_end, ends_gone_further, all_later}

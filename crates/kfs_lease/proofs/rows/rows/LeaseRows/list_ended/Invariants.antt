@@ -1,6 +1,6 @@
 use Rattle.std.proofs.Common.{◌≡◌}
 use Rattle.kfs_model.specs.Lease.{live_at}
-use Rattle.kfs_map_chunks.specs.Starts.{is_from}
+use Rattle.kfs_maps.specs.Chunks.Starts.{is_from}
 use Rattle.kfs_lease.specs.Rows.Ending.{AreListed, rows_left, ends_left}
 use Rattle.kfs_lease.specs.Rows.Rows.{by_end, shown}
 use Rattle.kfs_lease.proofs.RowsLemmas.Endings.{EndsAreGone}

@@ -1,5 +1,5 @@
 use Rattle.std.proofs.Common.{ℕ, refl, sym, ap, ◌∙◌}
-use Rattle.kfs_map_chunks.proofs.Tables.{get-table}
+use Rattle.kfs_maps.proofs.ChunksLemmas.Tables.{get-table}
 use Rattle.kfs_lease.specs.Rows.Ending.{rows_left, ends_left, start_on}
 use Rattle.kfs_lease.specs.Rows.Rows.{by_node, row_table, end_table, shown, without_node, RowTable}
 use Rattle.kfs_lease.proofs.RowsLemmas.Endings.{listed_more, only_of_row, none_gone, gone_further, all_gone}

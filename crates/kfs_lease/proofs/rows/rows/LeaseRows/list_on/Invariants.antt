@@ -1,5 +1,5 @@
 use Rattle.std.proofs.Common.{◌≡◌}
-use Rattle.kfs_map_chunks.specs.Starts.{is_from}
+use Rattle.kfs_maps.specs.Chunks.Starts.{is_from}
 use Rattle.kfs_lease.specs.Rows.Ending.{AreListed, rows_left, start_on}
 use Rattle.kfs_lease.specs.Rows.Rows.{by_node, shown, without_node}
 use Rattle.kfs_lease.proofs.RowsLemmas.Endings.{AreGone}

@@ -1,6 +1,6 @@
 use Rattle.std.proofs.Common.{ℕ, Some, sym, subst, ◌∙◌}
 use Rattle.kfs_model.specs.Table.{changed}
-use Rattle.kfs_map_chunks.specs.Tables.{table_after}
+use Rattle.kfs_maps.specs.Chunks.Tables.{table_after}
 use Rattle.kfs_lease.specs.Rows.Rows.{by_end, row_table, end_table, AreEndsOf}
 use Rattle.kfs_lease.proofs.RowsLemmas.Edits.{one_ascends}
 use Rattle.kfs_lease.proofs.RowsLemmas.RowSteps.{exact_with}

@@ -1,7 +1,7 @@
 use Rattle.std.proofs.Common.{Some, None, sym, ap, subst, arith}
 use Rattle.kfs_model.specs.Table.{changed}
-use Rattle.kfs_map_chunks.specs.declared.entries.KeyEdit.{KeyEdit}
-use Rattle.kfs_map_chunks.specs.Tables.{table_after}
+use Rattle.kfs_maps.specs.declared.chunks.entries.KeyEdit.{KeyEdit}
+use Rattle.kfs_maps.specs.Chunks.Tables.{table_after}
 use Rattle.kfs_lease.specs.declared.rows.rows.RowEnd.{RowEnd}
 use Rattle.kfs_lease.specs.Rows.Rows.{row_end, row_table, end_table, AreEndsOf}
 use Rattle.kfs_lease.proofs.RowsLemmas.Edits.{ends_ascend}

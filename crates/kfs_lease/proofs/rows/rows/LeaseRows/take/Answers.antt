@@ -1,8 +1,8 @@
 use Rattle.std.proofs.Common.{◌≡◌, ℕ, Some, None, option_map, sym, ap, subst, ◌∙◌}
 use Rattle.std.specs.Prelude.{is_some}
 use Rattle.kfs_model.specs.Table.{get, changed}
-use Rattle.kfs_map_chunks.specs.Tables.{table_after}
-use Rattle.kfs_map_chunks.proofs.Tables.{get-table}
+use Rattle.kfs_maps.specs.Chunks.Tables.{table_after}
+use Rattle.kfs_maps.proofs.ChunksLemmas.Tables.{get-table}
 use Rattle.kfs_lease.specs.Rows.Rows.{by_node, by_end, lease_of, row_table, end_table, table_in, AreEndsOf}
 use Rattle.kfs_lease.proofs.RowsLemmas.Edits.{one_ascends}
 use Rattle.kfs_lease.proofs.RowsLemmas.RowSteps.{exact_without, only_end, without_absent}

@@ -1,5 +1,0 @@
-use Rattle.kfs_map_pages.proofs.Groups.{copied_held}
-use Rattle.kfs_map_pages.proofs.page.GroupClone.clone.Goals as goal
-
-pub returns : goal.returns
-returns g c = record { cases = copied_held _ (λ a b same. same) (λ a none. none) (λ b none. none) c.args.self.now.pages.items c.in_ok-clone.field-0.items c.in_ok-clone.ensures.cases.0 }

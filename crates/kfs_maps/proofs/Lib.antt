@@ -1,0 +1,2 @@
+pub mod PagesLemmas
+pub mod ChunksLemmas

@@ -1,0 +1,2 @@
+pub mod Pages
+pub mod Chunks
