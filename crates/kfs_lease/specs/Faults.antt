@@ -2,7 +2,7 @@
 use Rattle.std.specs.Prelude.{◌≡◌, Option, Some, None, IfSome, Err}
 use Rattle.kfs_model.specs.Lease as model
 use Rattle.kfs_lease.specs.declared.leases.LeaseFault.{LeaseFault}
-use Rattle.kfs_lease.specs.declared.leases.LeaseFault.TheVariants.{UnknownClient, BadPath, NoSuchName, NotDirectory, NoSearch, Past, LeaseHeld, NoLeaseHeld, Backwards, OutOfMemory}
+use Rattle.kfs_lease.specs.declared.leases.LeaseFault.TheVariants.{UnknownClient, BadPath, NoSuchName, NotDirectory, NoSearch, Past, LeaseHeld, NoLeaseHeld, Backwards, NoSuchNode, NotAllowed, OutOfMemory}
 
 -- the refusal, or none where memory ran out
 abbrev pub fault_of : LeaseFault → Option model.LeaseFault
@@ -15,6 +15,8 @@ fault_of Past = Some model.Past
 fault_of (LeaseHeld client) = Some (model.LeaseHeld client)
 fault_of NoLeaseHeld = Some model.NoLeaseHeld
 fault_of Backwards = Some model.Backwards
+fault_of NoSuchNode = Some model.NoSuchNode
+fault_of NotAllowed = Some model.NotAllowed
 fault_of OutOfMemory = None
 
 -- the outcome is this refusal, unless memory ran out, with these leases

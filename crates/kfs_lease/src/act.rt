@@ -18,6 +18,14 @@ pub enum Act<'a> {
         client: u32,
         number: u32,
     },
+    /// The client asks for a lease on the node with this number, without a path. `end` is the moment at
+    /// which the lease ends.
+    LeaseAt {
+        client: u32,
+        number: u32,
+        kind: LeaseKind,
+        end: u64,
+    },
     /// The moment goes on to this one.
     Tick {
         moment: u64,

@@ -9,6 +9,7 @@ ghost use Rattle.kfs_lease.specs.Rows.Rows.{kind_of};
 ghost use Rattle.kfs_lease.specs.Removed.{without_nodes_in};
 ghost use Rattle.kfs_lease.specs.declared.leases.LeaseFault.TheVariants.{OutOfMemory};
 
+mod by_number;
 mod listed;
 mod writer;
 
@@ -88,6 +89,12 @@ pub enum LeaseFault {
     /// 9: the moment would go down.
     #[error("Backwards")]
     Backwards,
+    /// 10: no node has this number.
+    #[error("NoSuchNode")]
+    NoSuchNode,
+    /// 11: the client has no permission on the node for a lease of this kind.
+    #[error("NotAllowed")]
+    NotAllowed,
     /// Memory was refused.
     #[error("memory")]
     OutOfMemory,

@@ -8,11 +8,12 @@ use Rattle.std.specs.Ordering.{is_eq, eq_by_cmp}
 use Rattle.std.proofs.lemmas.Bool.{both_ways, eq-eqb, false_from_ne_true, lt-ltb, ltb-false, ltb-true, ne_eqb, or_parts}
 use Rattle.kfs_model.specs.Access.{Client}
 use Rattle.kfs_model.specs.Check.{is_some_and}
+use Rattle.kfs_model.specs.Header.{Header}
 use Rattle.kfs_model.specs.Table.{numbers, pairs, get, insert, remove, retain}
 use Rattle.kfs_model.proofs.TableLaws.{get-insert, get-retain}
 use Rattle.kfs_model.specs.Tree.{Tree, Node, headers, node_header}
 use Rattle.kfs_model.specs.Sight.{Sight}
-use Rattle.kfs_model.specs.Lease.{Lease, LeaseKind, ReadLease, WriteLease, LeaseFault, LeaseTable, Leases, LeaseOutcome, live_at, on_those, row_of, names_of, walked, conflicts, in_conflict, is_live, is_write, refused, granted, granted_on, granted_by_walk, dropped, ticked, without_gone, HasLive, AreCompatible, KeepsCompatible, Past, LeaseHeld, UnknownClient, NoLeaseHeld, Backwards}
+use Rattle.kfs_model.specs.Lease.{Lease, LeaseKind, ReadLease, WriteLease, LeaseFault, LeaseTable, Leases, LeaseOutcome, live_at, on_those, row_of, names_of, walked, conflicts, in_conflict, is_live, is_write, refused, granted, granted_at, granted_on, granted_by_walk, granted_to_node, granted_by_number, may_lease, dropped, ticked, without_gone, HasLive, AreCompatible, KeepsCompatible, Past, LeaseHeld, UnknownClient, NoLeaseHeld, NoSuchNode, NotAllowed, Backwards}
 use Rattle.kfs_model.proofs.Heads.{get-headers}
 use Rattle.kfs_model.proofs.Tables.{any_from_found}
 
@@ -50,6 +51,36 @@ module _ (leases : Leases) (Kept : Leases → Type 0) (kept : Kept leases) where
       by_client : (found : Option Client) → KeptBy (elim found [ None ↦ refused UnknownClient leases | Some client ↦ granted_on leases sight (names_of path) client kind end ])
       by_client None = kept
       by_client (Some client) = by_path client (names_of path)
+
+  pub granted_by_number_keeps : (sight : Sight) (clients : List Client) (number n : ℕ) (kind : LeaseKind) (end : ℕ)
+      → ((client : Client) (h : Header) → sight.head n ≡ Some h → in_conflict leases client.number n kind ≡ None
+      → Kept (record leases { rows = insert leases.rows (client.number, n) (record { kind = kind; end = end }) }))
+      → KeptBy (granted_by_number leases sight clients number n kind end)
+  unfolding granted_by_number
+  granted_by_number_keeps sight clients number n kind end made = by_client (row_of clients number)
+    where
+      by_conflict : (client : Client) (h : Header) → sight.head n ≡ Some h → (found : Option ((ℕ × ℕ) × Lease)) → in_conflict leases client.number n kind ≡ found
+          → KeptBy (elim found [ Some row ↦ refused (LeaseHeld row.0.0) leases | None ↦ (Ok n, record leases { rows = insert leases.rows (client.number, n) (record { kind = kind; end = end }) }) ])
+      by_conflict client h there None is = made client h there is
+      by_conflict client h there (Some row) is = kept
+
+      by_end : (client : Client) (h : Header) → sight.head n ≡ Some h → (past : Bool)
+          → KeptBy (cond past (refused Past leases) (elim (in_conflict leases client.number n kind) [ Some row ↦ refused (LeaseHeld row.0.0) leases | None ↦ (Ok n, record leases { rows = insert leases.rows (client.number, n) (record { kind = kind; end = end }) }) ]))
+      by_end client h there true = kept
+      by_end client h there false = by_conflict client h there (in_conflict leases client.number n kind) refl
+
+      by_permission : (client : Client) (h : Header) → sight.head n ≡ Some h → (allowed : Bool)
+          → KeptBy (cond allowed (granted_at leases client n kind end) (refused NotAllowed leases))
+      by_permission client h there true = by_end client h there (nat_le end leases.moment)
+      by_permission client h there false = kept
+
+      by_head : (client : Client) (head : Option Header) → sight.head n ≡ head → KeptBy (granted_to_node leases head client n kind end)
+      by_head client None is = kept
+      by_head client (Some h) is = by_permission client h is (may_lease client kind h)
+
+      by_client : (found : Option Client) → KeptBy (elim found [ None ↦ refused UnknownClient leases | Some client ↦ granted_to_node leases (sight.head n) client n kind end ])
+      by_client None = kept
+      by_client (Some client) = by_head client (sight.head n) refl
 
   -- a drop and a tick take leases away alone
   abbrev pub KeptByFewer : Type 0
@@ -183,6 +214,10 @@ module _ (leases : Leases) where
 pub granted_compatible : (sight : Sight) (clients : List Client) (client : ℕ) (path : List ℕ) (kind : LeaseKind) (end : ℕ) → KeepsCompatible (λ leases. granted leases sight clients client path kind end)
 granted_compatible sight clients number path kind end leases compatible =
     granted_keeps leases AreCompatible compatible sight clients number path kind end (λ client names n came none. compatible-insert leases client.number n kind end compatible none)
+
+pub granted_by_number_compatible : (sight : Sight) (clients : List Client) (client number : ℕ) (kind : LeaseKind) (end : ℕ) → KeepsCompatible (λ leases. granted_by_number leases sight clients client number kind end)
+granted_by_number_compatible sight clients number n kind end leases compatible =
+    granted_by_number_keeps leases AreCompatible compatible sight clients number n kind end (λ client h there none. compatible-insert leases client.number n kind end compatible none)
 
 pub dropped_compatible : (clients : List Client) (client number : ℕ) → KeepsCompatible (λ leases. dropped leases clients client number)
 dropped_compatible clients client number leases compatible = dropped_keeps leases AreCompatible compatible clients client number (λ stays moment later. compatible-retain leases stays moment later compatible)

@@ -6,7 +6,8 @@ use Rattle.kfs_model.specs.Table.{get, insert, empty}
 use Rattle.kfs_model.specs.Tree.{Tree, headers}
 use Rattle.kfs_model.specs.Sight.{sight, ClientSight}
 use Rattle.kfs_model.specs.Entry.{Entry, Log}
-use Rattle.kfs_model.specs.Lease.{LeaseFault, LeaseKind, Leases, row_of, walked, in_conflict, granted, dropped, ticked}
+use Rattle.kfs_model.specs.Header.{Header}
+use Rattle.kfs_model.specs.Lease.{LeaseFault, LeaseKind, Leases, row_of, walked, in_conflict, granted, granted_by_number, dropped, ticked}
 use Rattle.kfs_model.specs.PlanRow.{Plan}
 use Rattle.kfs_model.specs.Run.{Mark, EntryFault, run, over_bytes, over_marks, marked, byte_of, looked_up}
 use Rattle.kfs_model.specs.FirstWrong.{RowFault, first_wrong_row}
@@ -16,7 +17,7 @@ use Rattle.kfs_model.specs.Fresh.{fresh_tree}
 use Rattle.kfs_model.specs.Soundness.{IsSound}
 use Rattle.kfs_model.specs.Placement.{TierSizes, written_blocks}
 use Rattle.kfs_model.specs.Judgement.{State, Verdict, Yes, No, ClientUnknown, ClientWrong, AtRow, Reply, Accepted, NoRoom, Refused, Submission, Reading, IsReadAs, client_sight_of, judged, judged_log, judged_plan, judged_run, verdict_on, reply_to}
-use Rattle.kfs_model.specs.Machine.{Call, Submit, Lease, Drop, Tick, Migrate, CallAnswer, Replied, Done, NotDone, MovesRefused, CallOutcome, Row, IsRead, same_answer, answered, unplaced, replied, leased, migrated, are_chosen, landed, outcome_of, next, after, opening}
+use Rattle.kfs_model.specs.Machine.{Call, Submit, Lease, Drop, Tick, Migrate, LeaseAt, CallAnswer, Replied, Done, NotDone, MovesRefused, CallOutcome, Row, IsRead, same_answer, answered, unplaced, replied, leased, migrated, are_chosen, landed, outcome_of, next, after, opening}
 use Rattle.kfs_model.specs.Order.{IsInOrder}
 use Rattle.kfs_model.specs.Migration.{Move, MoveFault, fault_of_moves, moved_by}
 use Rattle.kfs_model.proofs.Cells.{recut, headers-recut}
@@ -24,7 +25,7 @@ use Rattle.kfs_model.proofs.FreshTree.{fresh_is_sound}
 use Rattle.kfs_model.proofs.MovedBlocks.{placed_after}
 use Rattle.kfs_model.proofs.Marks.{marks_give_bytes}
 use Rattle.kfs_model.proofs.SeenRun.{run_keeps_sound, bytes_faithful}
-use Rattle.kfs_model.proofs.LeasesKept.{KeptByFewer, granted_keeps, dropped_keeps, ticked_keeps, on_nodes-insert, on_nodes-retain, compatible-insert, compatible-retain, without_gone_on_nodes, without_gone_compatible}
+use Rattle.kfs_model.proofs.LeasesKept.{KeptByFewer, granted_keeps, granted_by_number_keeps, dropped_keeps, ticked_keeps, on_nodes-insert, on_nodes-retain, compatible-insert, compatible-retain, without_gone_on_nodes, without_gone_compatible}
 use Rattle.kfs_model.proofs.WalkedNode.{walked_to_node}
 use Rattle.kfs_model.proofs.PlacementKept.{placement_kept}
 
@@ -128,6 +129,18 @@ module _ (s : State) (order : IsInOrder s) (places : List ℕ) where
     placement = order.placement;
   }
 
+  -- the node is there, by its header
+  with_one_by_number : (kind : LeaseKind) (end n : ℕ) (client : Client) (h : Header) → (sight s.tree).head n ≡ Some h → in_conflict s.leases client.number n kind ≡ None
+      → OrderWith (record s.leases { rows = insert s.leases.rows (client.number, n) (record { kind = kind; end = end }) })
+  with_one_by_number kind end n client h there none = record {
+    sound = order.sound;
+    on_nodes = on_nodes-insert s.tree s.leases.rows client.number n (record { kind = kind; end = end }) order.on_nodes (ap is_some there);
+    compatible = compatible-insert s.leases client.number n kind end order.compatible none;
+    distinct = order.distinct;
+    clients = order.clients;
+    placement = order.placement;
+  }
+
   leased_in_order : (told : Result ℕ LeaseFault) (leases : Leases) → OrderWith leases → InOrder (leased s places (told, leases))
   leased_in_order (Ok number) leases with_these = unplaced_in_order places _ (record s { leases = leases }) with_these
   leased_in_order (Err fault) leases with_these = unplaced_in_order places _ (record s { leases = leases }) with_these
@@ -179,6 +192,9 @@ module _ (s : State) (order : IsInOrder s) (places : List ℕ) where
   outcome_in_order (Tick moment) row is read =
       let outcome = ticked s.leases moment in
       leased_in_order outcome.0 outcome.1 (ticked_keeps s.leases OrderWith order moment with_fewer)
+  outcome_in_order (LeaseAt client number kind end) row is read =
+      let outcome = granted_by_number s.leases (sight s.tree) s.clients client number kind end in
+      leased_in_order outcome.0 outcome.1 (granted_by_number_keeps s.leases OrderWith order (sight s.tree) s.clients client number kind end (with_one_by_number kind end number))
   outcome_in_order (Migrate moves) row is read = migrated_in_order moves (fault_of_moves s.sizes s.placement moves) refl
 
 -- ---- a step

@@ -4,8 +4,8 @@ use Rattle.std.specs.Prelude.{length, nat_lt}
 use Rattle.kfs_model.proofs.OneByOne.{run_is_one_by_one}
 use Rattle.kfs_model.proofs.OrderKept.{yes_means}
 use Rattle.kfs_model.specs.Judgement.{State, Submission, Reading, IsReadAs, Verdict, Yes, No, Accepted, NoRoom, Refused, is_yes, free_places, client_sight_of, judged, reply_to, verdict_on}
-use Rattle.kfs_model.specs.Lease.{Leases, LeaseFault, dropped, granted, ticked}
-use Rattle.kfs_model.specs.Machine.{Call, Submit, Lease, Drop, Tick, Migrate, CallAnswer, CallAnswer-equality, CallFault, LeaseRefused, MovesRefused, CallOutcome, Done, NotDone, OneByOne, Replied, Row, IsRead, answered, are_chosen, landed, leased, migrated, next, outcome_of, replied, same_answer, unplaced}
+use Rattle.kfs_model.specs.Lease.{Leases, LeaseFault, dropped, granted, granted_by_number, ticked}
+use Rattle.kfs_model.specs.Machine.{Call, Submit, Lease, Drop, Tick, Migrate, LeaseAt, CallAnswer, CallAnswer-equality, CallFault, LeaseRefused, MovesRefused, CallOutcome, Done, NotDone, OneByOne, Replied, Row, IsRead, answered, are_chosen, landed, leased, migrated, next, outcome_of, replied, same_answer, unplaced}
 use Rattle.kfs_model.specs.Migration.{Move, MoveFault, fault_of_moves, moved_by}
 use Rattle.kfs_model.specs.Placement.{need, written_blocks}
 use Rattle.kfs_model.specs.Run.{Mark}
@@ -98,6 +98,7 @@ module _ (s : State) (places : List ℕ) where
   outcome_means (Lease client path kind end) row at read outcome is = let all = granted s.leases (sight s.tree) s.clients client path kind end in leased_means (Lease client path kind end) (λ number leases. (leases, refl)) (λ fault leases. (leases, refl)) all.0 all.1 outcome is
   outcome_means (Drop client number) row at read outcome is = let all = dropped s.leases s.clients client number in leased_means (Drop client number) (λ told leases. (leases, refl)) (λ fault leases. (leases, refl)) all.0 all.1 outcome is
   outcome_means (Tick moment) row at read outcome is = let all = ticked s.leases moment in leased_means (Tick moment) (λ told leases. (leases, refl)) (λ fault leases. (leases, refl)) all.0 all.1 outcome is
+  outcome_means (LeaseAt client number kind end) row at read outcome is = let all = granted_by_number s.leases (sight s.tree) s.clients client number kind end in leased_means (LeaseAt client number kind end) (λ number leases. (leases, refl)) (λ fault leases. (leases, refl)) all.0 all.1 outcome is
   outcome_means (Migrate moves) row at read outcome is = migrated_means moves (fault_of_moves s.sizes s.placement moves) outcome is
 
 pub row_means : (s t : State) (row : Row) → IsRead row → next s row ≡ Some t → Means s row t

@@ -9,7 +9,7 @@ use Rattle.kfs_model.specs.Effect.{Filling}
 use Rattle.kfs_model.specs.Entry.{Entry}
 use Rattle.kfs_model.specs.Fresh.{fresh_tree}
 use Rattle.kfs_model.specs.Judgement.{State}
-use Rattle.kfs_model.specs.Lease.{LeaseKind, LeaseOutcome, Leases, granted}
+use Rattle.kfs_model.specs.Lease.{LeaseKind, LeaseOutcome, Leases, granted, granted_by_number}
 use Rattle.kfs_model.specs.Machine.{opening}
 use Rattle.kfs_model.specs.Looked.{AgreeWhereLooked, HaveSameRun}
 use Rattle.kfs_model.specs.Order.{IsInOrder}
@@ -52,6 +52,10 @@ EachTwoTrees P = (client : Client) (one other : Tree ℕ) (entries : List Entry)
 -- P holds of each call of grant, on any tree, by any client
 abbrev pub EachGrant : ((Leases → LeaseOutcome) → Type 0) → Type 0
 EachGrant P = (sight : Sight) (clients : List Client) (client : ℕ) (path : List ℕ) (kind : LeaseKind) (end : ℕ) → P (λ leases. granted leases sight clients client path kind end)
+
+-- P holds of each grant by number, on any tree, by any client
+abbrev pub EachGrantByNumber : ((Leases → LeaseOutcome) → Type 0) → Type 0
+EachGrantByNumber P = (sight : Sight) (clients : List Client) (client number : ℕ) (kind : LeaseKind) (end : ℕ) → P (λ leases. granted_by_number leases sight clients client number kind end)
 
 -- P holds of where blocks lie before and after any moves without a fault
 abbrev pub EachMoves : (TierSizes → (before after : Placement) → Type 0) → Type 0

@@ -2,7 +2,8 @@
 use Rattle.std.specs.Prelude.{◌≡◌, ◌≢◌, ℕ, ◌+◌, ◌==◌, ◌&&◌, ◌||◌, not, nat_lt, nat_le, Bool, true, false, List, [], ◌∷◌, find, Option, Some, None, is_none, IsTrue, Result, Ok, Err, if◌then◌else◌}
 use Rattle.std.specs.List.{list_all}
 use Rattle.kfs_model.specs.Limits.{root_number}
-use Rattle.kfs_model.specs.Access.{Client, Search, may_header}
+use Rattle.kfs_model.specs.Access.{Client, Read, Write, Search, may_header, owns}
+use Rattle.kfs_model.specs.Header.{Header}
 use Rattle.kfs_model.specs.Table.{Table, numbers, pairs, get, insert, remove, retain, empty}
 use Rattle.kfs_model.specs.Sight.{Sight, is_directory}
 use Rattle.kfs_model.specs.Check.{is_some_and}
@@ -25,7 +26,7 @@ pub record Leases : Type 0 where
   pub moment : ℕ
 
 pub data LeaseFault : Type 0 where
-  UnknownClient BadPath Past NoLeaseHeld Backwards : LeaseFault
+  UnknownClient BadPath Past NoLeaseHeld Backwards NoSuchNode NotAllowed : LeaseFault
   NoSuchName NotDirectory NoSearch : (component : ℕ) → LeaseFault
   LeaseHeld : (client : ℕ) → LeaseFault
   deriving Discrete as LeaseFault-discrete
@@ -84,6 +85,15 @@ walked sight client node component (name ∷ names) = elim (is_directory (sight.
   ]
 ]
 
+-- ---- permission for a lease by number
+
+-- whether the client may have such a lease on a node without a path to it (POSIX.1-2017, XBD 4.5, and of
+-- open() O_RDONLY and O_WRONLY): for reading it may read the node; for writing it may write it, or owns
+-- it or is privileged, since an owner may always change the mode
+abbrev pub may_lease : Client → LeaseKind → Header → Bool
+may_lease client ReadLease h = may_header client h Read
+may_lease client WriteLease h = owns client h.uid || may_header client h Write
+
 -- ---- grant, drop and tick: each gives the answer and the leases afterwards; a refusal changes none
 
 -- whether a lease of another client on the node conflicts with this one: one of the two is for writing,
@@ -132,6 +142,17 @@ module _ (leases : Leases) where
   unfoldable pub granted : Sight → List Client → (client : ℕ) → (path : List ℕ) → LeaseKind → (end : ℕ) → LeaseOutcome
   granted sight clients number path kind end =
       elim (row_of clients number) [ None ↦ refused UnknownClient leases | Some client ↦ granted_on sight (names_of path) client kind end ]
+
+  -- the grant of a lease on the node with this header
+  abbrev pub granted_to_node : Option Header → Client → (number : ℕ) → LeaseKind → (end : ℕ) → LeaseOutcome
+  granted_to_node None client number kind end = refused NoSuchNode leases
+  granted_to_node (Some h) client number kind end = if may_lease client kind h then granted_at client number kind end else refused NotAllowed leases
+
+  -- the grant of a lease on the node with this number: no path is walked and no search asked, as by a
+  -- process that has the node open (POSIX.1-2017, XBD 4.13 asks search where a name is resolved)
+  unfoldable pub granted_by_number : Sight → List Client → (client number : ℕ) → LeaseKind → (end : ℕ) → LeaseOutcome
+  granted_by_number sight clients client number kind end =
+      elim (row_of clients client) [ None ↦ refused UnknownClient leases | Some row ↦ granted_to_node (sight.head number) row number kind end ]
 
   unfoldable pub dropped : List Client → (client number : ℕ) → LeaseOutcome
   dropped clients client number =

@@ -8,7 +8,7 @@ use Rattle.kfs_model.specs.Distinct.{are_distinct}
 use Rattle.kfs_model.specs.Table.{get, insert, retain}
 use Rattle.kfs_model.specs.Tree.{Tree, headers}
 use Rattle.kfs_model.specs.Sight.{ClientSight, sight, is_file}
-use Rattle.kfs_model.specs.Lease.{Leases, LeaseKind, LeaseFault, LeaseFault-discrete, no_leases, granted, dropped, ticked, without_gone}
+use Rattle.kfs_model.specs.Lease.{Leases, LeaseKind, LeaseFault, LeaseFault-discrete, no_leases, granted, granted_by_number, dropped, ticked, without_gone}
 use Rattle.kfs_model.specs.Check.{is_some_and}
 use Rattle.kfs_model.specs.Allowed.{IsAllowed}
 use Rattle.kfs_model.specs.Entry.{Entry}
@@ -56,6 +56,7 @@ pub data Call : Type 0 where
   Drop : (client number : ℕ) → Call
   Tick : (moment : ℕ) → Call
   Migrate : (moves : List Move) → Call
+  LeaseAt : (client number : ℕ) (kind : LeaseKind) (end : ℕ) → Call
 
 -- why a call that is no submission was refused
 pub data CallFault : Type 0 where
@@ -111,6 +112,7 @@ outcome_of s (Lease client path kind end) places = leased s places (granted s.le
 outcome_of s (Drop client number) places = leased s places (dropped s.leases s.clients client number)
 outcome_of s (Tick moment) places = leased s places (ticked s.leases moment)
 outcome_of s (Migrate moves) places = migrated s places moves (fault_of_moves s.sizes s.placement moves)
+outcome_of s (LeaseAt client number kind end) places = leased s places (granted_by_number s.leases (sight s.tree) s.clients client number kind end)
 
 -- a row of the docket: a call and its answer; whether that says that a submission was revalidated; and
 -- for a Yes the places of the written blocks in tier 0, ascending by block
@@ -148,6 +150,7 @@ IsRead row = IsReadCall row.call
     IsReadCall (Drop client number) = Unit {0}
     IsReadCall (Tick moment) = Unit {0}
     IsReadCall (Migrate moves) = Unit {0}
+    IsReadCall (LeaseAt client number kind end) = Unit {0}
 
 -- ---- what a Yes means
 

@@ -4,7 +4,7 @@ use Rattle.kfs_model.specs.Access.{Client}
 use Rattle.kfs_model.specs.Entry.{Entry, Log}
 use Rattle.kfs_model.specs.Judgement.{State, Submission, Reply, Accepted, NoRoom, Refused, client_sight_of}
 use Rattle.kfs_model.specs.Lease.{Leases, row_of}
-use Rattle.kfs_model.specs.Machine.{Call, Submit, Lease, Drop, Tick, Migrate, CallAnswer, Replied, Done, NotDone, OneByOne, Row}
+use Rattle.kfs_model.specs.Machine.{Call, Submit, Lease, Drop, Tick, Migrate, LeaseAt, CallAnswer, Replied, Done, NotDone, OneByOne, Row}
 use Rattle.kfs_model.specs.Placement.{Placement}
 use Rattle.kfs_model.specs.Spelling.{LogAnswer}
 
@@ -52,6 +52,9 @@ MeansOf s (Tick moment) (NotDone fault) t = DiffersInLeases s t
 MeansOf s (Migrate moves) (Replied reply) t = ⊥
 MeansOf s (Migrate moves) (Done count) t = DiffersInPlacement s t
 MeansOf s (Migrate moves) (NotDone fault) t = t ≡ s
+MeansOf s (LeaseAt client number kind end) (Replied reply) t = ⊥
+MeansOf s (LeaseAt client number kind end) (Done told) t = DiffersInLeases s t
+MeansOf s (LeaseAt client number kind end) (NotDone fault) t = DiffersInLeases s t
 
 abbrev pub Means : State → Row → State → Type 0
 Means s row t = MeansOf s row.call row.answer t

@@ -26,7 +26,7 @@ ghost use Rattle.kfs_model.specs.Soundness.{IsSound};
 ghost use Rattle.kfs_model.specs.Fresh.{fresh_tree};
 ghost use Rattle.kfs_model.specs.Spelling.{IsName, is_name, IsBytes, SpellingFault, LogAnswer, PlanAnswer};
 ghost use Rattle.kfs_model.specs.CleanStep.{IsClient, Fits, IsSeenInCells};
-ghost use Rattle.kfs_model.specs.Laws.{CellsDecide, CleanIsAllowed, EachGrant, EachMoves, EachRun, EachTwoTrees, KeepsOrder, KeepsSound, MarksGiveBytes, opening_of_new};
+ghost use Rattle.kfs_model.specs.Laws.{CellsDecide, CleanIsAllowed, EachGrant, EachGrantByNumber, EachMoves, EachRun, EachTwoTrees, KeepsOrder, KeepsSound, MarksGiveBytes, opening_of_new};
 
 /// An entry without a failed check is allowed to its client by mode bits and leases. This holds for all
 /// eight kinds of entry.
@@ -109,9 +109,10 @@ pub fn name_test_is_exact()
     ensures only { (name : List ℕ) → IsName name → is_name name ≡ true }
 {}
 
-/// If no two live leases conflict, none do after a grant, a drop or a tick.
+/// If no two live leases conflict, none do after a grant, by a path or by number, a drop or a tick.
 pub fn leases_stay_compatible()
     ensures granted { EachGrant KeepsCompatible }
+    ensures granted_by_number { EachGrantByNumber KeepsCompatible }
     ensures dropped { (clients : List Client) (client number : ℕ) → KeepsCompatible (λ leases. dropped leases clients client number) }
     ensures ticked { (moment : ℕ) → KeepsCompatible (λ leases. ticked leases moment) }
 {}

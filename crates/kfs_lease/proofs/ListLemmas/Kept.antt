@@ -8,8 +8,8 @@ use Rattle.kfs_model.specs.Access.{Client}
 use Rattle.kfs_model.specs.Check.{is_some_and}
 use Rattle.kfs_model.specs.Header.{Header}
 use Rattle.kfs_model.specs.Judgement.{State, Verdict, Yes, No, Reply, Accepted, NoRoom, Refused, reply_to, verdict_on}
-use Rattle.kfs_model.specs.Lease.{Lease, LeaseFault, LeaseHeld, LeaseKind, LeaseOutcome, LeaseTable, Leases, NoLeaseHeld, Backwards, Past, UnknownClient, dropped, granted, granted_by_walk, granted_on, in_conflict, is_live, live_at, names_of, no_leases, on_those, refused, row_of, ticked, walked, without_gone}
-use Rattle.kfs_model.specs.Machine.{Call, Submit, Drop, Tick, Migrate, CallAnswer, CallOutcome, Done, IsRead, LeaseRefused, MovesRefused, NotDone, Replied, Row, are_chosen, landed, leased, migrated, next, outcome_of, replied, unplaced}
+use Rattle.kfs_model.specs.Lease.{Lease, LeaseFault, LeaseHeld, LeaseKind, LeaseOutcome, LeaseTable, Leases, NoLeaseHeld, Backwards, Past, UnknownClient, dropped, granted, granted_at, granted_by_number, granted_by_walk, granted_to_node, may_lease, NoSuchNode, NotAllowed, granted_on, in_conflict, is_live, live_at, names_of, no_leases, on_those, refused, row_of, ticked, walked, without_gone}
+use Rattle.kfs_model.specs.Machine.{Call, Submit, Drop, Tick, Migrate, LeaseAt, CallAnswer, CallOutcome, Done, IsRead, LeaseRefused, MovesRefused, NotDone, Replied, Row, are_chosen, landed, leased, migrated, next, outcome_of, replied, unplaced}
 use Rattle.kfs_model.specs.Machine as machine
 use Rattle.kfs_model.specs.Migration.{Move, MoveFault, fault_of_moves, moved_by}
 use Rattle.kfs_model.specs.Order.{IsInOrder}
@@ -73,23 +73,31 @@ module _ (clients : List Client) (leases : Leases) (held : AreHeld clients lease
   abbrev HeldBy : LeaseOutcome → Type 0
   HeldBy outcome = AreHeld clients outcome.1
 
+  -- on a node that was found
+  found_held : (client : Client) (n : ℕ) (kind : LeaseKind) (end : ℕ) → row_of clients client.number ≡ Some client → HeldBy (granted_at leases client n kind end)
+  found_held client n kind end row = by_end (nat_le end leases.moment) refl
+    where
+      by_conflict : leases.moment < end → (found : Option ((ℕ × ℕ) × Lease))
+          → HeldBy (elim found [ Some row ↦ refused (LeaseHeld row.0.0) leases | None ↦ (Ok n, record leases { rows = insert leases.rows (client.number, n) (record { kind = kind; end = end }) }) ])
+      by_conflict later None = one_more client n kind end row later
+      by_conflict later (Some other) = held
+
+      by_end : (past : Bool) → nat_le end leases.moment ≡ past
+          → HeldBy (cond past (refused Past leases) (elim (in_conflict leases client.number n kind) [ Some row ↦ refused (LeaseHeld row.0.0) leases | None ↦ (Ok n, record leases { rows = insert leases.rows (client.number, n) (record { kind = kind; end = end }) }) ]))
+      by_end true is = held
+      by_end false is = let later : leases.moment < end = grind (arith, nat_tests) in by_conflict later (in_conflict leases client.number n kind)
+
+  -- a row that is found is found by its number
+  found_again : (number : ℕ) (client : Client) → row_of clients number ≡ Some client → row_of clients client.number ≡ Some client
+  found_again number client is = ap (row_of clients) (number_is clients number client is) ∙ is
+
   granted_held : (sight : Sight) (number : ℕ) (path : List ℕ) (kind : LeaseKind) (end : ℕ) → HeldBy (granted leases sight clients number path kind end)
   unfolding granted
   granted_held sight number path kind end = by_client (row_of clients number) refl
     where
-      by_conflict : (client : Client) (n : ℕ) → row_of clients client.number ≡ Some client → leases.moment < end → (found : Option ((ℕ × ℕ) × Lease))
-          → HeldBy (elim found [ Some row ↦ refused (LeaseHeld row.0.0) leases | None ↦ (Ok n, record leases { rows = insert leases.rows (client.number, n) (record { kind = kind; end = end }) }) ])
-      by_conflict client n row later None = one_more client n kind end row later
-      by_conflict client n row later (Some other) = held
-
-      by_end : (client : Client) (n : ℕ) → row_of clients client.number ≡ Some client → (past : Bool) → nat_le end leases.moment ≡ past
-          → HeldBy (cond past (refused Past leases) (elim (in_conflict leases client.number n kind) [ Some row ↦ refused (LeaseHeld row.0.0) leases | None ↦ (Ok n, record leases { rows = insert leases.rows (client.number, n) (record { kind = kind; end = end }) }) ]))
-      by_end client n row true is = held
-      by_end client n row false is = let later : leases.moment < end = grind (arith, nat_tests) in by_conflict client n row later (in_conflict leases client.number n kind)
-
       by_walk : (client : Client) → row_of clients client.number ≡ Some client → (came : Result ℕ LeaseFault) → HeldBy (granted_by_walk leases came client kind end)
       by_walk client row (Err fault) = held
-      by_walk client row (Ok n) = by_end client n row (nat_le end leases.moment) refl
+      by_walk client row (Ok n) = found_held client n kind end row
 
       by_path : (client : Client) → row_of clients client.number ≡ Some client → (names : Option (List (List ℕ))) → HeldBy (granted_on leases sight names client kind end)
       by_path client row None = held
@@ -97,7 +105,23 @@ module _ (clients : List Client) (leases : Leases) (held : AreHeld clients lease
 
       by_client : (found : Option Client) → row_of clients number ≡ found → HeldBy (elim found [ None ↦ refused UnknownClient leases | Some client ↦ granted_on leases sight (names_of path) client kind end ])
       by_client None is = held
-      by_client (Some client) is = by_path client (ap (row_of clients) (number_is clients number client is) ∙ is) (names_of path)
+      by_client (Some client) is = by_path client (found_again number client is) (names_of path)
+
+  granted_by_number_held : (sight : Sight) (number n : ℕ) (kind : LeaseKind) (end : ℕ) → HeldBy (granted_by_number leases sight clients number n kind end)
+  unfolding granted_by_number
+  granted_by_number_held sight number n kind end = by_client (row_of clients number) refl
+    where
+      by_permission : (client : Client) → row_of clients client.number ≡ Some client → (allowed : Bool) → HeldBy (cond allowed (granted_at leases client n kind end) (refused NotAllowed leases))
+      by_permission client row true = found_held client n kind end row
+      by_permission client row false = held
+
+      by_head : (client : Client) → row_of clients client.number ≡ Some client → (head : Option Header) → HeldBy (granted_to_node leases head client n kind end)
+      by_head client row None = held
+      by_head client row (Some h) = by_permission client row (may_lease client kind h)
+
+      by_client : (found : Option Client) → row_of clients number ≡ found → HeldBy (elim found [ None ↦ refused UnknownClient leases | Some client ↦ granted_to_node leases (sight.head n) client n kind end ])
+      by_client None is = held
+      by_client (Some client) is = by_head client (found_again number client is) (sight.head n)
 
   dropped_held : (client number : ℕ) → HeldBy (dropped leases clients client number)
   unfolding dropped remove
@@ -162,6 +186,9 @@ module _ (s : State) (held : AreHeld s.clients s.leases) (places : List ℕ) whe
   outcome_holds (machine.Lease client path kind end) = let all = granted s.leases (sight s.tree) s.clients client path kind end in leased_holds all.0 all.1 (granted_held s.clients s.leases held (sight s.tree) client path kind end)
   outcome_holds (Drop client number) = let all = dropped s.leases s.clients client number in leased_holds all.0 all.1 (dropped_held s.clients s.leases held client number)
   outcome_holds (Tick moment) = let all = ticked s.leases moment in leased_holds all.0 all.1 (ticked_held s.clients s.leases held moment)
+  outcome_holds (LeaseAt client number kind end) =
+      let all = granted_by_number s.leases (sight s.tree) s.clients client number kind end in
+      leased_holds all.0 all.1 (granted_by_number_held s.clients s.leases held (sight s.tree) client number kind end)
   outcome_holds (Migrate moves) = migrated_holds moves (fault_of_moves s.sizes s.placement moves)
 
 -- where there is no lease, all are

@@ -16,7 +16,7 @@ use Rattle.kfs_model.specs.Access.{Client}
 use Rattle.kfs_model.specs.Table.{Order, Table, numbers, pairs, empty, insert, get, retain, remove, mapped, united}
 use Rattle.kfs_model.specs.Tree.{Tree, Node, Body, FileBody}
 use Rattle.kfs_model.specs.Sight.{climb_meets, climbed}
-use Rattle.kfs_model.specs.Lease.{Lease, Leases, WriteLease, granted, dropped, live_at, on_those, ticked, without_gone, walked}
+use Rattle.kfs_model.specs.Lease.{Lease, Leases, WriteLease, granted, granted_by_number, dropped, live_at, on_those, ticked, without_gone, walked}
 use Rattle.kfs_model.specs.Spelling.{is_name}
 use Rattle.kfs_model.specs.Check.{Reason, fault, checks_of, first_failing}
 use Rattle.kfs_model.specs.Entry.{Entry, Log}
@@ -31,7 +31,7 @@ use Rattle.kfs_model.specs.Machine.{outcome_of, next}
 
 -- an example's proof computes: it unfolds this, and with it all that a judgement uses
 unfoldable pub computing : Unit {0}
-unfolding get insert retain remove mapped united climb_meets climbed granted dropped live_at on_those ticked without_gone walked is_name fault checks_of first_failing overwritten resized without_unnamed change_of run_from changed_bytes is_wrong first_wrong_row written_blocks cleared_blocks judged free_places reply_to outcome_of next
+unfolding get insert retain remove mapped united climb_meets climbed granted granted_by_number dropped live_at on_those ticked without_gone walked is_name fault checks_of first_failing overwritten resized without_unnamed change_of run_from changed_bytes is_wrong first_wrong_row written_blocks cleared_blocks judged free_places reply_to outcome_of next
 computing = tt
 
 -- a table of some entries, in any order

@@ -1,8 +1,11 @@
-use Rattle.kfs_model.proofs.LeasesKept.{granted_compatible, dropped_compatible, ticked_compatible}
+use Rattle.kfs_model.proofs.LeasesKept.{granted_compatible, granted_by_number_compatible, dropped_compatible, ticked_compatible}
 use Rattle.kfs_model.proofs.laws.leases_stay_compatible.Goals as goal
 
 pub returns-clause-granted : goal.returns-clause-granted
 returns-clause-granted c = granted_compatible
+
+pub returns-clause-granted_by_number : goal.returns-clause-granted_by_number
+returns-clause-granted_by_number c = granted_by_number_compatible
 
 pub returns-clause-dropped : goal.returns-clause-dropped
 returns-clause-dropped c = dropped_compatible

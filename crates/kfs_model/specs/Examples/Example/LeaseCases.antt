@@ -1,9 +1,10 @@
 -- The leases and paths of the examples on leases: file 5 at "/a", and both clients' rows.
-use Rattle.std.specs.Prelude.{ℕ, List, [], ◌∷◌, Result}
+use Rattle.std.specs.Prelude.{ℕ, true, List, [], ◌∷◌, Result}
 use Rattle.kfs_model.specs.Access.{Client}
 use Rattle.kfs_model.specs.Sight.{sight}
-use Rattle.kfs_model.specs.Lease.{Leases, LeaseFault, LeaseKind, ReadLease, WriteLease, no_leases, granted, dropped, ticked}
-use Rattle.kfs_model.specs.Examples.Example.{client_7, client_8, with_file}
+use Rattle.kfs_model.specs.Tree.{Tree}
+use Rattle.kfs_model.specs.Lease.{Leases, LeaseFault, LeaseKind, ReadLease, WriteLease, no_leases, granted, granted_by_number, dropped, ticked}
+use Rattle.kfs_model.specs.Examples.Example.{client_7, client_8, name_a, name_d, directory, file, named, own_file, root, tree, with_file}
 
 abbrev pub clients : List Client
 clients = client_7 ∷ client_8 ∷ []
@@ -48,3 +49,33 @@ written_by_8 = (lease read_by_8 8 WriteLease).1
 
 abbrev pub at_5 : Leases
 at_5 = (ticked no_leases 5).1
+
+-- ---- by number: below "/d", a directory of client 8 with mode 0o700, lie three files
+
+-- file 5 of client 7 with mode 0; file 6 of client 8 with mode 0o604; file 9 of client 8 with mode 0o602
+abbrev pub below_closed : Tree ℕ
+below_closed =
+    tree (root ∷ directory 2 448 1001 1001 ∷ own_file 5 0 [] ∷ file 6 388 1001 1001 [] ∷ file 9 386 1001 1001 [] ∷ [])
+    (named 1 name_d 2 ∷ named 2 name_a 5 ∷ named 2 (98 ∷ []) 6 ∷ named 2 (99 ∷ []) 9 ∷ [])
+
+-- as client 7, and numbered 3, but privileged
+abbrev pub privileged_3 : Client
+privileged_3 = record client_7 { number = 3; uid = 1003; gid = 1003; privileged = true }
+
+-- the path "/d/a"
+abbrev pub path_to_5 : List ℕ
+path_to_5 = 47 ∷ 100 ∷ 47 ∷ 97 ∷ []
+
+-- what the client is answered for a lease by a path, and by a number
+abbrev pub lease_by_path : (client : ℕ) → List ℕ → LeaseKind → Result ℕ LeaseFault × Leases
+lease_by_path client path kind = granted no_leases (sight below_closed) (privileged_3 ∷ clients) client path kind 100
+
+abbrev pub lease_on_until : Leases → (client number : ℕ) → LeaseKind → (end : ℕ) → Result ℕ LeaseFault × Leases
+lease_on_until leases client number kind end = granted_by_number leases (sight below_closed) (privileged_3 ∷ clients) client number kind end
+
+abbrev pub lease_on : (client number : ℕ) → LeaseKind → Result ℕ LeaseFault × Leases
+lease_on client number kind = lease_on_until no_leases client number kind 100
+
+-- client 7 writes file 5
+abbrev pub written_by_7 : Leases
+written_by_7 = (lease_on 7 5 WriteLease).1
