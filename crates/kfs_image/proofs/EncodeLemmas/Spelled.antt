@@ -73,11 +73,11 @@ module _ (image : DeviceImage) (lawful : IsLawful image) where
       ∙ (λ i. spelling_with (header_for (sym (length-map (headers (shown_tree image)).entries raw_node) i) (sym (length-map image.names.entries name_row) i) (length extents)) (headers (shown_tree image)).entries)
 
   -- the four parts behind another text
-  pub image_appended : (h : ImageHeader) (first second third fourth last : List ℕ)
+  pub image_appended : (h : ImageHeader) (before first second third fourth last : List ℕ)
       → h ≡ record { version = latest_version; sizes = image.sizes; nodes = length image.heads.entries; names = length image.names.entries; extents = length (extents_of (shown_tree image) image.placement) }
-      → second ≡ first ++ image_header h → third ≡ second ++ flat_map node_spelling image.heads.entries → fourth ≡ third ++ flat_map name_spelling image.names.entries
-      → last ≡ fourth ++ flat_map extent_bytes (extents_of (shown_tree image) image.placement) → last ≡ first ++ image_bytes image
-  image_appended h first second third fourth last head headed noded named extended =
+      → first ≡ before → second ≡ first ++ image_header h → third ≡ second ++ flat_map node_spelling image.heads.entries → fourth ≡ third ++ flat_map name_spelling image.names.entries
+      → last ≡ fourth ++ flat_map extent_bytes (extents_of (shown_tree image) image.placement) → last ≡ before ++ image_bytes image
+  image_appended h before first second third fourth last head same headed noded named extended =
       let nodes = flat_map node_spelling image.heads.entries in
       let names = flat_map name_spelling image.names.entries in
       let rows = flat_map extent_bytes (extents_of (shown_tree image) image.placement) in
@@ -90,4 +90,4 @@ module _ (image : DeviceImage) (lawful : IsLawful image) where
       ∙ ap (λ text. text ++ names ++ rows) noded
       ∙ ap (λ text. text ++ nodes ++ names ++ rows) headed
       ∙ four
-      ∙ ap (λ text. first ++ text) whole
+      ∙ (λ i. same i ++ whole i)

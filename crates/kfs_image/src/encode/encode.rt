@@ -66,5 +66,6 @@ pub fn append_image<A: Allocator, B: Allocator>(
     header::write(out, head)?;
     write_nodes(out, image)?;
     write_names(out, image)?;
-    write_extents(out, image)
+    write_extents(out, image)?;
+    Ok(())
 }
