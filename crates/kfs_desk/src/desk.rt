@@ -612,8 +612,8 @@ fn made<A: Allocator + Copy>(
             kind,
             end,
         } => {
-            let number = leases.grant_at(shape, clients, client, number, kind, end)?;
-            Ok(Done::Leased(number))
+            let leased = leases.grant_at(shape, clients, client, number, kind, end)?;
+            Ok(Done::Leased(leased))
         }
         Act::Drop { client, number } => {
             leases.drop_lease(clients, client, number)?;
