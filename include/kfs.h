@@ -134,7 +134,9 @@ enum {
     KFS_LEASE_PAST = 6,          /* the end isn't above the moment */
     KFS_LEASE_HELD = 7,          /* by client `detail` */
     KFS_LEASE_NONE_HELD = 8,
-    KFS_LEASE_BACKWARDS = 9      /* the moment would go down */
+    KFS_LEASE_BACKWARDS = 9,     /* the moment would go down */
+    KFS_LEASE_NO_SUCH_NODE = 10,
+    KFS_LEASE_NOT_ALLOWED = 11   /* no permission on the node for such a lease */
 };
 
 /* Of moves of blocks: move `index`. */
@@ -342,6 +344,12 @@ uint32_t kfs_plan(struct kfs *handle, uint32_t client, const uint8_t *log, size_
  * reading. */
 uint32_t kfs_lease(struct kfs *handle, uint32_t client, const uint8_t *path, size_t path_len,
                    bool write, uint64_t end, struct kfs_act *reply);
+
+/* The same for the node with this number, without a path: no directory is searched. In place of it the
+ * client must have permission on the node itself: for reading it may read the node; for writing it may
+ * write it, or owns it, or is privileged. Else KFS_LEASE_NOT_ALLOWED. */
+uint32_t kfs_lease_at(struct kfs *handle, uint32_t client, uint32_t number, bool write, uint64_t end,
+                      struct kfs_act *reply);
 
 /* Ends the client's lease on the node. */
 uint32_t kfs_drop(struct kfs *handle, uint32_t client, uint32_t number, struct kfs_act *reply);

@@ -1,4 +1,4 @@
-/* Who may look names up, list them and read. tools/hosts runs it: it says nothing and answers 0 where all is as
+/* Who may look names up, list them and read, and who gets a lease by number. tools/hosts runs it: it says nothing and answers 0 where all is as
  * it should be. */
 #include "kfs.h"
 #include <stdio.h>
@@ -61,18 +61,50 @@ static void check_handles(struct kfs *desk, struct kfs *view)
     expect(fault.code, 0, "no fault");
 }
 
+/* Of leases by number: the refusals in their order, then what the bits of a file permit. */
+static void check_leases(struct kfs *desk)
+{
+    static const struct {
+        uint32_t client, number;
+        bool write;
+        uint64_t end;
+        uint32_t code, detail;
+    } rows[] = {
+        { 11, 4, true, 0, KFS_LEASE_UNKNOWN_CLIENT, 0 },
+        { 9, 4, true, 0, KFS_LEASE_NO_SUCH_NODE, 0 },
+        { 9, 5, true, 0, KFS_LEASE_NOT_ALLOWED, 0 },
+        { 10, 1, false, 0, KFS_LEASE_PAST, 0 },
+        { 10, 1, false, 100, KFS_LEASE_HELD, 7 },
+        { 8, 5, false, 100, 0, 0 },
+        { 8, 5, true, 100, KFS_LEASE_NOT_ALLOWED, 0 },
+        { 9, 5, false, 100, KFS_LEASE_NOT_ALLOWED, 0 },
+        { 7, 5, true, 100, KFS_LEASE_HELD, 8 },
+        { 10, 5, false, 100, 0, 0 },
+        { 7, 3, true, 100, 0, 0 },
+    };
+    for (size_t i = 0; i < sizeof rows / sizeof *rows; i++) {
+        struct kfs_act act = { 0 };
+        expect(kfs_lease_at(desk, rows[i].client, rows[i].number, rows[i].write, rows[i].end, &act), KFS_DONE, "a lease by number");
+        expect(act.done, rows[i].code == 0, "whether it is given");
+        expect(act.fault.code, rows[i].code, "why not");
+        expect(act.fault.detail, rows[i].detail, "by whom");
+        if (act.done) expect((uint32_t)act.number, rows[i].number, "its number");
+    }
+}
+
 int main(void)
 {
     struct kfs desk = { 0 }, view = { 0 };
     struct kfs_fault fault = { 0 };
     struct kfs_act act = { 0 };
     struct kfs_reply reply = { 0 };
-    expect(kfs_open(&desk, 8, 8, 8, clients, 4, groups, 1, 8, &fault), KFS_DONE, "a desk");
+    expect(kfs_open(&desk, 8, 8, 8, clients, 4, groups, 1, 32, &fault), KFS_DONE, "a desk");
     expect(kfs_lease(&desk, 7, (const uint8_t *)"/", 1, true, 100, &act), KFS_DONE, "a lease");
     expect(kfs_do(&desk, 7, both, sizeof both - 1, &reply), KFS_DONE, "both nodes");
     expect(kfs_look(&desk, &view), KFS_DONE, "a view");
     check_permissions(&view);
     check_handles(&desk, &view);
+    check_leases(&desk);
     kfs_close(&view);
     kfs_close(&desk);
     return failed;

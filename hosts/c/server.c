@@ -175,7 +175,8 @@ static void say_act(const struct kfs_act *act, const char *done, const char *con
 
 static const char *const lease_faults[] = {
     "?", "UnknownClient", "BadPath", "NoSuchName(%" PRIu64 ")", "NotDirectory(%" PRIu64 ")",
-    "NoSearch(%" PRIu64 ")", "Past", "LeaseHeld(%" PRIu64 ")", "NoLeaseHeld", "Backwards"
+    "NoSearch(%" PRIu64 ")", "Past", "LeaseHeld(%" PRIu64 ")", "NoLeaseHeld", "Backwards",
+    "NoSuchNode", "NotAllowed"
 };
 
 static const char *const move_faults[] = {

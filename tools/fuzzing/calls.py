@@ -11,7 +11,7 @@ from typing import NamedTuple
 from . import spoil
 from .codec import NoRow, Reader, Refused, number_bytes
 from .desk import BadLine, Session, Words, hex_of
-from .scripts import U64, Maker
+from .scripts import ENDS, U32, U64, Maker
 
 
 class Submit(NamedTuple):
@@ -42,6 +42,13 @@ class Migrate(NamedTuple):
     moves: list
 
 
+class LeaseAt(NamedTuple):
+    client: int
+    is_write: int
+    end: int
+    number: int
+
+
 # The tag of each call, and its fields: bytes of a number, or a kind of field.
 CALLS = {
     1: (Submit, (4, "long", "long")),
@@ -49,6 +56,7 @@ CALLS = {
     3: (Drop, (4, 4)),
     4: (Tick, (8,)),
     5: (Migrate, ("moves",)),
+    6: (LeaseAt, (4, "flag", 8, 4)),
 }
 TAGS = {call: (tag, fields) for tag, (call, fields) in CALLS.items()}
 MOVE = (4, 4, 1, 4)
@@ -171,6 +179,8 @@ class CallSession(Session):
                 return self.go_on(*call)
             case Migrate():
                 return self.move_blocks(*call)
+            case LeaseAt(client, is_write, end, number):
+                return self.ask_lease_at(client, number, "rw"[is_write], end)
 
     def again(self, words):
         """Goes on with a new docket; all else is as it was."""
@@ -226,7 +236,7 @@ def call_of(line):
 # ---- Random calls
 
 # How often each kind comes. `spoiled` is a call with its bytes changed, and `odd` one that no line makes, or bytes that are none.
-WEIGHTS = {"submit": 38, "lease": 14, "drop": 6, "tick": 3, "move": 9, "spoiled": 20, "odd": 9, "save": 1, "again": 6}
+WEIGHTS = {"submit": 38, "lease": 14, "lease_at": 10, "drop": 6, "tick": 3, "move": 9, "spoiled": 20, "odd": 9, "save": 1, "again": 6}
 # A moment that is rarely gone beyond: few leases are live then.
 LATE = 100_000
 ODD_PATHS = [b"", b"/ ", b"/a b", b"/\n", b"/a\n", b" ", b"\n", b"/\xff", b"/a/", b"/" * 65_535, b"/a" * 32_767]
@@ -239,7 +249,7 @@ class CallMaker(Maker):
         super().__init__(f"calls {seed}")
         self.weights, self.session, self.is_cut = WEIGHTS, CallSession(), is_cut
         # The last calls, and whether the places of all blocks were shown since the last landing.
-        self.calls, self.is_shown = [b"\x06"], True
+        self.calls, self.is_shown = [b"\x07"], True
 
     def say(self, line):
         line = line if isinstance(line, bytes) else line.encode()
@@ -282,6 +292,14 @@ class CallMaker(Maker):
             super().say(b"again 1000")
         return reply
 
+    def lease_at(self):
+        """Asks for a lease by number: mostly on a node, and mostly up to a moment that is to come."""
+        nodes, moment = list(self.session.tree.nodes), self.session.leases.moment
+        number = self.one(nodes) if self.chance(90) else self.one([0, max(nodes) + 1, 65_536, 65_537, U32])
+        end = U64 if self.chance(50) else min(U64, self.one([0, moment, moment + 1, *ENDS]))
+        client = self.number_of_client()
+        self.say_call(encode_call(LeaseAt(client, self.random.randrange(2), end, number)))
+
     def spoiled(self):
         data = spoil.cut(self.random, self.one(self.calls))
         call = decoded(data)
@@ -292,7 +310,7 @@ class CallMaker(Maker):
         call = decoded(self.one(self.calls))
         match self.random.choice(["tag", "length", "path", "kind", "none", "more", "fewer", "bytes"]):
             case "tag":
-                self.say_call(bytes([self.one([0, 6, 7, 255, self.random.randrange(256)])]) + self.one(self.calls)[1:])
+                self.say_call(bytes([self.one([0, 7, 8, 255, self.random.randrange(256)])]) + self.one(self.calls)[1:])
             case "length":
                 self.say_call(self.with_length(self.one(self.calls)))
             case "path":

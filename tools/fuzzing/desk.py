@@ -241,6 +241,9 @@ class Session:
     def ask_lease(self, number, path, kind, end):
         return self.in_row(lambda: self.on_client(number, lambda client: self.leases.grant(self.tree, client, path, kind, end)))
 
+    def ask_lease_at(self, number, node, kind, end):
+        return self.in_row(lambda: self.on_client(number, lambda client: self.leases.grant_at(self.tree, client, node, kind, end)))
+
     def drop(self, words):
         return self.give_up(*words.drop())
 

@@ -117,6 +117,20 @@ class Leases:
 
     def grant(self, tree, client, path, kind, end):
         number, fault = walked(tree, client, path)
+        return self.grant_there(client, number, fault, kind, end)
+
+    def grant_at(self, tree, client, number, kind, end):
+        """Grants by number: without a path, but with permission on the node itself."""
+        node = tree.nodes.get(number)
+        if node is None:
+            fault = "NoSuchNode"
+        elif kind == "r":
+            fault = None if client.may(node, READ) else "NotAllowed"
+        else:
+            fault = None if client.owns(node) or client.may(node, WRITE) else "NotAllowed"
+        return self.grant_there(client, number, fault, kind, end)
+
+    def grant_there(self, client, number, fault, kind, end):
         if fault is None and end <= self.moment:
             fault = "Past"
         if fault is None:

@@ -3,7 +3,7 @@ use Rattle.std.specs.Prelude.{◌≡◌, ◌↔◌, ℕ, Bool, Option, List, map
 use Rattle.std.specs.Global.{Global}
 use Rattle.kfs_model.specs.Judgement.{State}
 use Rattle.kfs_model.specs.Lease.{LeaseKind, ReadLease, WriteLease}
-use Rattle.kfs_model.specs.Machine.{Call, Lease, Drop, Tick, Migrate}
+use Rattle.kfs_model.specs.Machine.{Call, Lease, Drop, Tick, Migrate, LeaseAt}
 use Rattle.kfs_model.specs.Migration.{Move}
 use Rattle.kfs_desk.specs.declared.history.answers.ActReply.{ActReply}
 use Rattle.kfs_desk.specs.declared.history.answers.Done.{Done}
@@ -57,6 +57,9 @@ move_of row = record { number = row.number; block = row.block; target = record {
 
 abbrev pub IsLeased : (client : ℕ) (path : List ℕ) (write : Bool) (end : ℕ) → ActNumbers → (old new : Desk) → Type 0
 IsLeased client path write end told old new = IsCalled (Lease client path (kind_of_lease write) end) Leased told old new
+
+abbrev pub IsLeasedAt : (client number : ℕ) (write : Bool) (end : ℕ) → ActNumbers → (old new : Desk) → Type 0
+IsLeasedAt client number write end told old new = IsCalled (LeaseAt client number (kind_of_lease write) end) Leased told old new
 
 abbrev pub IsDropped : (client number : ℕ) → ActNumbers → (old new : Desk) → Type 0
 IsDropped client number told old new = IsCalled (Drop client number) Dropped told old new

@@ -29,6 +29,8 @@ lease_fault_told leases.Past = numbers 6 0 0 0
 lease_fault_told (leases.LeaseHeld client) = numbers 7 0 0 client
 lease_fault_told leases.NoLeaseHeld = numbers 8 0 0 0
 lease_fault_told leases.Backwards = numbers 9 0 0 0
+lease_fault_told leases.NoSuchNode = numbers 10 0 0 0
+lease_fault_told leases.NotAllowed = numbers 11 0 0 0
 lease_fault_told leases.OutOfMemory = no_fault
 
 abbrev pub move_fault_told : MoveFault → FaultNumbers

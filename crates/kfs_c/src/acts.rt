@@ -1,7 +1,7 @@
 //! Calls that are no submissions: leases, moments, moves of blocks.
 ghost use Rattle.std.specs.Prelude.{◌≡◌, ◌↔◌, ◌≤◌, ◌<◌, None, map, IfOk, OnErr, IsErrOf};
 ghost use Rattle.kfs_lease.specs.Rows.Rows.{kind_of};
-ghost use Rattle.kfs_c.specs.Calls.{AreMoved, IsDropped, IsLeased, IsTicked, kind_of_lease, move_of};
+ghost use Rattle.kfs_c.specs.Calls.{AreMoved, IsDropped, IsLeased, IsLeasedAt, IsTicked, kind_of_lease, move_of};
 ghost use Rattle.kfs_c.specs.Holding.{HoldsNoDesk, OnDesk, OnDesks};
 ghost use Rattle.kfs_c.specs.Loose.Status as status;
 ghost use Rattle.kfs_c.specs.Submission.Submission.{IsFull};
@@ -66,6 +66,46 @@ fn kind_asked(write: bool) -> LeaseKind
     } else {
         LeaseKind::Read
     }
+}
+
+/// Gives the client a lease on the node with this number, up to the moment `end`, without a path
+/// (`Desk::lease_at`). `write` asks for a write lease, else it is one for reading.
+#[unsafe(no_mangle)]
+pub extern "C" fn kfs_lease_at(
+    alloc: Global,
+    handle: &mut Handle,
+    client: u32,
+    number: u32,
+    write: bool,
+    end: u64,
+    reply: &mut ActNumbers,
+) -> u32
+    ensures answered { result ≡ status.done → OnDesks handle.old.value handle.new.value (IsLeasedAt client number write end reply.new) }
+    ensures unanswered { 1 ≤ result → (handle.new.value ≡ handle.old.value) × (reply.new ≡ reply.old) }
+    ensures full { (result ≡ status.full) ↔ OnDesk handle.old.value IsFull }
+    ensures closed { (result ≡ status.closed) ↔ (handle.old.value ≡ None) }
+    ensures wrong { (result ≡ status.wrong_kind) ↔ HoldsNoDesk handle.old.value }
+    ensures known { result ≤ status.wrong_kind }
+    ensures range { result < status.closed → result ≤ status.full }
+{
+    on_desk!(alloc, handle, &mut desk => lease_at(desk, client, number, write, end, reply))
+}
+
+#[tactic(auto, using(crate::proofs::Acted::called, crate::proofs::Acted::uncalled, crate::proofs::Acted::full_told))]
+fn lease_at(
+    desk: &mut Desk<Global>,
+    client: u32,
+    number: u32,
+    write: bool,
+    end: u64,
+    reply: &mut ActNumbers,
+) -> u32
+    ensures answered { result ≡ status.done → IsLeasedAt client number write end reply.new desk.old desk.new }
+    ensures unanswered { 1 ≤ result → (desk.new ≡ desk.old) × (reply.new ≡ reply.old) }
+    ensures full { (result ≡ status.full) ↔ IsFull desk.old }
+    ensures range { result ≤ status.full }
+{
+    tell(desk.lease_at(client, number, kind_asked(write), end), reply)
 }
 
 /// Ends the client's lease on the node with this number (`Desk::drop_lease`).

@@ -31,6 +31,12 @@ pub(crate) const LEASE_NONE_HELD: u32 = 8;
 /// The moment would go down.
 pub(crate) const LEASE_BACKWARDS: u32 = 9;
 
+/// No node has the number.
+pub(crate) const LEASE_NO_SUCH_NODE: u32 = 10;
+
+/// The client has no permission on the node for such a lease.
+pub(crate) const LEASE_NOT_ALLOWED: u32 = 11;
+
 // Of moves: the move with this index.
 
 /// The block isn't mapped.

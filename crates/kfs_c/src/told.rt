@@ -4,8 +4,9 @@ ghost use Rattle.kfs_c.specs.Told.{act_fault_told, act_told, done_told, header_t
 
 use crate::fault_codes::{
     LEASE_BACKWARDS, LEASE_BAD_PATH, LEASE_HELD, LEASE_NO_SEARCH, LEASE_NO_SUCH_NAME,
-    LEASE_NONE_HELD, LEASE_NOT_DIRECTORY, LEASE_PAST, LEASE_UNKNOWN_CLIENT, MOVE_NOT_FREE,
-    MOVE_NOT_MAPPED, MOVE_OUT_OF_RANGE, MOVE_OVERLAP, MOVE_TOO_MANY,
+    LEASE_NO_SUCH_NODE, LEASE_NONE_HELD, LEASE_NOT_ALLOWED, LEASE_NOT_DIRECTORY, LEASE_PAST,
+    LEASE_UNKNOWN_CLIENT, MOVE_NOT_FREE, MOVE_NOT_MAPPED, MOVE_OUT_OF_RANGE, MOVE_OVERLAP,
+    MOVE_TOO_MANY,
 };
 use crate::numbers::{ActNumbers, NodeNumbers};
 use crate::submission::{FaultNumbers, NO_FAULT, fault};
@@ -69,6 +70,8 @@ fn lease_fault_numbers(found: LeaseFault) -> FaultNumbers
         LeaseFault::LeaseHeld(client) => fault(LEASE_HELD, 0, 0, client),
         LeaseFault::NoLeaseHeld => fault(LEASE_NONE_HELD, 0, 0, 0),
         LeaseFault::Backwards => fault(LEASE_BACKWARDS, 0, 0, 0),
+        LeaseFault::NoSuchNode => fault(LEASE_NO_SUCH_NODE, 0, 0, 0),
+        LeaseFault::NotAllowed => fault(LEASE_NOT_ALLOWED, 0, 0, 0),
         LeaseFault::OutOfMemory => NO_FAULT,
     }
 }

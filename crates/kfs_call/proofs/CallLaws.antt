@@ -9,11 +9,11 @@ use Rattle.kfs_model.specs.Steps.{◌>>=◌}
 use Rattle.kfs_model.specs.Spelling.{IsBytes, byte, number16, number32, number64}
 use Rattle.kfs_model.proofs.Reading.{byte_read, number16_read, number32_read, bytes_read}
 use Rattle.kfs_model.proofs.Fields.{IsBytes-drop, some_from, some_if, some_is, Stands, IsField, both, byte_field, byte_is, number16_field, number32_field, number64_field, record_field}
-use Rattle.kfs_call.specs.Call.{Call, Submit, Lease, Drop, Tick, Migrate, lease_kind_bytes, long_bytes, IsLong, short_bytes, IsShort, move_bytes, IsMove, call_fields, IsCall}
+use Rattle.kfs_call.specs.Call.{Call, Submit, Lease, Drop, Tick, Migrate, LeaseAt, lease_kind_bytes, long_bytes, IsLong, short_bytes, IsShort, move_bytes, IsMove, call_fields, IsCall}
 use Rattle.kfs_call.specs.declared.codec.tag.Tag.{Tag}
 use Rattle.kfs_call.specs.declared.codec.tag.Tag.TheVariants as tags
 use Rattle.kfs_call.proofs.Layouts.{IsLayout, end_layout, step_layout, made_layout, rows_layout}
-use Rattle.kfs_call.specs.Readers.{end, tag_read, lease_kind_read, long_read, short_read, move_read, submit_read, lease_read, drop_read, tick_read, migrate_read, tail_read, call_read}
+use Rattle.kfs_call.specs.Readers.{end, tag_read, lease_kind_read, long_read, short_read, move_read, submit_read, lease_read, drop_read, tick_read, migrate_read, lease_at_read, tail_read, call_read}
 
 abbrev pub any_value : {V : Type 0} → V → Type 0
 any_value _ = Unit {0}
@@ -26,6 +26,7 @@ tag_bytes tags.Lease = byte 2
 tag_bytes tags.Drop = byte 3
 tag_bytes tags.Tick = byte 4
 tag_bytes tags.Migrate = byte 5
+tag_bytes tags.LeaseAt = byte 6
 
 abbrev done : {V : Type 0} → V → Option V
 done x = Some x
@@ -33,7 +34,7 @@ done x = Some x
 tag_takes : (bytes : List ℕ) (x : Tag × List ℕ) → IsBytes bytes → tag_read bytes ≡ Some x → Stands any_value tag_bytes bytes x.0 x.1
 unfolding tag_read
 tag_takes bytes x fits e =
-    let a = some_from (byte_read bytes) (λ b. cond (eqb b.0 1) (Some (tags.Submit, b.1)) (cond (eqb b.0 2) (Some (tags.Lease, b.1)) (cond (eqb b.0 3) (Some (tags.Drop, b.1)) (cond (eqb b.0 4) (Some (tags.Tick, b.1)) (cond (eqb b.0 5) (Some (tags.Migrate, b.1)) None))))) x e in
+    let a = some_from (byte_read bytes) (λ b. cond (eqb b.0 1) (Some (tags.Submit, b.1)) (cond (eqb b.0 2) (Some (tags.Lease, b.1)) (cond (eqb b.0 3) (Some (tags.Drop, b.1)) (cond (eqb b.0 4) (Some (tags.Tick, b.1)) (cond (eqb b.0 5) (Some (tags.Migrate, b.1)) (cond (eqb b.0 6) (Some (tags.LeaseAt, b.1)) None)))))) x e in
     let m = byte_field.takes bytes a.0 fits a.1 in
     let stands : (t : Tag) → a.0.0 ∷ a.0.1 ≡ tag_bytes t ++ a.0.1 → done (t, a.0.1) ≡ Some x → Stands any_value tag_bytes bytes x.0 x.1 =
     λ t front is. subst (λ (y : Tag × List ℕ). Stands any_value tag_bytes bytes y.0 y.1) (some_is (t, a.0.1) x is) (record { parts = m.parts ∙ front; fits = tt; rest_bytes = m.rest_bytes }) in
@@ -45,9 +46,12 @@ tag_takes bytes x fits e =
           | inl p ↦ stands tags.Drop (ap (λ (b : ℕ). b ∷ a.0.1) p.0) p.1
           | inr q ↦ elim (byte_is a.0.0 4 (Some (tags.Tick, a.0.1)) _ x q.1) [
             | inl p ↦ stands tags.Tick (ap (λ (b : ℕ). b ∷ a.0.1) p.0) p.1
-            | inr q ↦ elim (byte_is a.0.0 5 (Some (tags.Migrate, a.0.1)) None x q.1) [
+            | inr q ↦ elim (byte_is a.0.0 5 (Some (tags.Migrate, a.0.1)) _ x q.1) [
               | inl p ↦ stands tags.Migrate (ap (λ (b : ℕ). b ∷ a.0.1) p.0) p.1
-              | inr q ↦ let never : None ≡ done x = q.1 in absurd cc
+              | inr q ↦ elim (byte_is a.0.0 6 (Some (tags.LeaseAt, a.0.1)) None x q.1) [
+                | inl p ↦ stands tags.LeaseAt (ap (λ (b : ℕ). b ∷ a.0.1) p.0) p.1
+                | inr q ↦ let never : None ≡ done x = q.1 in absurd cc
+              ]
             ]
           ]
         ]
@@ -61,6 +65,7 @@ tag_again tags.Lease rest fits = refl
 tag_again tags.Drop rest fits = refl
 tag_again tags.Tick rest fits = refl
 tag_again tags.Migrate rest fits = refl
+tag_again tags.LeaseAt rest fits = refl
 
 tag_field : IsField any_value tag_bytes tag_read
 tag_field = record { takes = tag_takes; again = tag_again }
@@ -162,6 +167,7 @@ tag_of (Lease client kind end path) = tags.Lease
 tag_of (Drop client number) = tags.Drop
 tag_of (Tick moment) = tags.Tick
 tag_of (Migrate moves) = tags.Migrate
+tag_of (LeaseAt client kind end number) = tags.LeaseAt
 
 -- the fields behind the tag
 abbrev pub tail_fields : Call → List (List ℕ)
@@ -170,6 +176,7 @@ tail_fields (Lease client kind end path) = number32 client ∷ lease_kind_bytes 
 tail_fields (Drop client number) = number32 client ∷ number32 number ∷ []
 tail_fields (Tick moment) = number64 moment ∷ []
 tail_fields (Migrate moves) = number16 (length moves) ∷ map move_bytes moves
+tail_fields (LeaseAt client kind end number) = number32 client ∷ lease_kind_bytes kind ∷ number64 end ∷ number32 number ∷ []
 
 abbrev pub IsTagged : Tag → Call → Type 0
 IsTagged tag call = IsCall call × (tag_of call ≡ tag)
@@ -201,6 +208,7 @@ submit_layout =
     back (Drop client number) is = let no : tags.Drop ≡ tags.Submit = is.1 in absurd cc
     back (Tick moment) is = let no : tags.Tick ≡ tags.Submit = is.1 in absurd cc
     back (Migrate moves) is = let no : tags.Migrate ≡ tags.Submit = is.1 in absurd cc
+    back (LeaseAt client kind end number) is = let no : tags.LeaseAt ≡ tags.Submit = is.1 in absurd cc
 
 lease_layout : IsLayout (IsTagged tags.Lease) tail_fields 1 lease_read
 lease_layout =
@@ -215,6 +223,7 @@ lease_layout =
     back (Drop client number) is = let no : tags.Drop ≡ tags.Lease = is.1 in absurd cc
     back (Tick moment) is = let no : tags.Tick ≡ tags.Lease = is.1 in absurd cc
     back (Migrate moves) is = let no : tags.Migrate ≡ tags.Lease = is.1 in absurd cc
+    back (LeaseAt client kind end number) is = let no : tags.LeaseAt ≡ tags.Lease = is.1 in absurd cc
 
 drop_layout : IsLayout (IsTagged tags.Drop) tail_fields 1 drop_read
 drop_layout =
@@ -228,6 +237,7 @@ drop_layout =
     back (Drop client number) is = ((client, (number, tt)), (is.0.0, (is.0.1, tt)), refl)
     back (Tick moment) is = let no : tags.Tick ≡ tags.Drop = is.1 in absurd cc
     back (Migrate moves) is = let no : tags.Migrate ≡ tags.Drop = is.1 in absurd cc
+    back (LeaseAt client kind end number) is = let no : tags.LeaseAt ≡ tags.Drop = is.1 in absurd cc
 
 tick_layout : IsLayout (IsTagged tags.Tick) tail_fields 1 tick_read
 tick_layout =
@@ -240,6 +250,7 @@ tick_layout =
     back (Drop client number) is = let no : tags.Drop ≡ tags.Tick = is.1 in absurd cc
     back (Tick moment) is = ((moment, tt), (is.0, tt), refl)
     back (Migrate moves) is = let no : tags.Migrate ≡ tags.Tick = is.1 in absurd cc
+    back (LeaseAt client kind end number) is = let no : tags.LeaseAt ≡ tags.Tick = is.1 in absurd cc
 
 migrate_layout : IsLayout (IsTagged tags.Migrate) tail_fields 1 migrate_read
 migrate_layout =
@@ -253,6 +264,22 @@ migrate_layout =
     back (Drop client number) is = let no : tags.Drop ≡ tags.Migrate = is.1 in absurd cc
     back (Tick moment) is = let no : tags.Tick ≡ tags.Migrate = is.1 in absurd cc
     back (Migrate moves) is = ((length moves, moves), (is.0.0, (refl, is.0.1)), refl)
+    back (LeaseAt client kind end number) is = let no : tags.LeaseAt ≡ tags.Migrate = is.1 in absurd cc
+
+lease_at_layout : IsLayout (IsTagged tags.LeaseAt) tail_fields 1 lease_at_read
+lease_at_layout =
+    made_layout _ _ 1 _
+    (step_layout _ _ _ _ _ _ 1 number32_field 0 zero32 (λ _ _. step_layout _ _ _ _ _ _ 2 kind_field ReadLease tt
+    (λ _ _. step_layout _ _ _ _ _ _ 3 number64_field 0 zero64 (λ _ _. step_layout _ _ _ _ _ _ 4 number32_field 0 zero32 (λ _ _. end_layout 5)))))
+    (λ v. LeaseAt v.0 v.1.0 v.1.1.0 v.1.1.1.0) (IsTagged tags.LeaseAt) tail_fields back (λ v f. ((f.0, f.1.1.0, f.1.1.1.0), refl)) (λ v f. refl)
+  where
+    back : (w : Call) → IsTagged tags.LeaseAt w → (v : ℕ × (LeaseKind × (ℕ × (ℕ × Unit {0})))) × ((v.0 < 2 ^ 32) × (Unit {0} × ((v.1.1.0 < 2 ^ 64) × ((v.1.1.1.0 < 2 ^ 32) × Unit {0})))) × (LeaseAt v.0 v.1.0 v.1.1.0 v.1.1.1.0 ≡ w)
+    back (Submit client log plan) is = let no : tags.Submit ≡ tags.LeaseAt = is.1 in absurd cc
+    back (Lease client kind end path) is = let no : tags.Lease ≡ tags.LeaseAt = is.1 in absurd cc
+    back (Drop client number) is = let no : tags.Drop ≡ tags.LeaseAt = is.1 in absurd cc
+    back (Tick moment) is = let no : tags.Tick ≡ tags.LeaseAt = is.1 in absurd cc
+    back (Migrate moves) is = let no : tags.Migrate ≡ tags.LeaseAt = is.1 in absurd cc
+    back (LeaseAt client kind end number) is = ((client, (kind, (end, (number, tt)))), (is.0.0, (tt, (is.0.1, (is.0.2, tt)))), refl)
 
 tail_layout : (tag : Tag) → any_value tag → IsLayout (IsTagged tag) tail_fields 1 (tail_read tag)
 tail_layout tags.Submit _ = submit_layout
@@ -260,6 +287,7 @@ tail_layout tags.Lease _ = lease_layout
 tail_layout tags.Drop _ = drop_layout
 tail_layout tags.Tick _ = tick_layout
 tail_layout tags.Migrate _ = migrate_layout
+tail_layout tags.LeaseAt _ = lease_at_layout
 
 -- all fields of a call: those behind its tag, and the tag
 fields_are : (call : Call) → call_fields call ≡ tag_bytes (tag_of call) ∷ tail_fields call
@@ -268,6 +296,7 @@ fields_are (Lease client kind end path) = refl
 fields_are (Drop client number) = refl
 fields_are (Tick moment) = refl
 fields_are (Migrate moves) = refl
+fields_are (LeaseAt client kind end number) = refl
 
 pub call_layout : IsLayout IsCall call_fields 0 call_read
 unfolding call_read

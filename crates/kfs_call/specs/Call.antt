@@ -13,6 +13,7 @@ pub data Call : Type 0 where
   Drop : (client number : ℕ) → Call
   Tick : (moment : ℕ) → Call
   Migrate : (moves : List Move) → Call
+  LeaseAt : (client : ℕ) (kind : LeaseKind) (end number : ℕ) → Call
 
 -- ---- fields
 
@@ -52,6 +53,7 @@ call_fields (Lease client kind end path) = byte 2 ∷ number32 client ∷ lease_
 call_fields (Drop client number) = byte 3 ∷ number32 client ∷ number32 number ∷ []
 call_fields (Tick moment) = byte 4 ∷ number64 moment ∷ []
 call_fields (Migrate moves) = byte 5 ∷ number16 (length moves) ∷ map move_bytes moves
+call_fields (LeaseAt client kind end number) = byte 6 ∷ number32 client ∷ lease_kind_bytes kind ∷ number64 end ∷ number32 number ∷ []
 
 -- the call has an encoding: its numbers and counts fit their widths
 abbrev pub IsCall : Call → Type 0
@@ -60,6 +62,7 @@ IsCall (Lease client kind end path) = (client < 2 ^ 32) × (end < 2 ^ 64) × IsS
 IsCall (Drop client number) = (client < 2 ^ 32) × (number < 2 ^ 32)
 IsCall (Tick moment) = moment < 2 ^ 64
 IsCall (Migrate moves) = (length moves < 2 ^ 16) × AllByRecursion IsMove moves
+IsCall (LeaseAt client kind end number) = (client < 2 ^ 32) × (end < 2 ^ 64) × (number < 2 ^ 32)
 
 -- the encoding of a call
 abbrev pub call_bytes : Call → List ℕ

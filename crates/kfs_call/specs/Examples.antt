@@ -2,7 +2,7 @@
 use Rattle.std.specs.Prelude.{ℕ, false, List, [], ◌∷◌}
 use Rattle.kfs_model.specs.Access.{Client}
 use Rattle.kfs_model.specs.Lease.{WriteLease}
-use Rattle.kfs_call.specs.Call.{Call, Lease, Submit, Migrate}
+use Rattle.kfs_call.specs.Call.{Call, Lease, LeaseAt, Submit, Migrate}
 use Rattle.kfs_call.specs.AnswerRow.{AnswerRow, Leased, No}
 use Rattle.kfs_call.specs.StateRows.{StateRows, LeaseRow}
 
@@ -26,6 +26,13 @@ migrate_call = Migrate (record { number = 5; block = 1; target = record { tier =
 
 abbrev pub migrate_call_bytes : List ℕ
 migrate_call_bytes = 5 ∷ 0 ∷ 1 ∷ 0 ∷ 0 ∷ 0 ∷ 5 ∷ 0 ∷ 0 ∷ 0 ∷ 1 ∷ 2 ∷ 0 ∷ 0 ∷ 1 ∷ 2 ∷ []
+
+-- client 7 asks for a write lease on node 258 up to moment 100, without a path
+abbrev pub lease_at_call : Call
+lease_at_call = LeaseAt 7 WriteLease 100 258
+
+abbrev pub lease_at_call_bytes : List ℕ
+lease_at_call_bytes = 6 ∷ 0 ∷ 0 ∷ 0 ∷ 7 ∷ 1 ∷ 0 ∷ 0 ∷ 0 ∷ 0 ∷ 0 ∷ 0 ∷ 0 ∷ 100 ∷ 0 ∷ 0 ∷ 1 ∷ 2 ∷ []
 
 -- row 0: a lease on node 1
 abbrev pub leased_answer : AnswerRow

@@ -4,7 +4,7 @@ use Rattle.kfs_model.specs.Lease.{LeaseKind, ReadLease, WriteLease}
 use Rattle.kfs_model.specs.Migration.{Move}
 use Rattle.kfs_model.specs.Steps.{◌>>=◌}
 use Rattle.kfs_model.proofs.Reading.{◌&◌, made, byte_read, number16_read, number32_read, number64_read, bytes_read}
-use Rattle.kfs_call.specs.Call.{Call, Submit, Lease, Drop, Tick, Migrate}
+use Rattle.kfs_call.specs.Call.{Call, Submit, Lease, Drop, Tick, Migrate, LeaseAt}
 use Rattle.kfs_call.specs.declared.codec.tag.Tag.{Tag}
 use Rattle.kfs_call.specs.declared.codec.tag.Tag.TheVariants as tags
 
@@ -42,6 +42,7 @@ tag_read bytes = byte_read bytes >>= λ b.
     else if b.0 == 3 then Some (tags.Drop, b.1)
     else if b.0 == 4 then Some (tags.Tick, b.1)
     else if b.0 == 5 then Some (tags.Migrate, b.1)
+    else if b.0 == 6 then Some (tags.LeaseAt, b.1)
     else None
 
 unfoldable pub lease_kind_read : List ℕ → Option (LeaseKind × List ℕ)
@@ -75,12 +76,17 @@ tick_read bytes = made_of (λ v. Tick v.0) (step 1 number64_read (λ _. end) byt
 abbrev pub migrate_read : List ℕ → Result (Call × List ℕ) ℕ
 migrate_read bytes = made_of (λ v. Migrate v.1) (step 1 number16_read (rows_at move_read 2) bytes)
 
+abbrev pub lease_at_read : List ℕ → Result (Call × List ℕ) ℕ
+lease_at_read bytes =
+    made_of (λ v. LeaseAt v.0 v.1.0 v.1.1.0 v.1.1.1.0) (step 1 number32_read (λ _. step 2 lease_kind_read (λ _. step 3 number64_read (λ _. step 4 number32_read (λ _. end)))) bytes)
+
 abbrev pub tail_read : Tag → List ℕ → Result (Call × List ℕ) ℕ
 tail_read tags.Submit = submit_read
 tail_read tags.Lease = lease_read
 tail_read tags.Drop = drop_read
 tail_read tags.Tick = tick_read
 tail_read tags.Migrate = migrate_read
+tail_read tags.LeaseAt = lease_at_read
 
 unfoldable pub call_read : List ℕ → Result (Call × List ℕ) ℕ
 call_read bytes = made_of (λ v. v.1) (step 0 tag_read tail_read bytes)

@@ -10,3 +10,4 @@ call_shown (calls.Lease client kind end path) = spelled.Lease client (kind_of ki
 call_shown (calls.Drop client number) = spelled.Drop client number
 call_shown (calls.Tick moment) = spelled.Tick moment
 call_shown (calls.Migrate moves) = spelled.Migrate moves
+call_shown (calls.LeaseAt client kind end number) = spelled.LeaseAt client (kind_of kind) end number

@@ -33,4 +33,12 @@ pub enum Call<'a, A: Allocator> {
     Migrate {
         moves: RowList<Move, A>,
     },
+    /// A client asks for a lease on the node with this number, up to the moment `end`:
+    /// `Desk::lease_at`.
+    LeaseAt {
+        client: u32,
+        kind: LeaseKind,
+        end: u64,
+        number: u32,
+    },
 }

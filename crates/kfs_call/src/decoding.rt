@@ -4,7 +4,7 @@ ghost use Rattle.kfs_call.specs.Call as spelled;
 ghost use Rattle.kfs_call.specs.Call.{CallAnswer, IsCall, call_bytes};
 ghost use Rattle.kfs_call.specs.Reading.{IsSeen, OnAnswer};
 ghost use Rattle.kfs_call.specs.Views.{call_shown};
-ghost use Rattle.kfs_call.specs.Readers.{submit_read, lease_read, drop_read, tick_read, migrate_read, call_read};
+ghost use Rattle.kfs_call.specs.Readers.{submit_read, lease_read, drop_read, tick_read, migrate_read, lease_at_read, call_read};
 
 use crate::call::Call;
 use crate::codec::tag::Tag;
@@ -99,6 +99,32 @@ fn read_migrate<A: Allocator>(
     Ok((Call::Migrate { moves }, at))
 }
 
+fn read_lease_at<A: Allocator>(source: &[u8], at: usize) -> Result<(Call<'_, A>, usize), FieldFault>
+    requires { at ≤ length source.now }
+    ensures value { IsSeen call_shown source.now result (lease_at_read (drop at source.now)) }
+    ensures within { IfOk result (λ x. x.1 ≤ length source.now) }
+{
+    let Some((client, at)) = number32::read(source, at) else {
+        return Err(FieldFault::BadField(1));
+    };
+    let Some((kind, at)) = lease_kind::read(source, at) else {
+        return Err(FieldFault::BadField(2));
+    };
+    let Some((end, at)) = number64::read(source, at) else {
+        return Err(FieldFault::BadField(3));
+    };
+    let Some((number, at)) = number32::read(source, at) else {
+        return Err(FieldFault::BadField(4));
+    };
+    let call = Call::LeaseAt {
+        client,
+        kind,
+        end,
+        number,
+    };
+    Ok((call, at))
+}
+
 /// A call at the front, and the position after it.
 #[tactic(auto, unfolding(crate::specs::Readers::call_read))]
 fn read_call<A: Allocator>(alloc: A, source: &[u8]) -> Result<(Call<'_, A>, usize), FieldFault>
@@ -114,6 +140,7 @@ fn read_call<A: Allocator>(alloc: A, source: &[u8]) -> Result<(Call<'_, A>, usiz
         Tag::Drop => read_drop(source, at),
         Tag::Tick => read_tick(source, at),
         Tag::Migrate => read_migrate(alloc, source, at),
+        Tag::LeaseAt => read_lease_at(source, at),
     }
 }
 

@@ -15,6 +15,7 @@ fn call_len<B: Allocator>(call: &Call<'_, B>) -> usize {
         Call::Lease { path, .. } => path.len().saturating_add(16),
         Call::Drop { .. } | Call::Tick { .. } => 9,
         Call::Migrate { moves } => moves.as_slice().len().saturating_mul(13).saturating_add(3),
+        Call::LeaseAt { .. } => 18,
     }
 }
 
@@ -59,6 +60,18 @@ fn write_call<A: Allocator, B: Allocator>(
             out.push(5)?;
             number16::write(out, &[], &(moves.len() as u16))?;
             moved::write(out, moves)
+        }
+        Call::LeaseAt {
+            client,
+            kind,
+            end,
+            number,
+        } => {
+            out.push(6)?;
+            number32::write(out, &[], client)?;
+            lease_kind::write(out, *kind)?;
+            number64::write(out, &[], end)?;
+            number32::write(out, &[], number)
         }
     }
 }

@@ -14,7 +14,7 @@ use Rattle.kfs_desk.specs.declared.history.answers.ActReply.{ActReply}
 use Rattle.kfs_desk.specs.declared.history.answers.Unanswered.{Unanswered}
 use Rattle.kfs_desk.specs.declared.history.answers.Unanswered.TheVariants as unanswered
 use Rattle.kfs_call.specs.Layout.{BadField, Trailing}
-use Rattle.kfs_call.specs.Call.{Call, Submit, Lease, Drop, Tick, Migrate, IsCall, call_bytes, CallAnswer}
+use Rattle.kfs_call.specs.Call.{Call, Submit, Lease, Drop, Tick, Migrate, LeaseAt, IsCall, call_bytes, CallAnswer}
 use Rattle.kfs_call.specs.declared.fault.FieldFault.TheVariants as fields
 use Rattle.kfs_call_desk.specs.declared.made.Called.{Called}
 use Rattle.kfs_call_desk.specs.declared.made.Called.TheVariants.{Submitted, Acted}
@@ -37,6 +37,7 @@ IsMade (Lease client kind end path) old called new = IsActing old (machine.Lease
 IsMade (Drop client number) old called new = IsActing old (machine.Drop client number) dones.Dropped called new
 IsMade (Tick moment) old called new = IsActing old (machine.Tick moment) dones.Ticked called new
 IsMade (Migrate moves) old called new = IsActing old (machine.Migrate moves) dones.Moved called new
+IsMade (LeaseAt client kind end number) old called new = IsActing old (machine.LeaseAt client number kind end) dones.Leased called new
 
 -- the bytes are a call, and it is answered so
 pub record IsCalled (bytes : List ℕ) (old : Desk) (called : Called) (new : Desk) : Type 0 where

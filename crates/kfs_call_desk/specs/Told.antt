@@ -82,6 +82,8 @@ lease_row leases.Past = numbers 6 0 0 0
 lease_row (leases.LeaseHeld client) = numbers 7 0 0 client
 lease_row leases.NoLeaseHeld = numbers 8 0 0 0
 lease_row leases.Backwards = numbers 9 0 0 0
+lease_row leases.NoSuchNode = numbers 10 0 0 0
+lease_row leases.NotAllowed = numbers 11 0 0 0
 
 abbrev pub move_row : moves.MoveFault → FaultRow
 move_row (moves.NotMapped index) = numbers 1 0 index 0
@@ -101,6 +103,7 @@ done_told (machine.Lease client path kind end) = Leased
 done_told (machine.Drop client number) = Dropped
 done_told (machine.Tick moment) = Ticked
 done_told (machine.Migrate moves) = Moved
+done_told (machine.LeaseAt client number kind end) = Leased
 
 -- ---- what the call was answered
 

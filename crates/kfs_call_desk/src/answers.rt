@@ -199,6 +199,8 @@ fn lease_numbers(found: LeaseFault) -> FaultRow
         LeaseFault::LeaseHeld(client) => numbers(7, 0, 0, client),
         LeaseFault::NoLeaseHeld => numbers(8, 0, 0, 0),
         LeaseFault::Backwards => numbers(9, 0, 0, 0),
+        LeaseFault::NoSuchNode => numbers(10, 0, 0, 0),
+        LeaseFault::NotAllowed => numbers(11, 0, 0, 0),
         LeaseFault::OutOfMemory => numbers(0, 0, 0, 0),
     }
 }

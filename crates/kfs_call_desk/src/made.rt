@@ -36,7 +36,7 @@ pub enum CallFault {
 }
 
 /// Reads a call from bytes and makes it, with the desk's own call for it: `submit_bytes`, `lease`,
-/// `drop_lease`, `tick` or `migrate`. Log, plan and path are read where they lie.
+/// `lease_at`, `drop_lease`, `tick` or `migrate`. Log, plan and path are read where they lie.
 ///
 /// `alloc` serves the list of moves alone. `Err` where the bytes are no call, where the docket is full, or
 /// where memory runs out. Nothing has changed then, and the docket has no row more.
@@ -80,6 +80,12 @@ fn make<A: Allocator + Copy, B: Allocator>(
         Call::Drop { client, number } => drop_lease(desk, client, number),
         Call::Tick { moment } => tick(desk, moment),
         Call::Migrate { moves } => migrate(desk, moves.as_slice()),
+        Call::LeaseAt {
+            client,
+            kind,
+            end,
+            number,
+        } => lease_at(desk, client, kind, end, number),
     }
 }
 
@@ -105,6 +111,19 @@ fn lease<A: Allocator + Copy>(
     ensures { IsOutcome (λ called. IsActing desk.old (machine.Lease client path.now (kind_of kind) end) Done.Leased called desk.new) desk.old result desk.new }
 {
     let answer = desk.lease(client, path, kind, end);
+    acted(answer)
+}
+
+fn lease_at<A: Allocator + Copy>(
+    desk: &mut Desk<A>,
+    client: u32,
+    kind: LeaseKind,
+    end: u64,
+    number: u32,
+) -> Result<Called, CallFault>
+    ensures { IsOutcome (λ called. IsActing desk.old (machine.LeaseAt client number (kind_of kind) end) Done.Leased called desk.new) desk.old result desk.new }
+{
+    let answer = desk.lease_at(client, number, kind, end);
     acted(answer)
 }
 

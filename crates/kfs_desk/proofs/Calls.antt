@@ -53,11 +53,13 @@ module _ (act : Act) (answer : Result Done ActFault) (new : Leases) where
       read : (a : Act) → IsRead (record row { call = call_of a })
       read (acts.Lease client path kind end) = tt
       read (acts.Drop client number) = tt
+      read (acts.LeaseAt client number kind end) = tt
       read (acts.Tick moment) = tt
 
       by : (a : Act) → outcome_at s.leases (sight s.tree) s.clients a ≡ (is.told, new) → outcome_of s (call_of a) [] ≡ Some (row_answer (told_by_leases is.told), with_leases s new)
       by (acts.Lease client path kind end) same = ap (leased s []) same ∙ leased_is s is.told new
       by (acts.Drop client number) same = ap (leased s []) same ∙ leased_is s is.told new
+      by (acts.LeaseAt client number kind end) same = ap (leased s []) same ∙ leased_is s is.told new
       by (acts.Tick moment) same = ap (leased s []) same ∙ leased_is s is.told new
 
   -- a change that looks at the desk's contents and clients

@@ -6,7 +6,7 @@ use Rattle.kfs_model.specs.Lease as leases
 use Rattle.kfs_model.specs.Sight.{Sight, sight}
 use Rattle.kfs_model.specs.Soundness.{IsSound}
 use Rattle.kfs_model.specs.Judgement.{State, Submission, Reading, IsReadAs, Reply, Accepted, NoRoom, Refused, client_sight_of}
-use Rattle.kfs_model.specs.Machine.{Call, Submit, Lease, Drop, Tick, CallAnswer, CallFault, IsRead, Replied, Row, after, next}
+use Rattle.kfs_model.specs.Machine.{Call, Submit, Lease, Drop, Tick, LeaseAt, CallAnswer, CallFault, IsRead, Replied, Row, after, next}
 use Rattle.kfs_model.specs.Machine as machine
 use Rattle.kfs_model.specs.Means.{HasEntriesDone}
 use Rattle.kfs_model.specs.Migration.{Move, MoveFault, fault_of_moves}
@@ -177,12 +177,14 @@ RunsThrough desk (submission ∷ submissions) (Err back ∷ answers) last = (bac
 abbrev pub call_of : Act → Call
 call_of (acts.Lease client path kind end) = Lease client path.now (kind_of kind) end
 call_of (acts.Drop client number) = Drop client number
+call_of (acts.LeaseAt client number kind end) = LeaseAt client number (kind_of kind) end
 call_of (acts.Tick moment) = Tick moment
 
 -- what the call for leases has done, given the node's number or the moment
 abbrev pub done_by : Act → ℕ → Done
 done_by (acts.Lease client path kind end) = dones.Leased
 done_by (acts.Drop client number) = dones.Dropped
+done_by (acts.LeaseAt client number kind end) = dones.Leased
 done_by (acts.Tick moment) = dones.Ticked
 
 -- the node's number, the moment, or how many blocks moved
@@ -196,6 +198,7 @@ number_of (dones.Moved count) = count
 abbrev pub outcome_at : Leases → Sight → List Client → Act → leases.LeaseOutcome
 outcome_at table sight clients (acts.Lease client path kind end) = leases.granted table sight clients client path.now (kind_of kind) end
 outcome_at table sight clients (acts.Drop client number) = leases.dropped table clients client number
+outcome_at table sight clients (acts.LeaseAt client number kind end) = leases.granted_by_number table sight clients client number (kind_of kind) end
 outcome_at table sight clients (acts.Tick moment) = leases.ticked table moment
 
 -- the machine's refusal; none where memory ran out

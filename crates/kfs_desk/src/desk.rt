@@ -226,6 +226,26 @@ impl<A: Allocator + Copy> Desk<A> {
         })
     }
 
+    /// Gives the client a lease on the node with this number, up to the moment `end`. No path is walked,
+    /// so no search is asked; in place of it the client must have permission on the node itself
+    /// (`Leases::grant_at`). Row and `Err` as for `lease`.
+    pub fn lease_at(
+        &mut self,
+        client: u32,
+        number: u32,
+        kind: LeaseKind,
+        end: u64,
+    ) -> Result<ActReply, Unanswered>
+        ensures { IsCallOf self.old (machine.LeaseAt client number (kind_of kind) end) Done.Leased result self.new }
+    {
+        self.act(Act::LeaseAt {
+            client,
+            number,
+            kind,
+            end,
+        })
+    }
+
     /// Ends the client's lease on the node with this number. Row and `Err` as for `lease`.
     pub fn drop_lease(&mut self, client: u32, number: u32) -> Result<ActReply, Unanswered>
         ensures { IsCallOf self.old (machine.Drop client number) Done.Dropped result self.new }
@@ -241,7 +261,7 @@ impl<A: Allocator + Copy> Desk<A> {
         self.act(Act::Tick { moment })
     }
 
-    /// Makes a call for leases: `lease`, `drop_lease` or `tick`, given as a value.
+    /// Makes a call for leases: `lease`, `lease_at`, `drop_lease` or `tick`, given as a value.
     pub fn act(&mut self, act: Act<'_>) -> Result<ActReply, Unanswered>
         ensures { IsCallOf self.old (call_of act.entry) (done_by act.entry) result self.new }
     {
@@ -585,6 +605,15 @@ fn made<A: Allocator + Copy>(
         } => {
             let number = leases.grant(shape, clients, client, path, kind, end)?;
             Ok(Done::Leased(number))
+        }
+        Act::LeaseAt {
+            client,
+            number,
+            kind,
+            end,
+        } => {
+            let leased = leases.grant_at(shape, clients, client, number, kind, end)?;
+            Ok(Done::Leased(leased))
         }
         Act::Drop { client, number } => {
             leases.drop_lease(clients, client, number)?;

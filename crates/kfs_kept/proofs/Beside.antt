@@ -1,7 +1,7 @@
 -- The clients of a state that files stand for can be beside each other.
 use Rattle.std.proofs.Common.{◌≡◌, ℕ, List, [], ◌∷◌, Option, Some, None, option_map, Result, Ok, Err, refl, sym, ap, ◌∙◌}
 use Rattle.kfs_model.specs.Judgement.{State, Verdict, Yes, No, Reply, Accepted, NoRoom, Refused as RefusedReply, reply_to, verdict_on}
-use Rattle.kfs_model.specs.Lease.{LeaseFault, Leases, dropped, granted, ticked}
+use Rattle.kfs_model.specs.Lease.{LeaseFault, Leases, dropped, granted, granted_by_number, ticked}
 use Rattle.kfs_model.specs.Machine as machine
 use Rattle.kfs_model.specs.Migration.{Move, MoveFault, fault_of_moves}
 use Rattle.kfs_model.specs.Sight.{sight}
@@ -43,6 +43,7 @@ module _ (s : State) where
   made_clients (machine.Lease client path kind end) = leased_clients (granted s.leases (sight s.tree) s.clients client path kind end)
   made_clients (machine.Drop client number) = leased_clients (dropped s.leases s.clients client number)
   made_clients (machine.Tick moment) = leased_clients (ticked s.leases moment)
+  made_clients (machine.LeaseAt client number kind end) = leased_clients (granted_by_number s.leases (sight s.tree) s.clients client number kind end)
   made_clients (machine.Migrate moves) = migrated_clients moves (fault_of_moves s.sizes s.placement moves)
 
 leads_clients : (s t : State) (kept : CallAndAnswer) → Leads s kept t → t.clients ≡ s.clients

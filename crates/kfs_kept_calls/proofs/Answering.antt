@@ -15,7 +15,7 @@ use Rattle.kfs_desk.specs.declared.history.answers.Done.{Done}
 use Rattle.kfs_desk.specs.declared.history.answers.Done.TheVariants as dones
 use Rattle.kfs_desk.proofs.HistoryLemmas.Runs.{row_made}
 use Rattle.kfs_call.specs.AnswerRow.{FaultRow, Told, Yes, No, NoRoom, Leased, Dropped, Moved, Ticked, LeaseRefused, MovesRefused, fault_bytes, flag_bytes, told_fields}
-use Rattle.kfs_call.specs.Call.{Call, Submit, Lease, Drop, Tick, Migrate, IsCall, IsLong, call_bytes}
+use Rattle.kfs_call.specs.Call.{Call, Submit, Lease, Drop, Tick, Migrate, LeaseAt, IsCall, IsLong, call_bytes}
 use Rattle.kfs_call.specs.Layout.{joined}
 use Rattle.kfs_call_desk.specs.Calls.{IsActing, IsCalled, IsMade, IsSubmitting}
 use Rattle.kfs_call_desk.specs.declared.made.Called.{Called}
@@ -97,6 +97,9 @@ answer_leads old new bytes answer called is (told, says, spelled) = by is.call i
     by (Lease client kind end path) fits are made_so =
         let call = machine.Lease client path kind end in
         made_leads old.state new.state bytes answer (Lease client kind end path) call told fits are refl spelled (acted old new call dones.Leased (λ n. refl) called told made_so says)
+    by (LeaseAt client kind end number) fits are made_so =
+        let call = machine.LeaseAt client number kind end in
+        made_leads old.state new.state bytes answer (LeaseAt client kind end number) call told fits are refl spelled (acted old new call dones.Leased (λ n. refl) called told made_so says)
     by (Drop client number) fits are made_so =
         let call = machine.Drop client number in
         made_leads old.state new.state bytes answer (Drop client number) call told fits are refl spelled (acted old new call dones.Dropped (λ n. refl) called told made_so says)

@@ -6,7 +6,7 @@ use Rattle.kfs_model.specs.Migration.{Move}
 use Rattle.kfs_model.specs.Spelling.{number16}
 use Rattle.kfs_model.proofs.Fields.{number16_field}
 use Rattle.kfs_model.proofs.Reading.{number16_read}
-use Rattle.kfs_call.specs.Call.{Call, Submit, Lease, Drop, Tick, Migrate, IsCall, call_bytes, call_fields, move_bytes}
+use Rattle.kfs_call.specs.Call.{Call, Submit, Lease, Drop, Tick, Migrate, LeaseAt, IsCall, call_bytes, call_fields, move_bytes}
 use Rattle.kfs_call.specs.Layout.{joined, LacksField}
 use Rattle.kfs_call.specs.Readers.{call_read}
 use Rattle.kfs_call.proofs.CallLaws.{call_layout}
@@ -39,6 +39,7 @@ tag_of (Lease client kind end path) = 2
 tag_of (Drop client number) = 3
 tag_of (Tick moment) = 4
 tag_of (Migrate moves) = 5
+tag_of (LeaseAt client kind end number) = 6
 
 tag_first : (call : Call) (k : ℕ) (rest : List ℕ) → get_or (joined (take (suc k) (call_fields call)) ++ rest) 0 0 ≡ tag_of call
 tag_first (Submit client log plan) k rest = refl
@@ -46,6 +47,7 @@ tag_first (Lease client kind end path) k rest = refl
 tag_first (Drop client number) k rest = refl
 tag_first (Tick moment) k rest = refl
 tag_first (Migrate moves) k rest = refl
+tag_first (LeaseAt client kind end number) k rest = refl
 
 tag_whole : (call : Call) → get_or (call_bytes call) 0 0 ≡ tag_of call
 tag_whole (Submit client log plan) = refl
@@ -53,6 +55,7 @@ tag_whole (Lease client kind end path) = refl
 tag_whole (Drop client number) = refl
 tag_whole (Tick moment) = refl
 tag_whole (Migrate moves) = refl
+tag_whole (LeaseAt client kind end number) = refl
 
 -- the first fields and the others
 joined_parts : (n : ℕ) (fields : List (List ℕ)) → joined fields ≡ joined (take n fields) ++ joined (drop n fields)
@@ -70,26 +73,37 @@ so_many (Submit client log plan) (Lease c k e p) tags = absurd (omega (arith, ta
 so_many (Submit client log plan) (Drop c n) tags = absurd (omega (arith, tags))
 so_many (Submit client log plan) (Tick m) tags = absurd (omega (arith, tags))
 so_many (Submit client log plan) (Migrate m) tags = absurd (omega (arith, tags))
+so_many (Submit client log plan) (LeaseAt c k e n) tags = absurd (omega (arith, tags))
 so_many (Lease client kind end path) (Submit c l p) tags = absurd (omega (arith, tags))
 so_many (Lease client kind end path) (Lease c k e p) tags = inl refl
 so_many (Lease client kind end path) (Drop c n) tags = absurd (omega (arith, tags))
 so_many (Lease client kind end path) (Tick m) tags = absurd (omega (arith, tags))
 so_many (Lease client kind end path) (Migrate m) tags = absurd (omega (arith, tags))
+so_many (Lease client kind end path) (LeaseAt c k e n) tags = absurd (omega (arith, tags))
 so_many (Drop client number) (Submit c l p) tags = absurd (omega (arith, tags))
 so_many (Drop client number) (Lease c k e p) tags = absurd (omega (arith, tags))
 so_many (Drop client number) (Drop c n) tags = inl refl
 so_many (Drop client number) (Tick m) tags = absurd (omega (arith, tags))
 so_many (Drop client number) (Migrate m) tags = absurd (omega (arith, tags))
+so_many (Drop client number) (LeaseAt c k e n) tags = absurd (omega (arith, tags))
 so_many (Tick moment) (Submit c l p) tags = absurd (omega (arith, tags))
 so_many (Tick moment) (Lease c k e p) tags = absurd (omega (arith, tags))
 so_many (Tick moment) (Drop c n) tags = absurd (omega (arith, tags))
 so_many (Tick moment) (Tick m) tags = inl refl
 so_many (Tick moment) (Migrate m) tags = absurd (omega (arith, tags))
+so_many (Tick moment) (LeaseAt c k e n) tags = absurd (omega (arith, tags))
 so_many (Migrate moves) (Submit c l p) tags = absurd (omega (arith, tags))
 so_many (Migrate moves) (Lease c k e p) tags = absurd (omega (arith, tags))
 so_many (Migrate moves) (Drop c n) tags = absurd (omega (arith, tags))
 so_many (Migrate moves) (Tick m) tags = absurd (omega (arith, tags))
 so_many (Migrate moves) (Migrate m) tags = inr (moves, m, refl, refl)
+so_many (Migrate moves) (LeaseAt c k e n) tags = absurd (omega (arith, tags))
+so_many (LeaseAt client kind end number) (Submit c l p) tags = absurd (omega (arith, tags))
+so_many (LeaseAt client kind end number) (Lease c k e p) tags = absurd (omega (arith, tags))
+so_many (LeaseAt client kind end number) (Drop c n) tags = absurd (omega (arith, tags))
+so_many (LeaseAt client kind end number) (Tick m) tags = absurd (omega (arith, tags))
+so_many (LeaseAt client kind end number) (Migrate m) tags = absurd (omega (arith, tags))
+so_many (LeaseAt client kind end number) (LeaseAt c k e n) tags = inl refl
 
 abbrev counted : ℕ × List ℕ → Option (ℕ × List ℕ)
 counted x = Some x
@@ -114,6 +128,7 @@ two_fields (Lease client kind end path) = omega arith
 two_fields (Drop client number) = omega arith
 two_fields (Tick moment) = omega arith
 two_fields (Migrate moves) = omega arith
+two_fields (LeaseAt client kind end number) = omega arith
 
 -- the bytes of a call don't begin with as many fields of a call that has more
 not_more : (call other : Call) (k : ℕ) (rest : List ℕ) → IsCall call → IsCall other → length (call_fields call) ≤ k → k < length (call_fields other)

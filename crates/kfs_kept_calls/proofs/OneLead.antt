@@ -10,7 +10,7 @@ use Rattle.kfs_plan.specs.Judging.{submission_with}
 use Rattle.kfs_desk.specs.History.Runs.{made}
 use Rattle.kfs_desk.specs.Machine.{Desk}
 use Rattle.kfs_call.specs.AnswerRow.{told_fields}
-use Rattle.kfs_call.specs.Call.{Call, Submit, Lease, Drop, Tick, Migrate, IsCall, call_bytes, long_bytes}
+use Rattle.kfs_call.specs.Call.{Call, Submit, Lease, Drop, Tick, Migrate, LeaseAt, IsCall, call_bytes, long_bytes}
 use Rattle.kfs_call.specs.Layout.{joined}
 use Rattle.kfs_call.specs.declared.fault.FieldFault.{FieldFault}
 use Rattle.kfs_call.specs.declared.fault.FieldFault.TheVariants as fields
@@ -52,6 +52,7 @@ one_asked (Lease client kind end path) a b fits is this = is ∙ sym this
 one_asked (Drop client number) a b fits is this = is ∙ sym this
 one_asked (Tick moment) a b fits is this = is ∙ sym this
 one_asked (Migrate moves) a b fits is this = is ∙ sym this
+one_asked (LeaseAt client kind end number) a b fits is this = is ∙ sym this
 
 -- the bytes of a call have one answer, and lead to one state
 pub one_lead : (s t u : State) (bytes one other : List ℕ) → IsBytes bytes → Leads s (record { call = bytes; answer = one }) t → Leads s (record { call = bytes; answer = other }) u → (one ≡ other) × (t ≡ u)

@@ -5,7 +5,7 @@ use Rattle.kfs_model.specs.Machine as machine
 use Rattle.kfs_plan.specs.Judging.{submission_with}
 use Rattle.kfs_desk.specs.History.Runs.{made}
 use Rattle.kfs_call.specs.AnswerRow.{told_fields}
-use Rattle.kfs_call.specs.Call.{Call, Submit, Lease, Drop, Tick, Migrate, IsCall, call_bytes}
+use Rattle.kfs_call.specs.Call.{Call, Submit, Lease, Drop, Tick, Migrate, LeaseAt, IsCall, call_bytes}
 use Rattle.kfs_call.specs.Layout.{joined}
 use Rattle.kfs_kept_calls.specs.Group.{CallAndAnswer, IsGroup, group_bytes}
 use Rattle.kfs_call_desk.specs.Told.{told_of}
@@ -17,6 +17,7 @@ Asks (Lease client kind end path) asked = asked ≡ machine.Lease client path ki
 Asks (Drop client number) asked = asked ≡ machine.Drop client number
 Asks (Tick moment) asked = asked ≡ machine.Tick moment
 Asks (Migrate moves) asked = asked ≡ machine.Migrate moves
+Asks (LeaseAt client kind end number) asked = asked ≡ machine.LeaseAt client number kind end
 
 -- in state s these bytes are a call, it has this answer, and it leads to state t; a Yes takes the least free places
 pub record Leads (s : State) (kept : CallAndAnswer) (t : State) : Type 0 where

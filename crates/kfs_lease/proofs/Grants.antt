@@ -126,12 +126,12 @@ module _ (old : Leases) (sight : Sight) (clients : List Client) (number node : �
       to_header = to_client ∙ ap (λ head. granted_to_node old head client node kind end) (sym there)
 
       pub not_allowed : may_lease client kind h ≡ false → granted_by_number old sight clients number node kind end ≡ refused NotAllowed old
-      not_allowed no = to_header ∙ ap if_allowed no
+      not_allowed isnt = to_header ∙ ap if_allowed isnt
 
-      module _ (yes : may_lease client kind h ≡ true) where
+      module _ (allows : may_lease client kind h ≡ true) where
         -- what is left is as where a path has led to the node
         at_this_node : granted_by_number old sight clients number node kind end ≡ granted_at old client node kind end
-        at_this_node = to_header ∙ ap if_allowed yes
+        at_this_node = to_header ∙ ap if_allowed allows
 
         pub in_the_past_there : end ≤ old.moment → granted_by_number old sight clients number node kind end ≡ refused Past old
         in_the_past_there over = at_this_node ∙ granted_in_the_past old clients number client row node kind end over

@@ -35,6 +35,8 @@ pub data DeskCommand : Type 0 where
   Save : DeskCommand
   Move : (moves : List BlockMove) → DeskCommand
   Plan : (client : ℕ) (log : List ℕ) → DeskCommand
+  -- a call of the desk that no line asks for
+  LeaseAt : (client number : ℕ) (kind : LeaseKind) (end : ℕ) → DeskCommand
 
 pub data Command : Type 0 where
   Setup : (command : OpeningCommand) → Command

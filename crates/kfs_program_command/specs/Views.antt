@@ -19,6 +19,7 @@ opening_of (opening.Begin limit) = commands.Begin limit
 abbrev pub act_of : Act → commands.DeskCommand
 act_of (acts.Lease client path kind end) = commands.Lease client path.now (kind_of kind) end
 act_of (acts.Drop client number) = commands.Drop client number
+act_of (acts.LeaseAt client number kind end) = commands.LeaseAt client number (kind_of kind) end
 act_of (acts.Tick moment) = commands.Tick moment
 
 module _ {A : Type 0} where

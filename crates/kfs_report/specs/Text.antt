@@ -81,6 +81,8 @@ lease_name lease.Past = codes "Past"
 lease_name (lease.LeaseHeld client) = codes "LeaseHeld"
 lease_name lease.NoLeaseHeld = codes "NoLeaseHeld"
 lease_name lease.Backwards = codes "Backwards"
+lease_name lease.NoSuchNode = codes "NoSuchNode"
+lease_name lease.NotAllowed = codes "NotAllowed"
 lease_name lease.OutOfMemory = codes "OutOfMemory"
 
 -- the refusal's name, with its number if it has one

@@ -14,7 +14,7 @@ use std::alloc::Allocator;
 use std::sync::Wait;
 
 impl<A: Allocator + Copy> Shared<Desk<A>, A> {
-    /// Makes a call for leases, as `Desk::act` does: `lease`, `drop_lease` or `tick`, given as a value.
+    /// Makes a call for leases, as `Desk::act` does: `lease`, `lease_at`, `drop_lease` or `tick`, given as a value.
     /// The answer, a refusal too, is a row of the docket. The pass has then seen all rows up to it, and
     /// the row is its own.
     ///

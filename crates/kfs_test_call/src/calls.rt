@@ -20,6 +20,9 @@ pub const MIGRATE: &[u8] = &[
     5, 0, 2, 0, 0, 0, 5, 0, 0, 0, 1, 2, 0, 0, 1, 2, 0, 0, 0, 6, 0, 0, 0, 0, 1, 0, 0, 0, 0,
 ];
 
+/// Client 7 asks for a write lease on node 258, by its number, up to moment 100.
+pub const LEASE_AT: &[u8] = &[6, 0, 0, 0, 7, 1, 0, 0, 0, 0, 0, 0, 0, 100, 0, 0, 1, 2];
+
 /// Whether the bytes are a call that is written as the same bytes.
 fn is_same_again(alloc: Global, bytes: &[u8]) -> bool {
     match decode_call(alloc, bytes) {
@@ -136,6 +139,21 @@ fn is_migrate(alloc: Global, bytes: &[u8]) -> bool {
     }
 }
 
+/// Whether the bytes are the call of `LEASE_AT`.
+fn is_lease_at(alloc: Global, bytes: &[u8]) -> bool {
+    match decode_call(alloc, bytes) {
+        Ok(
+            Call::LeaseAt {
+                client,
+                kind,
+                end,
+                number,
+            },
+        ) => client == 7 && kind == LeaseKind::Write && end == 100 && number == 258,
+        _ => false,
+    }
+}
+
 #[test]
 fn calls_are_read(rt: HostRuntime) {
     let alloc = rt.alloc();
@@ -144,12 +162,13 @@ fn calls_are_read(rt: HostRuntime) {
     assert!(&rt; is_drop(alloc, DROP));
     assert!(&rt; is_tick(alloc, TICK));
     assert!(&rt; is_migrate(alloc, MIGRATE));
+    assert!(&rt; is_lease_at(alloc, LEASE_AT));
 }
 
 #[test]
 fn calls_have_one_encoding(rt: HostRuntime) {
     let alloc = rt.alloc();
-    for bytes in [SUBMIT, LEASE, DROP, TICK, MIGRATE] {
+    for bytes in [SUBMIT, LEASE, DROP, TICK, MIGRATE, LEASE_AT] {
         assert!(&rt; is_same_again(alloc, bytes));
         assert!(&rt; is_no_call_when_cut(alloc, bytes));
         assert!(&rt; has_no_byte_more(alloc, bytes));
@@ -163,7 +182,7 @@ fn first_missing_field_is_told(rt: HostRuntime) {
     for (bytes, field) in [
         (b"".as_slice(), 0),
         (b"\x00".as_slice(), 0),
-        (b"\x06".as_slice(), 0),
+        (b"\x07".as_slice(), 0),
         (b"\x01".as_slice(), 1),
         (&SUBMIT[..8], 2),
         (&SUBMIT[..9], 2),
@@ -176,6 +195,10 @@ fn first_missing_field_is_told(rt: HostRuntime) {
         (&MIGRATE[..2], 1),
         (&MIGRATE[..3], 2),
         (&MIGRATE[..28], 3),
+        (&LEASE_AT[..4], 1),
+        (b"\x06\x00\x00\x00\x07\x02".as_slice(), 2),
+        (&LEASE_AT[..13], 3),
+        (&LEASE_AT[..17], 4),
     ] {
         assert!(&rt; is_refused(alloc, bytes, FieldFault::BadField(field)));
     }

@@ -24,6 +24,8 @@ enum Step {
     Submit(&'static [u8], &'static [u8]),
     /// Client, path, kind and end.
     Lease(u32, &'static [u8], LeaseKind, u64),
+    /// Client, node, kind and end.
+    LeaseAt(u32, u32, LeaseKind, u64),
     /// Client and node.
     Drop(u32, u32),
     Tick(u64),
@@ -33,7 +35,7 @@ enum Step {
 
 /// Calls of every kind, some of them refused: client 7 makes a file and writes to it twice, its first block moves, and
 /// leases come, end and are given up.
-const RUN: [Step; 16] = [
+const RUN: [Step; 19] = [
     Step::Lease(7, b"/", LeaseKind::Write, 50),
     Step::Submit(CREATE_LOG, CREATE_PLAN),
     Step::Submit(CREATE_LOG, CREATE_PLAN),
@@ -41,6 +43,8 @@ const RUN: [Step; 16] = [
     Step::Submit(LETTERS_LOG, LETTERS_PLAN),
     Step::Lease(8, b"/a", LeaseKind::Read, 100),
     Step::Migrate(1, 3),
+    Step::LeaseAt(8, 5, LeaseKind::Write, 100),
+    Step::LeaseAt(8, 9, LeaseKind::Read, 100),
     Step::Migrate(9, 0),
     Step::Tick(49),
     Step::Tick(48),
@@ -50,6 +54,7 @@ const RUN: [Step; 16] = [
     Step::Tick(60),
     Step::Submit(EDITS_LOG, EDITS_PLAN),
     Step::Drop(8, 5),
+    Step::LeaseAt(8, 5, LeaseKind::Read, 80),
 ];
 
 /// A desk on a new image, with client 7, and client 8, who is in two groups.
@@ -79,6 +84,12 @@ fn answered<A: Allocator + Copy>(desk: &mut Desk<A>, step: Step) -> Option<Calle
         Step::Lease(client, path, kind, end) => Act::Lease {
             client,
             path,
+            kind,
+            end,
+        },
+        Step::LeaseAt(client, number, kind, end) => Act::LeaseAt {
+            client,
+            number,
             kind,
             end,
         },

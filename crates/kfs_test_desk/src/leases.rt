@@ -32,7 +32,7 @@ const TREE_PLAN: &[u8] =
       \0\0\0\0\0\0";
 
 /// A desk with these nodes, if there is memory.
-fn tree<A: Allocator + Copy>(alloc: A) -> Option<Desk<A>> {
+pub fn tree<A: Allocator + Copy>(alloc: A) -> Option<Desk<A>> {
     grown(alloc, TREE_LOG, TREE_PLAN)
 }
 

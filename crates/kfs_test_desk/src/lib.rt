@@ -12,6 +12,8 @@
 #![tactic(auto)]
 
 #[cfg(test)]
+mod by_number;
+#[cfg(test)]
 mod bytes;
 #[cfg(test)]
 mod desks;

@@ -122,6 +122,13 @@ const ROOT_LEASED: Step<'static> = Step::Act(Act::Lease {
     end: 100,
 });
 
+const ROOT_LEASED_BY_NUMBER: Step<'static> = Step::Act(Act::LeaseAt {
+    client: 7,
+    number: 1,
+    kind: LeaseKind::Write,
+    end: 100,
+});
+
 /// The reply that the entry is refused, since no lease on the root is held.
 fn without_a_lease(position: u32) -> Reply {
     let reason = Reason::NoLease(1);
@@ -145,6 +152,23 @@ fn calls_of_a_script_are_made_in_their_place(rt: HostRuntime) {
         land(1),
     ];
     let replies = [Some(without_a_lease(2)), Some(yes(4))];
+    assert!(rt; gives(rt.alloc(), &steps, &replies, &FILE) == Some(true));
+}
+
+#[test]
+fn a_lease_by_number_in_a_script(rt: HostRuntime) {
+    let steps = [
+        ROOT_DROPPED,
+        look(0, 0),
+        judge(0),
+        ROOT_LEASED_BY_NUMBER,
+        land(0),
+    ];
+    let replies = [Some(Reply::Yes {
+        position: 3,
+        rejudged: true,
+        need: 0,
+    })];
     assert!(rt; gives(rt.alloc(), &steps, &replies, &FILE) == Some(true));
 }
 

@@ -199,6 +199,8 @@ fn faults_of_leases(rt: HostRuntime) {
         (LeaseFault::LeaseHeld(7), "LeaseHeld(7)"),
         (LeaseFault::NoLeaseHeld, "NoLeaseHeld"),
         (LeaseFault::Backwards, "Backwards"),
+        (LeaseFault::NoSuchNode, "NoSuchNode"),
+        (LeaseFault::NotAllowed, "NotAllowed"),
         (LeaseFault::OutOfMemory, "memory"),
     ];
     assert!(rt; say(rt.alloc(), &faults));

@@ -222,6 +222,13 @@ impl Desk {
         })
     }
 
+    /// Leases the node with this number to the client, up to the moment `end`, without a path. The number, or why not.
+    pub fn lease_at(
+        &mut self, client: u32, number: u32, write: bool, end: u64,
+    ) -> Result<Result<u64, Fault>, Error> {
+        self.act(|handle, reply| unsafe { raw::kfs_lease_at(handle, client, number, write, end, reply) })
+    }
+
     /// Ends the client's lease on the node.
     pub fn drop_lease(&mut self, client: u32, number: u32) -> Result<Result<u64, Fault>, Error> {
         self.act(|handle, reply| unsafe { raw::kfs_drop(handle, client, number, reply) })

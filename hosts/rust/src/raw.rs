@@ -109,6 +109,9 @@ extern "C" {
     pub fn kfs_lease(
         handle: *mut Handle, client: u32, path: *const u8, path_len: usize, write: bool, end: u64, reply: *mut Act,
     ) -> u32;
+    pub fn kfs_lease_at(
+        handle: *mut Handle, client: u32, number: u32, write: bool, end: u64, reply: *mut Act,
+    ) -> u32;
     pub fn kfs_drop(handle: *mut Handle, client: u32, number: u32, reply: *mut Act) -> u32;
     pub fn kfs_tick(handle: *mut Handle, moment: u64, reply: *mut Act) -> u32;
     pub fn kfs_migrate(handle: *mut Handle, moves: *const Move, moves_len: usize, reply: *mut Act) -> u32;

@@ -1,4 +1,4 @@
-//! Who may look names up, list them and read.
+//! Who may look names up, list them and read, and who gets a lease by number.
 
 use kfs::{Access, Client, Desk, Error, Reply};
 
@@ -51,4 +51,27 @@ fn bits_permit() {
     assert_eq!(asked(10, 5, 3), [3, 3, 4]);
     assert_eq!(asked(9, 4, 0), [2, 2, 2]);
     assert_eq!(asked(11, 4, 0), [1, 1, 1]);
+}
+
+#[test]
+fn leases_by_number() {
+    let mut desk = desk();
+    let mut asked = |client, number, write, end| match desk.lease_at(client, number, write, end).unwrap() {
+        Ok(number) => (number, 0),
+        Err(fault) => (fault.code.into(), fault.detail),
+    };
+    // the refusals in their order: each call fails each later test, too
+    assert_eq!(asked(11, 4, true, 0), (1, 0));
+    assert_eq!(asked(9, 4, true, 0), (10, 0));
+    assert_eq!(asked(9, 1 << 31, false, 0), (10, 0));
+    assert_eq!(asked(9, 5, true, 0), (11, 0));
+    assert_eq!(asked(10, 1, false, 0), (6, 0));
+    assert_eq!(asked(10, 1, false, 100), (7, 7));
+    // the group may read the file, another client may not; the owner and a privileged client may write it
+    assert_eq!(asked(8, 5, false, 100), (5, 0));
+    assert_eq!(asked(8, 5, true, 100), (11, 0));
+    assert_eq!(asked(9, 5, false, 100), (11, 0));
+    assert_eq!(asked(7, 5, true, 100), (7, 8));
+    assert_eq!(asked(10, 5, false, 100), (5, 0));
+    assert_eq!(asked(7, 3, true, 100), (3, 0));
 }

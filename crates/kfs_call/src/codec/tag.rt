@@ -1,4 +1,4 @@
-//! The tag of a call, one byte: 1 to 5. 6 isn't used.
+//! The tag of a call, one byte: 1 to 6.
 ghost use Rattle.std.specs.Prelude.{◌≡◌, ◌≤◌, length, drop, IfSome};
 ghost use Rattle.kfs_entry.specs.Codec.Reading.{seen};
 ghost use Rattle.kfs_call.specs.Readers.{tag_read};
@@ -13,6 +13,7 @@ pub enum Tag {
     Drop,
     Tick,
     Migrate,
+    LeaseAt,
 }
 
 /// The field at position `at`, and the position after it; none where no such field is there.
@@ -28,6 +29,7 @@ pub fn read(source: &[u8], at: usize) -> Option<(Tag, usize)>
         (3, at) => Some((Tag::Drop, at)),
         (4, at) => Some((Tag::Tick, at)),
         (5, at) => Some((Tag::Migrate, at)),
+        (6, at) => Some((Tag::LeaseAt, at)),
         _ => None,
     }
 }

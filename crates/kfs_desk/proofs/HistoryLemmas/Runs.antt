@@ -3,8 +3,8 @@ use Rattle.std.proofs.Common.{◌≡◌, ℕ, Bool, true, false, cond, List, [],
 use Rattle.std.specs.Prelude.{nat_lt}
 use Rattle.std.proofs.lemmas.Bool.{ltb-false}
 use Rattle.kfs_model.specs.Judgement.{State, Verdict, Yes, No, Reply, Accepted, NoRoom, Refused, free_places, reply_to, verdict_on}
-use Rattle.kfs_model.specs.Lease.{Leases, LeaseFault, dropped, granted, ticked}
-use Rattle.kfs_model.specs.Machine.{Call, Submit, Lease, Drop, Tick, Migrate, LeaseRefused, MovesRefused, CallOutcome, Done, NotDone, Replied, Row, after, are_chosen, landed, leased, migrated, next, outcome_of, replied, unplaced}
+use Rattle.kfs_model.specs.Lease.{Leases, LeaseFault, dropped, granted, granted_by_number, ticked}
+use Rattle.kfs_model.specs.Machine.{Call, Submit, Lease, Drop, Tick, Migrate, LeaseAt, LeaseRefused, MovesRefused, CallOutcome, Done, NotDone, Replied, Row, after, are_chosen, landed, leased, migrated, next, outcome_of, replied, unplaced}
 use Rattle.kfs_model.specs.Migration.{Move, MoveFault, fault_of_moves, moved_by}
 use Rattle.kfs_model.specs.Placement.{need, written_blocks}
 use Rattle.kfs_model.specs.Run.{Mark}
@@ -54,6 +54,7 @@ module _ (s : State) (places : List ℕ) (least : AreLeast s places) where
   made_is (Lease client path kind end) outcome is = let all = granted s.leases (sight s.tree) s.clients client path kind end in leased_is all.0 all.1 outcome is
   made_is (Drop client number) outcome is = let all = dropped s.leases s.clients client number in leased_is all.0 all.1 outcome is
   made_is (Tick moment) outcome is = let all = ticked s.leases moment in leased_is all.0 all.1 outcome is
+  made_is (LeaseAt client number kind end) outcome is = let all = granted_by_number s.leases (sight s.tree) s.clients client number kind end in leased_is all.0 all.1 outcome is
   made_is (Migrate moves) outcome is = migrated_is moves (fault_of_moves s.sizes s.placement moves) outcome is
 
 pub row_made : (s t : State) (row : Row) → AreLeast s row.places → next s row ≡ Some t → (made s row.call).0 ≡ row.answer × (made s row.call).1 ≡ t
@@ -95,6 +96,7 @@ module _ (s : State) where
   made_fits (Lease client path kind end) = leased_fits (granted s.leases (sight s.tree) s.clients client path kind end)
   made_fits (Drop client number) = leased_fits (dropped s.leases s.clients client number)
   made_fits (Tick moment) = leased_fits (ticked s.leases moment)
+  made_fits (LeaseAt client number kind end) = leased_fits (granted_by_number s.leases (sight s.tree) s.clients client number kind end)
   made_fits (Migrate moves) = migrated_fits moves (fault_of_moves s.sizes s.placement moves)
 
   replied_least_places : (verdict : Verdict) (reply : Reply) → AreLeast s (places_for s verdict reply)
@@ -110,6 +112,7 @@ module _ (s : State) where
   places_are_least (Drop client number) = refl
   places_are_least (Tick moment) = refl
   places_are_least (Migrate moves) = refl
+  places_are_least (LeaseAt client number kind end) = refl
 
   -- the row of a call
   abbrev pub row_of_call : Call → Row

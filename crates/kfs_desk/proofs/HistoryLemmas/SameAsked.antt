@@ -2,7 +2,7 @@
 use Rattle.std.proofs.Common.{◌≡◌, List, [], ◌∷◌, refl, sym, ap, subst, ◌∙◌}
 use Rattle.std.specs.List.{AllByRecursion}
 use Rattle.kfs_model.specs.Judgement.{State, Submission, Reading, IsReadAs}
-use Rattle.kfs_model.specs.Machine.{Call, Submit, Lease, Drop, Tick, Migrate, IsRead, Row}
+use Rattle.kfs_model.specs.Machine.{Call, Submit, Lease, Drop, Tick, Migrate, LeaseAt, IsRead, Row}
 use Rattle.kfs_model.specs.Spelling.{IsBytes}
 use Rattle.kfs_model.proofs.OneLogAnswer.{one_log_answer}
 use Rattle.kfs_model.proofs.OnePlanAnswer.{one_plan_answer}
@@ -28,26 +28,37 @@ same_call row (Submit x a) (Lease client path kind end) bytes is this alike = cc
 same_call row (Submit x a) (Drop client number) bytes is this alike = cc
 same_call row (Submit x a) (Tick moment) bytes is this alike = cc
 same_call row (Submit x a) (Migrate moves) bytes is this alike = cc
+same_call row (Submit x a) (LeaseAt client number kind end) bytes is this alike = cc
 same_call row (Lease client path kind end) (Submit y b) bytes is this alike = cc
 same_call row (Lease client path kind end) (Lease c p k e) bytes is this alike = cc
 same_call row (Lease client path kind end) (Drop c n) bytes is this alike = cc
 same_call row (Lease client path kind end) (Tick m) bytes is this alike = cc
 same_call row (Lease client path kind end) (Migrate m) bytes is this alike = cc
+same_call row (Lease client path kind end) (LeaseAt c n k e) bytes is this alike = cc
 same_call row (Drop client number) (Submit y b) bytes is this alike = cc
 same_call row (Drop client number) (Lease c p k e) bytes is this alike = cc
 same_call row (Drop client number) (Drop c n) bytes is this alike = cc
 same_call row (Drop client number) (Tick m) bytes is this alike = cc
 same_call row (Drop client number) (Migrate m) bytes is this alike = cc
+same_call row (Drop client number) (LeaseAt c n k e) bytes is this alike = cc
 same_call row (Tick moment) (Submit y b) bytes is this alike = cc
 same_call row (Tick moment) (Lease c p k e) bytes is this alike = cc
 same_call row (Tick moment) (Drop c n) bytes is this alike = cc
 same_call row (Tick moment) (Tick m) bytes is this alike = cc
 same_call row (Tick moment) (Migrate m) bytes is this alike = cc
+same_call row (Tick moment) (LeaseAt c n k e) bytes is this alike = cc
 same_call row (Migrate moves) (Submit y b) bytes is this alike = cc
 same_call row (Migrate moves) (Lease c p k e) bytes is this alike = cc
 same_call row (Migrate moves) (Drop c n) bytes is this alike = cc
 same_call row (Migrate moves) (Tick m) bytes is this alike = cc
 same_call row (Migrate moves) (Migrate m) bytes is this alike = cc
+same_call row (Migrate moves) (LeaseAt c n k e) bytes is this alike = cc
+same_call row (LeaseAt client number kind end) (Submit y b) bytes is this alike = cc
+same_call row (LeaseAt client number kind end) (Lease c p k e) bytes is this alike = cc
+same_call row (LeaseAt client number kind end) (Drop c n) bytes is this alike = cc
+same_call row (LeaseAt client number kind end) (Tick m) bytes is this alike = cc
+same_call row (LeaseAt client number kind end) (Migrate m) bytes is this alike = cc
+same_call row (LeaseAt client number kind end) (LeaseAt c n k e) bytes is this alike = cc
 
 asked_calls : (one other : List Row) → AllByRecursion IsRead one → AllByRecursion IsRead other → AllByRecursion AreBytes (asked_of one) → asked_of one ≡ asked_of other → calls_of one ≡ calls_of other
 asked_calls [] [] is this bytes alike = refl

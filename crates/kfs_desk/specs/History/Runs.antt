@@ -3,8 +3,8 @@
 use Rattle.std.specs.Prelude.{◌≡◌, ℕ, List, [], ◌∷◌, length, map, take, Option, Some, None, Result, Ok, Err}
 use Rattle.std.specs.List.{AllByRecursion}
 use Rattle.kfs_model.specs.Judgement.{State, Submission, Verdict, Yes, Reply, Accepted, free_places, reply_to, verdict_on}
-use Rattle.kfs_model.specs.Lease.{LeaseFault, LeaseKind, Leases, granted, dropped, ticked}
-use Rattle.kfs_model.specs.Machine.{Call, Submit, Lease, Drop, Tick, Migrate, CallAnswer, CallOutcome, Done, IsRead, LeaseRefused, MovesRefused, NotDone, Replied, Row, after, landed}
+use Rattle.kfs_model.specs.Lease.{LeaseFault, LeaseKind, Leases, granted, granted_by_number, dropped, ticked}
+use Rattle.kfs_model.specs.Machine.{Call, Submit, Lease, Drop, Tick, Migrate, LeaseAt, CallAnswer, CallOutcome, Done, IsRead, LeaseRefused, MovesRefused, NotDone, Replied, Row, after, landed}
 use Rattle.kfs_model.specs.Migration.{Move, MoveFault, fault_of_moves, moved_by}
 use Rattle.kfs_model.specs.Sight.{sight}
 use Rattle.kfs_model.specs.Spelling.{IsBytes}
@@ -31,6 +31,7 @@ made s (Lease client path kind end) = leased_to s (granted s.leases (sight s.tre
 made s (Drop client number) = leased_to s (dropped s.leases s.clients client number)
 made s (Tick moment) = leased_to s (ticked s.leases moment)
 made s (Migrate moves) = migrated_to s moves (fault_of_moves s.sizes s.placement moves)
+made s (LeaseAt client number kind end) = leased_to s (granted_by_number s.leases (sight s.tree) s.clients client number kind end)
 
 -- ---- calls one after another
 
@@ -87,6 +88,7 @@ pub data Asked : Type 0 where
   AskDrop : (client number : ℕ) → Asked
   AskTick : (moment : ℕ) → Asked
   AskMigrate : (moves : List Move) → Asked
+  AskLeaseAt : (client number : ℕ) (kind : LeaseKind) (end : ℕ) → Asked
 
 abbrev pub asked : Call → Asked
 asked (Submit submission reading) = AskSubmit submission
@@ -94,6 +96,7 @@ asked (Lease client path kind end) = AskLease client path kind end
 asked (Drop client number) = AskDrop client number
 asked (Tick moment) = AskTick moment
 asked (Migrate moves) = AskMigrate moves
+asked (LeaseAt client number kind end) = AskLeaseAt client number kind end
 
 abbrev pub asked_of : List Row → List Asked
 asked_of rows = map (λ (row : Row). asked row.call) rows
@@ -105,6 +108,7 @@ AreBytes (AskLease client path kind end) = Unit {0}
 AreBytes (AskDrop client number) = Unit {0}
 AreBytes (AskTick moment) = Unit {0}
 AreBytes (AskMigrate moves) = Unit {0}
+AreBytes (AskLeaseAt client number kind end) = Unit {0}
 
 -- the same, where the same was handed in and each row is read as its bytes say
 abbrev pub SameAskedSameState : Type 0

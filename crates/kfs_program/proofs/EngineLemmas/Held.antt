@@ -82,6 +82,7 @@ pub act_served : {T E : Type 0} (result : Result T E) (desk : Desk) (hands : Hel
     → OnOk result (IsReplied (DeskAnswers desk hands (act_of act)) before after (After next hands))
 act_served result desk hands (acts.Lease client path kind end) before after next is = with_hands result hands _ before after next is
 act_served result desk hands (acts.Drop client number) before after next is = with_hands result hands _ before after next is
+act_served result desk hands (acts.LeaseAt client number kind end) before after next is = with_hands result hands _ before after next is
 act_served result desk hands (acts.Tick moment) before after next is = with_hands result hands _ before after next is
 
 -- this line of the desk

@@ -20,7 +20,7 @@ use Rattle.kfs_desk.specs.declared.history.answers.BeginFault.{BeginFault}
 use Rattle.kfs_desk.specs.declared.history.answers.Done.{Done}
 use Rattle.kfs_desk.specs.declared.history.answers.Done.TheVariants.{Leased, Dropped, Ticked, Moved}
 use Rattle.kfs_desk.specs.declared.history.answers.Reply.{Reply}
-use Rattle.kfs_program_command.specs.Command.{Command, Setup, Request, OpeningCommand, New, Row, Begin, DeskCommand, Lease, Drop, Tick, Submit, Node, Listing, Bytes, DocketLength, Judge, Land, Load, Save, Move, Plan, asked_by, landing_worker}
+use Rattle.kfs_program_command.specs.Command.{Command, Setup, Request, OpeningCommand, New, Row, Begin, DeskCommand, Lease, LeaseAt, Drop, Tick, Submit, Node, Listing, Bytes, DocketLength, Judge, Land, Load, Save, Move, Plan, asked_by, landing_worker}
 use Rattle.kfs_program.specs.Engine.Bytes.{read_text}
 use Rattle.kfs_program.specs.Images.Loading.{LoadsWith}
 use Rattle.kfs_program.specs.Images.Saving.{save_text}
@@ -187,6 +187,7 @@ AnswersLand desk hands worker (Some verdict) outcome = WithHands (with_held hand
 abbrev pub DeskAnswers : Desk → HeldVerdicts → DeskCommand → LineOutcome → Type 0
 DeskAnswers desk hands (Lease client path kind end) outcome = WithHands hands (IsCallAnswered desk (machine.Lease client path kind end) Leased) outcome
 DeskAnswers desk hands (Drop client number) outcome = WithHands hands (IsCallAnswered desk (machine.Drop client number) Dropped) outcome
+DeskAnswers desk hands (LeaseAt client number kind end) outcome = WithHands hands (IsCallAnswered desk (machine.LeaseAt client number kind end) Leased) outcome
 DeskAnswers desk hands (Tick moment) outcome = WithHands hands (IsCallAnswered desk (machine.Tick moment) Ticked) outcome
 DeskAnswers desk hands (Move moves) outcome = WithHands hands (IsCallAnswered desk (machine.Migrate moves) Moved) outcome
 DeskAnswers desk hands (Submit submission) outcome = WithHands hands (IsSubmissionAnswered desk submission) outcome

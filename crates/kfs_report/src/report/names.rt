@@ -155,6 +155,8 @@ fn lease_name(fault: LeaseFault) -> &'static [u8]
         LeaseFault::LeaseHeld(_) => b"LeaseHeld",
         LeaseFault::NoLeaseHeld => b"NoLeaseHeld",
         LeaseFault::Backwards => b"Backwards",
+        LeaseFault::NoSuchNode => b"NoSuchNode",
+        LeaseFault::NotAllowed => b"NotAllowed",
         LeaseFault::OutOfMemory => b"OutOfMemory",
     }
 }
