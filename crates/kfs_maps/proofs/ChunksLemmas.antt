@@ -1,12 +1,12 @@
-mod FirstEntries
-mod FirstHere
+pub mod FirstEntries
+pub mod FirstHere
 pub mod InOrder
-mod Order
+pub mod Order
 pub mod Overlays
 pub mod Parts
-mod Recut
-mod Rewritten
+pub mod Recut
+pub mod Rewritten
 pub mod Runs
-mod Sorted
+pub mod Sorted
 pub mod Tables
-mod Together
+pub mod Together
