@@ -1,4 +1,4 @@
-//! Scripts whose input or output fails: at each read in turn, and at each write.
+//! Scripts whose input or output fails: at each read in turn, and at each write. A write fails, or it takes no byte.
 
 use crate::runs::run;
 use crate::scripts::{Case, ScriptFault};
@@ -63,17 +63,39 @@ impl Read for Lines<'_> {
     }
 }
 
+/// What a writer answers to a write that isn't granted.
+#[derive(Clone, Copy)]
+enum Refusal {
+    Fails,
+    /// It took no byte, and nothing failed.
+    TakesNothing,
+}
+
+impl Refusal {
+    /// Why a script isn't answered as it is due where the write of this index is refused.
+    fn fault(self, index: u64) -> ScriptFault {
+        match self {
+            Refusal::Fails => ScriptFault::Write(index),
+            Refusal::TakesNothing => ScriptFault::NothingTaken(index),
+        }
+    }
+}
+
 /// The text as the writer takes it: half of what it is handed at each write.
 #[derive(Drop)]
 struct Taken {
     text: Vec<u8>,
     granted: Granted,
+    refusal: Refusal,
 }
 
 impl Write for Taken {
     fn write(&mut self, buf: &[u8]) -> io::Result<usize> {
-        self.granted.call()?;
-        self.text.write(buf.get(..half(buf.len())).unwrap_or(buf))
+        match (self.granted.call(), self.refusal) {
+            (Ok(()), _) => self.text.write(buf.get(..half(buf.len())).unwrap_or(buf)),
+            (Err(why), Refusal::Fails) => Err(why),
+            (Err(_), Refusal::TakesNothing) => Ok(0),
+        }
     }
 
     fn flush(&mut self) -> io::Result<()> {
@@ -128,11 +150,12 @@ fn fail_reads<R: AllocGlobal + Threads + Sync>(
     Err(ScriptFault::Read(MANY))
 }
 
-/// Fails each write of the script in turn: the first of the replies are written, or a part of them.
-fn fail_writes<R: AllocGlobal + Threads + Sync>(
+/// Refuses each write of the script in turn: the first of the replies are written, or a part of them.
+fn refuse_writes<R: AllocGlobal + Threads + Sync>(
     rt: &R,
     case: &Case,
     words: &[&str],
+    refusal: Refusal,
 ) -> Result<(), ScriptFault> {
     for left in 0..MANY {
         let mut lines = Lines {
@@ -148,16 +171,17 @@ fn fail_writes<R: AllocGlobal + Threads + Sync>(
                 left,
                 has_failed: false,
             },
+            refusal,
         };
         let status = run_words(rt, rt.alloc(), words, &mut lines, &mut taken);
         if !taken.granted.has_failed {
             return case.compare(status, &taken.text);
         }
         if status != FAILED || !case.replies().starts_with(&taken.text) {
-            return Err(ScriptFault::Write(left));
+            return Err(refusal.fault(left));
         }
     }
-    Err(ScriptFault::Write(MANY))
+    Err(refusal.fault(MANY))
 }
 
 /// A writer that takes all, and counts the writes.
@@ -195,7 +219,7 @@ fn write_once<R: AllocGlobal + Threads + Sync>(
     }
 }
 
-/// Runs a small script with each write failing in turn, and once with its writes counted. If it is a session, each read
+/// Runs a small script with each write failing in turn, with each write taking no byte in turn, and once with its writes counted. If it is a session, each read
 /// fails in turn, too.
 pub fn run_with_failures<R: AllocGlobal + Threads + Sync>(
     rt: &R,
@@ -206,7 +230,8 @@ pub fn run_with_failures<R: AllocGlobal + Threads + Sync>(
         fail_reads(rt, case, words)?;
     }
     if case.is_small() {
-        fail_writes(rt, case, words)?;
+        refuse_writes(rt, case, words, Refusal::Fails)?;
+        refuse_writes(rt, case, words, Refusal::TakesNothing)?;
         write_once(rt, case, words)?;
     }
     Ok(())

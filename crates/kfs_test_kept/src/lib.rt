@@ -1,10 +1,13 @@
-//! Tests of kept desks: three groups of calls and a checkpoint, with a crash at each moment of them and of the opening after.
+//! Tests of kept desks: three groups of calls and a checkpoint, with a crash at each moment of them and of the opening after;
+//! and each call with one allocation refused.
 //!
-//! It stands on `kfs_kept`, `kfs_journal`, `kfs_call_desk`, `kfs_call_desk` and `kfs_test_support`. A test is proved too, and would have
+//! It stands on `kfs_kept`, `kfs_journal`, `kfs_call_desk` and `kfs_test_support`. A test is proved too, and would have
 //! to carry the clauses of each call that it makes. So calls are in small functions.
 #![tactic(auto)]
 
 #[cfg(test)]
 mod crashes;
+#[cfg(test)]
+mod memory;
 #[cfg(test)]
 mod run;

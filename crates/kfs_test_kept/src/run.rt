@@ -11,21 +11,21 @@ use kfs_journal::MemoryDisk;
 use kfs_kept::Kept;
 use kfs_mode::Client;
 use kfs_test_support::vectors::{CREATE_LOG, CREATE_PLAN, LETTERS_LOG, LETTERS_PLAN};
-use std::alloc::{AllocError, Global};
+use std::alloc::{AllocError, Allocator, Global};
 
 /// How many rows a docket has room for.
 pub const LIMIT: u32 = 100;
 
 /// Client 7 asks for a write lease on the root up to moment 50, and then for one on `/a` up to moment 100.
-const LEASE_ROOT: &[u8] = b"\x02\0\0\0\x07\x01\0\0\0\0\0\0\0\x32\0\x01/";
+pub const LEASE_ROOT: &[u8] = b"\x02\0\0\0\x07\x01\0\0\0\0\0\0\0\x32\0\x01/";
 
-const LEASE_FILE: &[u8] = b"\x02\0\0\0\x07\x01\0\0\0\0\0\0\0\x64\0\x02/a";
+pub const LEASE_FILE: &[u8] = b"\x02\0\0\0\x07\x01\0\0\0\0\0\0\0\x64\0\x02/a";
 
 /// The moment goes on to 49.
 const TICK: &[u8] = b"\x04\0\0\0\0\0\0\0\x31";
 
 /// Block 0 of file 5 moves to place 3 of tier 1.
-const MIGRATE: &[u8] = b"\x05\0\x01\0\0\0\x05\0\0\0\0\x01\0\0\0\x03";
+pub const MIGRATE: &[u8] = b"\x05\0\x01\0\0\0\x05\0\0\0\0\x01\0\0\0\x03";
 
 /// No call.
 const BAD: &[u8] = b"\x06";
@@ -34,7 +34,7 @@ const BAD: &[u8] = b"\x06";
 pub const STEPS: usize = 5;
 
 /// A desk with client 7 on a new image.
-fn opened(alloc: Global) -> Option<Desk<Global>>
+pub fn opened<A: Allocator + Copy>(alloc: A) -> Option<Desk<A>>
     ensures { IfSome result (λ desk. begin_fault desk.state.clients ≡ None) }
 {
     let image = Image::fresh(alloc, TierSizes::new(8, 8, 8)?).ok()?;
@@ -55,7 +55,7 @@ fn push_long(out: &mut Vec<u8>, bytes: &[u8]) -> Result<(), AllocError> {
 }
 
 /// Client 7 hands in a log and a plan.
-fn submit(alloc: Global, log: &[u8], plan: &[u8]) -> Result<Vec<u8>, AllocError> {
+pub fn submit(alloc: Global, log: &[u8], plan: &[u8]) -> Result<Vec<u8>, AllocError> {
     let mut out = Vec::from_slice(alloc, b"\x01\0\0\0\x07")?;
     push_long(&mut out, log)?;
     push_long(&mut out, plan)?;
@@ -107,12 +107,12 @@ pub fn run(alloc: Global) -> Option<Ran> {
 }
 
 /// The desk's state as bytes.
-pub fn saved(alloc: Global, desk: &Desk<Global>) -> Option<Vec<u8>> {
+pub fn saved<A: Allocator + Copy>(alloc: Global, desk: &Desk<A>) -> Option<Vec<u8>> {
     encode_desk(alloc, desk.image(), desk.clients(), desk.leases()).ok()
 }
 
 /// The state as bytes after the calls.
-fn saved_after(alloc: Global, desk: &mut Desk<Global>, calls: &[&[u8]]) -> Option<Vec<u8>> {
+pub fn saved_after(alloc: Global, desk: &mut Desk<Global>, calls: &[&[u8]]) -> Option<Vec<u8>> {
     for bytes in calls {
         let _answer = call(alloc, desk, bytes);
     }

@@ -82,7 +82,13 @@ pub mod call {
         CallFault, Called, EncodeFault, RestoreFault, answer_row, call, encode_desk, restore_alone,
         told,
     };
-    pub use kfs_kept::restore;
+}
+
+/// A desk whose answers outlive a crash, and a desk from the bytes of a state in several threads.
+pub mod kept {
+    pub use kfs_kept::{
+        CallsFault, CreateBack, Kept, OpenBack, OpenFault, SaveFault, restore,
+    };
 }
 
 /// Workers, scripts of their steps, and a desk that threads share.

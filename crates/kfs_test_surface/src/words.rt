@@ -6,6 +6,7 @@ use kfs_desk::{ActFault, BeginFault, Unanswered, Why};
 use kfs_entry::SpellFault;
 use kfs_image::{ImageFault, ReadFault};
 use kfs_judge::{AccessFault, EntryFault, Reason};
+use kfs_kept::{CallsFault, OpenFault, SaveFault};
 use kfs_lease::{LeaseFault, LeaseRowFault};
 use kfs_migrate::MoveFault;
 use kfs_mode::ClientFault;
@@ -99,6 +100,38 @@ fn faults_of_restored_desks(rt: HostRuntime) {
             "ClientTwice(1)",
         ),
         (RestoreFault::OutOfMemory, "memory"),
+    ];
+    assert!(rt; say(rt.alloc(), &faults));
+}
+
+#[test]
+fn faults_of_kept_desks(rt: HostRuntime) {
+    let faults = [
+        (CallsFault::Closed, "closed"),
+        (CallsFault::TooLong, "TooLong"),
+        (CallsFault::OutOfMemory, "memory"),
+        (CallsFault::NotKept, "NotKept"),
+        (CallsFault::Failed, "failed"),
+    ];
+    assert!(rt; say(rt.alloc(), &faults));
+    let faults = [
+        (SaveFault::Closed, "closed"),
+        (SaveFault::TooMany, "TooMany"),
+        (SaveFault::Full, "full"),
+        (SaveFault::OutOfMemory, "memory"),
+        (SaveFault::Failed, "failed"),
+    ];
+    assert!(rt; say(rt.alloc(), &faults));
+    let state = RestoreFault::BadState(StateFault::BadHeader);
+    let faults = [
+        (OpenFault::Empty, "empty"),
+        (OpenFault::NotAJournal, "not a journal"),
+        (OpenFault::BadState(state), "BadHeader"),
+        (OpenFault::BadGroup(3), "BadGroup(3)"),
+        (OpenFault::Differs(3), "Differs(3)"),
+        (OpenFault::DocketFull, "full"),
+        (OpenFault::OutOfMemory, "memory"),
+        (OpenFault::Failed, "failed"),
     ];
     assert!(rt; say(rt.alloc(), &faults));
 }

@@ -29,6 +29,9 @@ pub enum ScriptFault {
     /// With the write of this index failing, the answer is another.
     #[error("isn't as it is due where write {0} fails")]
     Write(u64),
+    /// With the write of this index taking no byte, the answer is another.
+    #[error("isn't as it is due where write {0} takes no byte")]
+    NothingTaken(u64),
     /// The replies to one read are so many writes.
     #[error("writes {0} times")]
     Writes(u64),
