@@ -1,7 +1,7 @@
 //! The checker that accepts images: it tests the ten rules of a raw image, the rules of single nodes in
 //! several threads, and makes the image of one that breaks none.
 //!
-//! It stands on `kfs_shape` (the tests) and `kfs_image`; `kfs_restore_threads` stands on it. Begin with `fsck`.
+//! It stands on `kfs_shape` (the tests) and `kfs_image`; `kfs_kept` stands on it. Begin with `fsck`.
 #![tactic(auto)]
 
 mod check;

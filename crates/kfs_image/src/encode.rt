@@ -7,4 +7,4 @@ mod names;
 mod nodes;
 mod run;
 
-pub use self::encode::encode_image;
+pub use self::encode::{append_image, encode_image};

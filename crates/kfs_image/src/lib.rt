@@ -21,6 +21,8 @@ pub mod tier;
 pub use blocks::{BlockRow, BlockRun, Place};
 pub use codec::{Extent, ExtentRow, ImageFault, RawImage, RawNode, decode_image};
 pub use edit::Edit;
+#[doc(hidden)]
+pub use encode::append_image;
 pub use encode::encode_image;
 pub use image::Image;
 #[doc(hidden)]

@@ -14,8 +14,8 @@ use Rattle.kfs_desk.specs.declared.history.answers.BeginFault.{BeginFault}
 use Rattle.kfs_journal.specs.Disk.{Files}
 use Rattle.kfs_journal.specs.Format.{meaning}
 use Rattle.kfs_call_desk.specs.Restore.Restored.{BadClients, Refusal, RestoreAnswer, RestoreFault, FollowsImage, FollowsState, begin_refusal, clients_refusal, leases_refusal, rule_refusal, shown_state, unless}
-use Rattle.kfs_kept_calls.specs.Group.{CallAndAnswer}
-use Rattle.kfs_kept_calls.specs.Leads.{GroupLeads, GroupsLead, LeadOn, Leads}
+use Rattle.kfs_kept.specs.Calls.Group.{CallAndAnswer}
+use Rattle.kfs_kept.specs.Calls.Leads.{GroupLeads, GroupsLead, LeadOn, Leads}
 use Rattle.kfs_kept.specs.Standing.{LeadTo, StandFor}
 
 -- ---- no call changes the clients

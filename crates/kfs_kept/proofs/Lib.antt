@@ -1,4 +1,6 @@
 -- Lemmas on what files stand for.
+mod CallsLemmas
+mod RestoredLemmas
 mod Meant
 mod Beside
 mod Stays

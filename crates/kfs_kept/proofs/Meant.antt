@@ -16,9 +16,9 @@ use Rattle.kfs_call_desk.specs.Restore.Saved.{IsSaved}
 use Rattle.kfs_kept.specs.Faults.{of_journal}
 use Rattle.kfs_kept.specs.declared.fault.SaveFault.{SaveFault}
 use Rattle.kfs_kept.specs.declared.fault.SaveFault.TheVariants as saving
-use Rattle.kfs_kept_calls.specs.Leads.{GroupLeads, GroupsLead}
-use Rattle.kfs_kept_calls.specs.Making.{AreMade, answered}
-use Rattle.kfs_kept_calls.proofs.OneMore.{calls_so_far}
+use Rattle.kfs_kept.specs.Calls.Leads.{GroupLeads, GroupsLead}
+use Rattle.kfs_kept.specs.Calls.Making.{AreMade, answered}
+use Rattle.kfs_kept.proofs.CallsLemmas.OneMore.{calls_so_far}
 use Rattle.kfs_kept.specs.Standing.{HasLongBytes, LeadTo, StandFor, StandForAtMost, StandForBeforeOrAfter}
 
 abbrev Meant : Type 0

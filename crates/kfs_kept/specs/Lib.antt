@@ -1,3 +1,5 @@
+pub mod Calls
+pub mod Restored
 pub mod Standing
 pub mod Keeping
 pub mod Faults

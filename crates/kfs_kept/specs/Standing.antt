@@ -5,8 +5,8 @@ use Rattle.kfs_journal.specs.Disk.{Files}
 use Rattle.kfs_journal.specs.Format.{meaning}
 use Rattle.kfs_call_desk.specs.Restore.Restored.{RestoreAnswer}
 use Rattle.kfs_call_desk.specs.Restore.Saved.{IsSaved}
-use Rattle.kfs_kept_calls.specs.Leads.{GroupsLead}
-use Rattle.kfs_kept_calls.specs.Making.{Runs}
+use Rattle.kfs_kept.specs.Calls.Leads.{GroupsLead}
+use Rattle.kfs_kept.specs.Calls.Making.{Runs}
 use Rattle.kfs_desk.specs.Machine.{Desk}
 use Rattle.kfs_call_desk.specs.declared.made.Called.{Called}
 use Rattle.kfs_call_desk.specs.declared.made.CallFault.{CallFault}

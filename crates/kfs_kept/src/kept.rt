@@ -6,19 +6,19 @@ ghost use Rattle.kfs_desk.specs.Opening.{begin_fault};
 ghost use Rattle.kfs_journal.specs.Disk.{Files, LeavesOnly, Only};
 ghost use Rattle.kfs_journal.specs.Format.{meaning};
 ghost use Rattle.kfs_journal.specs.Journal.{AreEmpty};
-ghost use Rattle.kfs_kept_calls.specs.Making.{Runs};
+ghost use Rattle.kfs_kept.specs.Calls.Making.{Runs};
 ghost use Rattle.kfs_call_desk.specs.Restore.Saved.{HasTooMany};
 ghost use Rattle.kfs_kept.specs.Faults.{IsOutside, IsWhy};
 ghost use Rattle.kfs_kept.specs.Keeping.{IsKept};
 ghost use Rattle.kfs_kept.specs.Standing.{HasLongBytes, MeanTheSame, StandFor, StandForAtMost, StandForBeforeOrAfter};
 
+use crate::calls::{Made, room_for};
 use crate::fault::{CallsFault, OpenFault, SaveFault};
 use crate::opening::find;
 use crate::saving::{begin_journal, state_of};
 use kfs_call_desk::{CallFault, Called};
 use kfs_desk::Desk;
 use kfs_journal::{Disk, Journal, JournalFault};
-use kfs_kept_calls::{Made, room_for};
 use std::alloc::Allocator;
 use std::thread::Threads;
 

@@ -4,17 +4,17 @@ ghost use Rattle.kfs_model.specs.Judgement.{State};
 ghost use Rattle.kfs_journal.specs.Disk.{LeavesOnly, Only};
 ghost use Rattle.kfs_journal.specs.Format.{meaning};
 ghost use Rattle.kfs_journal.specs.Journal.{IsSettled, groups_of, opened_pair};
-ghost use Rattle.kfs_kept_calls.specs.Leads.{GroupLeads, GroupsLead};
+ghost use Rattle.kfs_kept.specs.Calls.Leads.{GroupLeads, GroupsLead};
 ghost use Rattle.kfs_call_desk.specs.Restore.Restored.{RestoreAnswer};
 ghost use Rattle.kfs_kept.specs.Faults.{IsOfState, IsOutside, IsWhy};
 ghost use Rattle.kfs_kept.specs.Standing.{MeanTheSame, StandFor};
 
+use crate::calls::{AgainFault, make_again};
 use crate::fault::OpenFault;
+use crate::restored::restore;
 use kfs_call_desk::RestoreFault;
 use kfs_desk::Desk;
 use kfs_journal::{Disk, Journal, OpenFault as JournalFault, Opened};
-use kfs_kept_calls::{AgainFault, make_again};
-use kfs_restore_threads::restore;
 use std::alloc::Allocator;
 use std::thread::Threads;
 

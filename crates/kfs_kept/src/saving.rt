@@ -8,10 +8,10 @@ ghost use Rattle.kfs_call_desk.specs.Restore.Saved.{HasTooMany, IsSaved};
 ghost use Rattle.kfs_kept.specs.Standing.{HasLongBytes, StandFor, StandForAtMost};
 
 use crate::fault::SaveFault;
+use crate::restored::laws::a_saved_desk_is_restored;
 use kfs_call_desk::{EncodeFault, encode_desk};
 use kfs_desk::Desk;
 use kfs_journal::{Disk, Journal};
-use kfs_restore_threads::laws::a_saved_desk_is_restored;
 use std::alloc::Allocator;
 
 /// The bytes of the desk's state.

@@ -4,9 +4,9 @@
 use kfs_call_desk::{Called, EncodeFault, RestoreFault, encode_desk, restore_alone};
 use kfs_desk::{Act, Desk, Reply};
 use kfs_image::{Image, TierSizes};
+use kfs_kept::restore;
 use kfs_lease::LeaseKind;
 use kfs_mode::Client;
-use kfs_restore_threads::restore;
 use kfs_test_support::vectors::{
     CREATE_LOG, CREATE_PLAN, EDITS_LOG, EDITS_PLAN, LETTERS_LOG, LETTERS_PLAN,
 };

@@ -82,7 +82,7 @@ pub mod call {
         CallFault, Called, EncodeFault, RestoreFault, answer_row, call, encode_desk, restore_alone,
         told,
     };
-    pub use kfs_restore_threads::restore;
+    pub use kfs_kept::restore;
 }
 
 /// Workers, scripts of their steps, and a desk that threads share.

@@ -1,5 +1,6 @@
 -- Rows that were written are those of the state.
-use Rattle.std.proofs.Common.{◌≡◌, ℕ, suc, ◌^◌, ◌<◌, ◌≤◌, All, List, [], ◌∷◌, length, map, refl, sym, ap, subst, ◌∙◌}
+use Rattle.std.proofs.Common.{◌≡◌, ℕ, suc, ◌^◌, ◌<◌, ◌≤◌, All, List, [], ◌∷◌, ◌++◌, length, map, refl, sym, ap, subst, ◌∙◌, append-nil}
+use Rattle.std.specs.List.{flat_map}
 use Rattle.std.proofs.lemmas.List.Elements.{recursion_from_All, All-map}
 use Rattle.kfs_model.specs.Access.{Client}
 use Rattle.kfs_model.specs.Lease.{Leases}
@@ -8,7 +9,7 @@ use Rattle.kfs_model.specs.Device.ShownTree.{DeviceImage}
 use Rattle.kfs_lease.specs.LeaseLists.{Ascend, listed_leases}
 use Rattle.kfs_lease.specs.ShownLists.{row_shown, rows_shown}
 use Rattle.kfs_lease.specs.declared.leases.listed.LeaseRow.{LeaseRow as ListedLease}
-use Rattle.kfs_call.specs.StateRows.{StateRows, IsClientRow, IsLeaseRow, IsStateRows, state_bytes}
+use Rattle.kfs_call.specs.StateRows.{StateRows, IsClientRow, IsLeaseRow, IsStateRows, client_bytes, lease_bytes, state_header, state_bytes}
 use Rattle.kfs_call.specs.StateViews.{client_shown, lease_shown}
 use Rattle.kfs_call.specs.declared.state.ClientRow.{ClientRow}
 use Rattle.kfs_call.specs.declared.state.LeaseRow.{LeaseRow}
@@ -22,6 +23,12 @@ length_map f (x ∷ xs) = ap suc (length_map f xs)
 spelled_all : (listed : List ListedLease) → map (λ lease. spelled_lease (row_shown lease)) listed ≡ map spelled_lease (rows_shown listed)
 spelled_all [] = refl
 spelled_all (row ∷ rows) = ap (λ rest. spelled_lease (row_shown row) ∷ rest) (spelled_all rows)
+
+-- a state's bytes are those without the image, and then the image's
+pub image_behind_rows : (s : StateRows) (rows bytes : List ℕ) → rows ≡ state_bytes (record { moment = s.moment; clients = s.clients; leases = s.leases; image = [] }) → bytes ≡ rows ++ s.image → bytes ≡ state_bytes s
+image_behind_rows s rows bytes spelled behind =
+    let front = state_header (record { moment = s.moment; clients = length s.clients; leases = length s.leases }) ++ flat_map client_bytes s.clients ++ flat_map lease_bytes s.leases in
+    behind ∙ ap (λ text. text ++ s.image) (spelled ∙ append-nil front)
 
 pub read_all : (rows : List LeaseRow) → map (λ row. lease_of_row (lease_shown row)) rows ≡ map lease_of_row (map lease_shown rows)
 read_all [] = refl

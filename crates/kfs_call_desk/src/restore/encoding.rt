@@ -6,7 +6,7 @@ ghost use Rattle.kfs_call_desk.specs.Restore.Saved.{HasTooMany, IsSaved};
 use crate::restore::fault::EncodeFault;
 use crate::restore::rows::{client_rows, lease_rows, moment_in_range};
 use kfs_call::{StateRows, encode_state};
-use kfs_image::{Image, encode_image};
+use kfs_image::{Image, append_image};
 use kfs_lease::Leases;
 use kfs_mode::Client;
 use kfs_types::RowList;
@@ -16,8 +16,8 @@ use std::alloc::Allocator;
 /// to `image`, `clients` and `leases` makes the bytes of that desk's state. A state has one encoding: images in
 /// theirs, leases ascending by node and client, clients in their order.
 ///
-/// Image, rows and bytes take memory from `alloc`, each once and all before the first byte is written. Refused with
-/// `TooMany`, or with `OutOfMemory` where memory runs out. Nothing has changed then.
+/// Rows and bytes take memory from `alloc`; the bytes take theirs twice, for the rows and then for the image behind
+/// them. Refused with `TooMany`, or with `OutOfMemory` where memory runs out. Nothing has changed then.
 pub fn encode_desk<A: Allocator + Copy, B: Allocator + Copy>(
     alloc: B,
     image: &Image<A>,
@@ -33,12 +33,13 @@ pub fn encode_desk<A: Allocator + Copy, B: Allocator + Copy>(
     if clients.len() > u32::MAX as usize || rows.len() > u32::MAX as usize {
         return Err(EncodeFault::TooMany);
     }
-    let image = encode_image(alloc, image)?;
     let state = StateRows {
         moment: moment_in_range(leases.moment()),
         clients: RowList::from_vec(clients),
         leases: RowList::from_vec(rows),
-        image: image.as_slice(),
+        image: &[],
     };
-    Ok(encode_state(alloc, &state)?)
+    let mut bytes = encode_state(alloc, &state)?;
+    append_image(&mut bytes, image)?;
+    Ok(bytes)
 }

@@ -167,7 +167,7 @@ pub fn restore_asking<A: Allocator + Copy, T: AskRows>(
 /// can't be one; a lease can't be one; a client can't be beside an earlier one. `OutOfMemory` where memory runs out.
 /// No count of the bytes reserves anything before the rows that it counts were read.
 ///
-/// `restore` of `kfs_restore_threads` does the same in several threads.
+/// `restore` of `kfs_kept` does the same in several threads.
 pub fn restore_alone<A: Allocator + Copy>(
     alloc: A,
     bytes: &[u8],

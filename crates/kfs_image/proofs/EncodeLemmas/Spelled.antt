@@ -58,7 +58,7 @@ module _ (image : DeviceImage) (lawful : IsLawful image) where
   spelling_with h nodes = image_header h ++ flat_map raw_node_bytes (map raw_node nodes) ++ flat_map name_row_bytes (map name_row image.names.entries) ++ flat_map extent_bytes extents
 
   -- the four parts, written one behind the other
-  pub image_written : (h : ImageHeader) (first second third fourth last : List ℕ)
+  image_written : (h : ImageHeader) (first second third fourth last : List ℕ)
       → h ≡ record { version = latest_version; sizes = image.sizes; nodes = length image.heads.entries; names = length image.names.entries; extents = length (extents_of (shown_tree image) image.placement) }
       → first ≡ [] → second ≡ first ++ image_header h → third ≡ second ++ flat_map node_spelling image.heads.entries → fourth ≡ third ++ flat_map name_spelling image.names.entries
       → last ≡ fourth ++ flat_map extent_bytes (extents_of (shown_tree image) image.placement) → last ≡ image_bytes image
@@ -71,3 +71,23 @@ module _ (image : DeviceImage) (lawful : IsLawful image) where
       ∙ (λ i. image_header (head i) ++ flat_map-map raw_node_bytes raw_node image.heads.entries i ++ flat_map-map name_row_bytes name_row image.names.entries i ++ flat_map extent_bytes extents)
       ∙ ap (λ (t : Table numbers Header). spelling_with (header_for (length t.entries) (length image.names.entries) (length extents)) t.entries) (sym lawful.tree.counted)
       ∙ (λ i. spelling_with (header_for (sym (length-map (headers (shown_tree image)).entries raw_node) i) (sym (length-map image.names.entries name_row) i) (length extents)) (headers (shown_tree image)).entries)
+
+  -- the four parts behind another text
+  pub image_appended : (h : ImageHeader) (before first second third fourth last : List ℕ)
+      → h ≡ record { version = latest_version; sizes = image.sizes; nodes = length image.heads.entries; names = length image.names.entries; extents = length (extents_of (shown_tree image) image.placement) }
+      → first ≡ before → second ≡ first ++ image_header h → third ≡ second ++ flat_map node_spelling image.heads.entries → fourth ≡ third ++ flat_map name_spelling image.names.entries
+      → last ≡ fourth ++ flat_map extent_bytes (extents_of (shown_tree image) image.placement) → last ≡ before ++ image_bytes image
+  image_appended h before first second third fourth last head same headed noded named extended =
+      let nodes = flat_map node_spelling image.heads.entries in
+      let names = flat_map name_spelling image.names.entries in
+      let rows = flat_map extent_bytes (extents_of (shown_tree image) image.placement) in
+      let whole = image_written h [] (image_header h) (image_header h ++ nodes) (image_header h ++ nodes ++ names) (image_header h ++ nodes ++ names ++ rows) head refl refl refl refl refl in
+      let two = append_assoc first (image_header h) nodes in
+      let three = ap (λ text. text ++ names) two ∙ append_assoc first (image_header h ++ nodes) names in
+      let four = ap (λ text. text ++ rows) three ∙ append_assoc first (image_header h ++ nodes ++ names) rows in
+      extended
+      ∙ ap (λ text. text ++ rows) named
+      ∙ ap (λ text. text ++ names ++ rows) noded
+      ∙ ap (λ text. text ++ nodes ++ names ++ rows) headed
+      ∙ four
+      ∙ (λ i. same i ++ whole i)

@@ -1,5 +1,5 @@
 //! The encoding of an image.
-ghost use Rattle.std.specs.Prelude.{◌≡◌, IfOk};
+ghost use Rattle.std.specs.Prelude.{◌≡◌, ◌++◌, IfOk, OnOk};
 ghost use Rattle.kfs_model.specs.Device.ShownTree.{IsLawful};
 ghost use Rattle.kfs_model.specs.Device.Canonical.{image_bytes};
 
@@ -32,6 +32,20 @@ pub fn encode_image<A: Allocator, B: Allocator>(
 ) -> Result<Vec<u8, B>, AllocError>
     ensures { IfOk result (λ bytes. bytes.items ≡ image_bytes image.now) }
 {
+    let mut out = Vec::new(alloc);
+    append_image(&mut out, image)?;
+    Ok(out)
+}
+
+/// Writes the image as `encode_image` does, behind what `out` has.
+///
+/// All is counted first. Then `out` takes its room, once. `Err` where it is refused.
+pub fn append_image<A: Allocator, B: Allocator>(
+    out: &mut Vec<u8, B>,
+    image: &Image<A>,
+) -> Result<(), AllocError>
+    ensures { OnOk result (out.new.items ≡ out.old.items ++ image_bytes image.now) }
+{
     // Tells the prover that the image is lawful.
     let _shape = image.shape();
     let nodes = count_nodes(image)?;
@@ -41,7 +55,7 @@ pub fn encode_image<A: Allocator, B: Allocator>(
         .saturating_add(nodes.len)
         .saturating_add(names.len)
         .saturating_add(extents.len);
-    let mut out = Vec::with_capacity(alloc, len)?;
+    out.reserve_exact(len)?;
     let head = header::ImageHeader {
         version: LATEST_VERSION,
         sizes: sizes_of(image),
@@ -49,9 +63,9 @@ pub fn encode_image<A: Allocator, B: Allocator>(
         names: names.count,
         extents: extents.count,
     };
-    header::write(&mut out, head)?;
-    write_nodes(&mut out, image)?;
-    write_names(&mut out, image)?;
-    write_extents(&mut out, image)?;
-    Ok(out)
+    header::write(out, head)?;
+    write_nodes(out, image)?;
+    write_names(out, image)?;
+    write_extents(out, image)?;
+    Ok(())
 }

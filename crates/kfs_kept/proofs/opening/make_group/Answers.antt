@@ -1,5 +1,5 @@
 use Rattle.std.proofs.Common.{subst}
-use Rattle.kfs_kept_calls.specs.Again.{WantsRoom}
+use Rattle.kfs_kept.specs.Calls.Again.{WantsRoom}
 use Rattle.kfs_kept.proofs.opening.make_group.Goals as goal
 
 pub returns-in-Ok-clause-only : goal.returns-in-Ok-clause-only

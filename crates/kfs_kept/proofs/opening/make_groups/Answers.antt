@@ -2,7 +2,7 @@ use Rattle.std.proofs.Common.{rules, ◌+◌, ◌≤◌, length, drop, subst, sy
 use Rattle.std.proofs.lemmas.Result.{err_from_is_err_and}
 use Rattle.kfs_model.specs.Judgement.{State}
 use Rattle.kfs_journal.specs.Journal.{groups_of}
-use Rattle.kfs_kept_calls.specs.Leads.{GroupsLead}
+use Rattle.kfs_kept.specs.Calls.Leads.{GroupsLead}
 use Rattle.kfs_kept.proofs.Meant.{groups_so_far, next_group, none_left}
 use Rattle.kfs_kept.proofs.opening.make_groups.Goals as goal
 

@@ -2,7 +2,7 @@
 use Rattle.std.proofs.Common.{drop, take}
 use Rattle.kfs_model.specs.Judgement.{State}
 use Rattle.kfs_journal.specs.Journal.{groups_of}
-use Rattle.kfs_kept_calls.specs.Leads.{GroupsLead}
+use Rattle.kfs_kept.specs.Calls.Leads.{GroupsLead}
 use Rattle.kfs_kept.proofs.opening.make_groups.Given as goal
 
 abbrev pub invariant-loop-index : goal.invariant-loop-index

@@ -1,0 +1,120 @@
+//! Calls made, and written into a group with their answers.
+ghost use Rattle.std.specs.Prelude.{◌≡◌, [], ◌≤◌, ◌<◌, ◌^◌, ◌++◌, ◌+◌, All, List, length, drop, map, IfOk, IfSome, IsNone, OnOk};
+ghost use Rattle.std.specs.List.{sum_by};
+ghost use Rattle.kfs_call.specs.Call.{IsLong};
+ghost use Rattle.kfs_kept.specs.Calls.Making.{AreMade, IsNext, IsToldIn};
+
+use crate::calls::group::{KeptCall, push_call};
+use kfs_call::{AnswerRow, encode_answer};
+use kfs_call_desk::{CallFault, Called, call, told};
+use kfs_desk::Desk;
+use std::alloc::{AllocError, Allocator};
+
+/// The most bytes of a group: a journal has four bytes for its length.
+const MAX_GROUP: usize = (1 << 32) - 1;
+
+/// The most bytes of a group that a call takes beside its own: two lengths, and an answer without its position.
+const BESIDE_CALL: usize = 24;
+
+/// Calls that were made, and the group that keeps them.
+#[derive(Drop)]
+pub struct Made<B: Allocator> {
+    /// For each call its answer, or why it has none.
+    pub answers: Vec<Result<Called, CallFault>, B>,
+    /// The calls that were answered, with their answers.
+    pub group: Vec<u8, B>,
+}
+
+/// How many bytes the group of these calls has at most. None where that may be more than 4,294,967,295.
+pub fn room_for(calls: &[&[u8]]) -> Option<usize>
+    ensures short { IfSome result (λ _. All (λ c. length c.now < 2 ^ 32) calls.now) }
+    ensures long { IsNone result → 2 ^ 32 ≤ sum_by (λ c. length c.now + 24) calls.now }
+{
+    let mut total = 0usize;
+    for bytes in calls {
+        total = total
+            .saturating_add(bytes.len())
+            .saturating_add(BESIDE_CALL);
+        if total > MAX_GROUP {
+            return None;
+        }
+    }
+    Some(total)
+}
+
+impl<B: Allocator + Copy> Made<B> {
+    /// No calls so far, with room for so many answers and for so many bytes of a group.
+    pub fn with_room(alloc: B, answers: usize, room: usize) -> Result<Made<B>, AllocError>
+        ensures { IfOk result (λ made. (made.answers.items ≡ []) × (made.group.items ≡ [])) }
+    {
+        Ok(Made {
+            answers: Vec::with_capacity(alloc, answers)?,
+            group: Vec::with_capacity(alloc, room)?,
+        })
+    }
+
+    /// Makes the calls one after another, and writes those that are answered into the group.
+    ///
+    /// A call that isn't answered is as if it hadn't been handed in: it changes nothing, and isn't in the group.
+    /// `Err` where memory is refused for an answer's bytes: some of the calls are made then.
+    pub fn make_all<A: Allocator + Copy>(
+        &mut self,
+        alloc: B,
+        desk: &mut Desk<A>,
+        calls: &[&[u8]],
+    ) -> Result<(), AllocError>
+        requires long { All (λ c. length c.now < 2 ^ 32) calls.now }
+        requires none { (self.old.answers.items ≡ []) × (self.old.group.items ≡ []) }
+        ensures { OnOk result (AreMade desk.old (map (λ c. c.now) calls.now) self.new.answers.items self.new.group.items desk.new) }
+    {
+        for bytes in calls {
+            let answer = make_call(alloc, desk, bytes, &mut self.group)?;
+            self.answers.push(answer)?;
+        }
+        Ok(())
+    }
+}
+
+/// Makes a call, and appends it with its answer to the group.
+fn make_call<A: Allocator + Copy, B: Allocator + Copy>(
+    alloc: B,
+    desk: &mut Desk<A>,
+    bytes: &[u8],
+    group: &mut Vec<u8, B>,
+) -> Result<Result<Called, CallFault>, AllocError>
+    requires { IsLong bytes.now }
+    ensures { IfOk result (λ answer. IsNext desk.old bytes.now answer group.old.items group.new.items desk.new) }
+{
+    let answer = call(alloc, desk, bytes);
+    if let Ok(called) = &answer {
+        let row = answer_row(alloc, called)?;
+        let kept = KeptCall {
+            call: bytes,
+            answer: without_position(&row),
+        };
+        push_call(group, &kept)?;
+    }
+    Ok(answer)
+}
+
+/// An answer as bytes, at position 0.
+pub fn answer_row<B: Allocator>(alloc: B, called: &Called) -> Result<Vec<u8, B>, AllocError>
+    ensures long { IfOk result (λ row. 4 ≤ length row.items) }
+    ensures short { IfOk result (λ row. IsLong (drop 4 row.items)) }
+    ensures told { IfOk result (λ row. IsToldIn called.now (drop 4 row.items)) }
+{
+    let row = AnswerRow {
+        position: 0,
+        told: told(called),
+    };
+    let bytes = encode_answer(alloc, &row)?;
+    Ok(bytes)
+}
+
+/// What stands behind the position of an answer.
+pub fn without_position(row: &[u8]) -> &[u8]
+    requires { 4 ≤ length row.now }
+    ensures { result.now ≡ drop 4 row.now }
+{
+    &row[4..]
+}
