@@ -159,6 +159,18 @@ static void check_calls(struct kfs *desk, struct kfs *other)
         put_act(&due, &act, 4, 4, 8);
         check_answer(other, &call, &due, "a lease as bytes");
     }
+    for (uint32_t number = 5; number < 7; number++) {
+        /* one lease by number that is given, and one on no node */
+        struct bytes call = { .len = 0 }, due = { .len = 0 };
+        expect(kfs_lease_at(desk, 7, number, false, 300, &act), KFS_DONE, "a lease by number");
+        put(&call, 6, 1);
+        put(&call, 7, 4);
+        put(&call, 0, 1);
+        put(&call, 300, 8);
+        put(&call, number, 4);
+        put_act(&due, &act, 4, 4, 8);
+        check_answer(other, &call, &due, "a lease by number as bytes");
+    }
     for (int round = 0; round < 2; round++) {
         struct bytes call = { .len = 0 }, due = { .len = 0 };
         expect(kfs_drop(desk, 7, 5, &act), KFS_DONE, "a drop");
@@ -211,7 +223,7 @@ static void check_unanswered(struct kfs *desk)
     expect(fault.code == KFS_CALL_TRAILING && fault.index == 0, 1, "its fault");
     expect(kfs_call(&none, tick, 9, answer, sizeof answer, &len, &fault), KFS_CLOSED, "a call of nothing");
     expect(kfs_docket_len(desk, &rows), KFS_DONE, "the docket");
-    expect(rows, 10, "its rows");
+    expect(rows, 12, "its rows");
     expect(kfs_call(desk, tick, 9, answer, sizeof answer, &len, &fault), KFS_DONE, "the last row");
     expect(kfs_call(desk, tick, 8, answer, 0, &len, &fault), KFS_FULL, "a full docket");
 }
@@ -230,8 +242,8 @@ int main(void)
     expect(kfs_lease(&desk, 7, (const uint8_t *)"/", 1, true, 100, &act), KFS_DONE, "a lease of the root");
     bytes = state_of(&desk, &len);
     /* both go on from the state, since the first desk's docket is full */
-    expect(kfs_restore(&again, bytes, len, 11, &fault), KFS_DONE, "a desk that goes on");
-    expect(kfs_restore(&other, bytes, len, 11, &fault), KFS_DONE, "another one");
+    expect(kfs_restore(&again, bytes, len, 13, &fault), KFS_DONE, "a desk that goes on");
+    expect(kfs_restore(&other, bytes, len, 13, &fault), KFS_DONE, "another one");
     check_same_state(&desk, &other);
     check_refusals(&other, bytes, len);
     check_calls(&again, &other);

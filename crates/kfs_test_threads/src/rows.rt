@@ -236,3 +236,31 @@ fn a_verdict_is_judged_again_after_a_drop(rt: HostRuntime) {
     let answers = judged_before_a_drop(&rt, rt.alloc());
     assert!(rt; answers == Some((dropped, no, leased, 6, 6)));
 }
+
+// ---- a lease by number
+
+const LEASED_AT: Act<'static> = Act::LeaseAt {
+    client: 7,
+    number: 5,
+    kind: LeaseKind::Read,
+    end: 200,
+};
+
+/// The answer to a lease by number through a second pass, and how many rows the docket has.
+fn leased_at<R: Threads + Wait + Sync>(rt: &R, alloc: Global) -> Option<(ActReply, u32)> {
+    let desk = with_file(alloc)?;
+    let (shared, p) = shared(alloc, desk)?;
+    let (p, q) = split(&shared, p);
+    let ((_, p), (leasing, _)) = both(rt, &shared, Resting, p, Acting::new(LEASED_AT), q);
+    let rows = closed(shared, p)?;
+    Some((leasing.answer?.ok()?, rows))
+}
+
+#[test]
+fn a_lease_by_number_is_a_row(rt: HostRuntime) {
+    let leased = ActReply {
+        position: 3,
+        answer: Ok(Done::Leased(5)),
+    };
+    assert!(rt; leased_at(&rt, rt.alloc()) == Some((leased, 4)));
+}

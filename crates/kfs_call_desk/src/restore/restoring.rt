@@ -24,7 +24,7 @@ use kfs_shape::{AskRows, InTurn, ShapeFault, check_asking};
 use std::alloc::Allocator;
 
 /// The image of rows, if they break no rule.
-#[tactic(auto, using(crate::proofs::ReadFaults::rule_refused))]
+#[tactic(auto, using(crate::proofs::RestoreLemmas::ReadFaults::rule_refused))]
 fn image_from<A: Allocator + Copy, T: AskRows>(
     ask: &T,
     alloc: A,

@@ -17,6 +17,6 @@ returns-clause-saved g c =
     let image = image_bytes c.args.image.now in
     let spelled = c.in_ok-bytes.ensures ∙ (λ i. state_bytes (record { moment = moment; clients = map client_shown (c.from_vec.ensures i); leases = map lease_shown (c.from_vec-2.ensures i); image = [] })) in
     encoded c.args.image.now c.args.clients.now c.args.leases.now listed c.in_ok-listed.ensures.ascend c.in_ok-listed.ensures.same rows c.in_ok-clients.ensures.rows c.in_ok-clients.ensures.fit written written_is c.in_ok-rows.ensures.fit
-    moment image c.in_ok-append_image.new.out.items (c.moment_in_range.ensures.same ∙ c.moment.ensures) (rw c.moment_in_range.ensures.same c.moment_in_range.ensures.fits) refl
+    moment image c.append_image.new.out.items (c.moment_in_range.ensures.same ∙ c.moment.ensures) (rw c.moment_in_range.ensures.same c.moment_in_range.ensures.fits) refl
     (omega (arith, c.if-len.false, c.len.ensures)) (omega (arith, c.if-len-2.false, c.len-else-len.ensures))
-    (image_behind_rows (record { moment = moment; clients = map client_shown rows; leases = map lease_shown written; image = image }) c.in_ok-bytes.bytes.items c.in_ok-append_image.new.out.items spelled c.in_ok-append_image.ensures)
+    (image_behind_rows (record { moment = moment; clients = map client_shown rows; leases = map lease_shown written; image = image }) c.in_ok-bytes.bytes.items c.append_image.new.out.items spelled c.in_ok-append_image.ensures)
