@@ -208,14 +208,11 @@ fn open_end(rt: &(impl Threads + AllocGlobal + Sync), files: &Left, growth: u64)
     let heap = Refusing::new(rt.alloc(), growth);
     let opened = Kept::open(rt, &heap, disk, &files.first, &files.second, LIMIT);
     let has_refused = heap.has_refused();
+    heap.refuse_after(AMPLE);
     match opened {
         Ok(kept) => {
-            let end = if has_refused {
-                End::Answered
-            } else {
-                End::Ample
-            };
-            stands(rt, &kept, &files.state)?.then_some(end)
+            let is_right = stands(rt, &kept, &files.state)?;
+            (is_right && !has_refused).then_some(End::Ample)
         }
         Err(back) => {
             let is_told = has_refused && back.why == OpenFault::OutOfMemory;
