@@ -219,8 +219,8 @@ fn write_once<R: AllocGlobal + Threads + Sync>(
     }
 }
 
-/// Runs a small script with each write failing in turn, with each write taking no byte in turn, and once with its writes counted. If it is a session, each read
-/// fails in turn, too.
+/// Runs a small script with each write failing in turn, with each taking no byte, and once with its writes counted. If
+/// it is a session, each read fails in turn, too.
 pub fn run_with_failures<R: AllocGlobal + Threads + Sync>(
     rt: &R,
     case: &Case,

@@ -86,9 +86,7 @@ pub mod call {
 
 /// A desk whose answers outlive a crash, and a desk from the bytes of a state in several threads.
 pub mod kept {
-    pub use kfs_kept::{
-        CallsFault, CreateBack, Kept, OpenBack, OpenFault, SaveFault, restore,
-    };
+    pub use kfs_kept::{CallsFault, CreateBack, Kept, OpenBack, OpenFault, SaveFault, restore};
 }
 
 /// Workers, scripts of their steps, and a desk that threads share.
