@@ -89,7 +89,7 @@ fn bytes_and_methods_are_answered_alike(rt: HostRuntime) {
     let mut one = opened(alloc).expect(&rt, "memory");
     let mut other = opened(alloc).expect(&rt, "memory");
     let bad = CallFault::BadCall(FieldFault::BadField(0));
-    assert!(&rt; is_unanswered(alloc, &mut one, b"\x06", bad));
+    assert!(&rt; is_unanswered(alloc, &mut one, b"\x07", bad));
     let submit = by_bytes(alloc, &mut one, crate::calls::SUBMIT);
     assert!(&rt; are_same(submit, submitted(&mut other)));
     let lease = by_bytes(alloc, &mut one, crate::calls::LEASE);

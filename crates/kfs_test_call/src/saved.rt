@@ -190,7 +190,7 @@ fn is_run_as_told(alloc: Global) -> Option<bool> {
             _ => (),
         }
     }
-    Some(landed == 2 && refused == 4)
+    Some(landed == 2 && refused == 7)
 }
 
 #[test]
