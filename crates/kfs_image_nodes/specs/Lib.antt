@@ -1,5 +1,6 @@
 pub mod Change
 pub mod Contents
+pub mod HeaderEdits
 pub mod Indexes
 pub mod Look
 pub mod NameEdits

@@ -1,9 +1,10 @@
 //! The changes of headers that node rows make.
-ghost use Rattle.std.specs.Prelude.{◌≡◌, ℕ, Option, IfOk, IfSome, map};
+ghost use Rattle.std.specs.Prelude.{◌≡◌, ◌∷◌, [], ℕ, Option, IfOk, IfSome, map};
 ghost use Rattle.std.specs.Ordering.{nat_cmp};
 ghost use Rattle.std.specs.BTreeMap.{get};
 ghost use Rattle.kfs_maps.specs.Pages.Edits.{edited, AreEdits};
 ghost use Rattle.kfs_image_nodes.specs.NodeEdits.{left_by, node_edit, AreHeaderEdits, IsNumber};
+ghost use Rattle.kfs_image_nodes.specs.HeaderEdits.{header_edits_in};
 ghost use Rattle.kfs_maps.specs.Chunks.Overlays.{said_or};
 
 use crate::name_edits::number_edits;
@@ -17,19 +18,38 @@ use std::marker::Model;
 #[derive(Drop)]
 pub struct NodeChanges<'a, A: Allocator> {
     rows: &'a [NodeRow],
-    edits: Vec<NumberEdit<Header>, A>,
+    edits: HeaderEdits<A>,
+}
+
+/// New headers, ascending by number. Most logs make one, which takes no memory.
+#[derive(Drop)]
+enum HeaderEdits<A: Allocator> {
+    One([NumberEdit<Header>; 1]),
+    All(Vec<NumberEdit<Header>, A>),
+}
+
+impl<A: Allocator> HeaderEdits<A> {
+    fn as_slice(&self) -> &[NumberEdit<Header>]
+        ensures { result.now ≡ header_edits_in self.now }
+    {
+        match self {
+            HeaderEdits::One(edit) => edit,
+            HeaderEdits::All(edits) => edits.as_slice(),
+        }
+    }
 }
 
 impl<'a, A: Allocator> Model for NodeChanges<'a, A> {
     ghost use Rattle.std.specs.Prelude.{List};
     ghost use Rattle.kfs_types.specs.declared.plan.NodeRow.{NodeRow};
     ghost use Rattle.kfs_image_nodes.specs.NodeEdits.{AreHeaderEdits};
+    ghost use Rattle.kfs_image_nodes.specs.HeaderEdits.{header_edits_in};
 
     ghost Value = { List NodeRow };
 
     ghost view = { λ n. n.rows.now };
 
-    ghost invariant = { λ n. AreHeaderEdits n.rows.now n.edits.items };
+    ghost invariant = { λ n. AreHeaderEdits n.rows.now (header_edits_in n.edits) };
 }
 
 impl<'a, A: Allocator + Clone> NodeChanges<'a, A> {
@@ -37,7 +57,11 @@ impl<'a, A: Allocator + Clone> NodeChanges<'a, A> {
     pub fn of(alloc: &A, rows: &'a [NodeRow]) -> Result<NodeChanges<'a, A>, AllocError>
         ensures { IfOk result (λ edits. edits ≡ rows.now) }
     {
-        let edits = header_edits(alloc, rows)?;
+        if let Some(edit) = one_edit(rows) {
+            let edits = HeaderEdits::One([edit]);
+            return Ok(NodeChanges { rows, edits });
+        }
+        let edits = HeaderEdits::All(header_edits(alloc, rows)?);
         Ok(NodeChanges { rows, edits })
     }
 }
@@ -85,6 +109,22 @@ fn by_rows(rows: &[NodeRow], number: u32, before: Option<Header>) -> Option<Head
         }
     }
     found
+}
+
+/// The edit that the rows make, if there is one row, of a number that a node can have.
+fn one_edit(rows: &[NodeRow]) -> Option<NumberEdit<Header>>
+    ensures { IfSome result (λ edit. AreHeaderEdits rows.now (edit ∷ [])) }
+{
+    let [row] = rows else {
+        return None;
+    };
+    if row.number == 0 || GREATEST_NUMBER < row.number {
+        return None;
+    }
+    Some(NumberEdit {
+        number: row.number,
+        value: row.now,
+    })
 }
 
 /// The new headers that the rows make, row after row, ascending by number. Rows with numbers that no

@@ -31,6 +31,8 @@ use std::ops::Bound;
 #[derive(Drop)]
 pub struct Shape<A: Allocator> {
     rows: NodeTables<A>,
+    /// Where the last name was changed. It only makes look-ups faster.
+    near: Near,
 }
 
 impl<A: Allocator> Model for Shape<A> {
@@ -50,6 +52,7 @@ impl<A: Allocator + Clone> Clone for Shape<A> {
     fn clone(&self) -> Result<Shape<A>, AllocError> {
         Ok(Shape {
             rows: self.rows.clone()?,
+            near: self.near,
         })
     }
 }
@@ -67,7 +70,8 @@ pub fn look<A: Allocator>(shape: &Shape<A>, cell: &Cell) -> Answer
 }
 
 impl<A: Allocator> Shape<A> {
-    fn header(&self, number: u32) -> Option<Header>
+    /// The header of a node: what `look` answers, without a cell. Takes no memory.
+    pub fn header(&self, number: u32) -> Option<Header>
         ensures { option_map header_of result ≡ get self.now.heads number }
     {
         self.rows.header(number)
@@ -87,6 +91,11 @@ impl<A: Allocator> Shape<A> {
         ensures { result ≡ target self.now.names key.now.0 key.now.1 }
     {
         self.rows.target_near(near, key)
+    }
+
+    /// Where the last name was changed: a place to begin with for `target_near`. Takes no memory.
+    pub fn near(&self) -> Near {
+        self.near
     }
 
     /// The page with this index, or none where none of its 64 numbers is a node. Number n, from 1 on,
@@ -157,7 +166,10 @@ impl<A: Allocator + Clone> Shape<A> {
             size: 0,
         };
         let rows = NodeTables::with_node(alloc, ROOT, root)?;
-        Ok(Shape { rows })
+        Ok(Shape {
+            rows,
+            near: Near::start(),
+        })
     }
 
     /// The nodes with these headers, and the names of rows that ascend. Conditions: each name is one, and
@@ -174,7 +186,10 @@ impl<A: Allocator + Clone> Shape<A> {
         ensures { IfOk result (λ shape. shape ≡ record { heads = heads_of headers; names = table name_order (name_entries names.now) }) }
     {
         let rows = NodeTables::of_rows(alloc, headers, names)?;
-        Ok(Shape { rows })
+        Ok(Shape {
+            rows,
+            near: Near::start(),
+        })
     }
 
     /// Makes the rows' changes, together with another change. All memory is taken first. `Err` where it
@@ -195,6 +210,6 @@ impl<A: Allocator + Clone> Shape<A> {
         ensures made { OnOk result (T.made then.old then.new) }
         ensures kept { OnErr result (T.kept then.old then.new) }
     {
-        self.rows.apply(alloc, names, nodes, then)
+        self.rows.apply(alloc, &mut self.near, names, nodes, then)
     }
 }

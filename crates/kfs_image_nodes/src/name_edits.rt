@@ -37,6 +37,7 @@ pub(crate) fn name_edits<A: Allocator + Clone>(
     names: &Chunks<(u32, Name), u32, A>,
     counts: &Pages<u64, A>,
     uplinks: &Chunks<(u32, u32), u64, A>,
+    near: &mut Near,
     rows: &[NameRow],
 ) -> Result<NameEdits<A>, AllocError>
     requires { IsCounted (table name_order names.now) counts.now (table by_node uplinks.now) }
@@ -45,7 +46,7 @@ pub(crate) fn name_edits<A: Allocator + Clone>(
     let Some(edits) = rows_in_order(alloc, rows)? else {
         return edits_of_all(alloc, names, counts, uplinks, rows);
     };
-    let CountEdits { counts, uplinks } = count_edits(alloc, names, counts, uplinks, &edits)?;
+    let CountEdits { counts, uplinks } = count_edits(alloc, names, counts, uplinks, near, &edits)?;
     Ok(NameEdits {
         names: edits,
         counts,
@@ -76,6 +77,7 @@ fn count_edits<A: Allocator + Clone>(
     names: &Chunks<(u32, Name), u32, A>,
     counts: &Pages<u64, A>,
     uplinks: &Chunks<(u32, u32), u64, A>,
+    near: &mut Near,
     edits: &[KeyEdit<(u32, Name), u32>],
 ) -> Result<CountEdits<A>, AllocError>
     requires counted { IsCounted (table name_order names.now) counts.now (table by_node uplinks.now) }
@@ -83,7 +85,7 @@ fn count_edits<A: Allocator + Clone>(
     ensures { IfOk result (AreCountEdits names.now counts.now uplinks.now edits.now) }
 {
     if let [edit] = edits {
-        let from = names.get(&edit.key).copied();
+        let from = names.get_near(near, &edit.key).copied();
         if let Some(made) = edits_of_one(alloc, counts, uplinks, edit.key.0, from, edit.value)? {
             return Ok(made);
         }

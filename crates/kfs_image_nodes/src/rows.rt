@@ -264,10 +264,12 @@ impl<A: Allocator + Clone> NodeTables<A> {
     }
 
     /// Makes the rows' changes, together with another change. All memory is taken first; where it is
-    /// refused, neither change is made, and the tables stay as they are.
+    /// refused, neither change is made, and the tables stay as they are. A name is found faster where it
+    /// is near the last one; `near` becomes the place of this one.
     pub(crate) fn apply<T: Change>(
         &mut self,
         alloc: &A,
+        near: &mut Near,
         names: &[NameRow],
         nodes: &NodeChanges<'_, A>,
         then: &mut T,
@@ -283,7 +285,7 @@ impl<A: Allocator + Clone> NodeTables<A> {
         ensures made { OnOk result (T.made then.old then.new) }
         ensures kept { OnErr result (T.kept then.old then.new) }
     {
-        let edits = name_edits(alloc, &self.names, &self.counts, &self.uplinks, names)?;
+        let edits = name_edits(alloc, &self.names, &self.counts, &self.uplinks, near, names)?;
         self.change(nodes.headers(), &edits, then)
     }
 }

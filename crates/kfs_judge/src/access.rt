@@ -9,7 +9,7 @@ ghost use Rattle.kfs_mode.specs.Mode.{want_shown};
 ghost use Rattle.kfs_model.specs.Access as access;
 
 use crate::check::View;
-use kfs_image_nodes::{Answer, Cell, Header, Kind};
+use kfs_image_nodes::{Header, Kind};
 use kfs_mode::{Client, Want, may};
 use std::alloc::Allocator;
 use thiserror::Error;
@@ -79,16 +79,6 @@ impl<A: Allocator + Copy> View<A> {
         ensures { result ≡ permitted_by_view self.now access client number }
     {
         permission(self.client(client), self.header(number), access)
-    }
-
-    /// The header of the node with this number, or none.
-    fn header(&self, number: u32) -> Option<Header>
-        ensures { option_map header_of result ≡ get (contents_of self.now).heads number }
-    {
-        match self.look(&Cell::Header(number)) {
-            Answer::Header(header) => header,
-            _ => None,
-        }
     }
 }
 

@@ -45,15 +45,14 @@ pub fn judge<A: Allocator + Copy>(
     let (log, plan) = (submission.log.as_slice(), submission.plan.as_slice());
     let found = find(alloc, view, submission.client, log, plan, Keeping::Reads);
     match found {
-        Ok(finding) => {
-            let VerdictParts {
-                client,
-                reads,
-                outcome,
-            } = finding;
-            let reads = reads.into_map().unwrap();
-            Ok(Judged::of(submission, client, reads, outcome))
-        }
+        Ok(finding) => match client_row(view, submission.client) {
+            Ok(client) => {
+                let VerdictParts { reads, outcome } = finding;
+                let reads = reads.into_map().unwrap();
+                Ok(Judged::of(submission, client, reads, outcome))
+            }
+            Err(why) => Err(Back { submission, why }),
+        },
         Err(why) => Err(Back { submission, why }),
     }
 }
@@ -77,24 +76,32 @@ pub fn judge_bytes<A: Allocator + Copy>(
     Ok(parts.outcome)
 }
 
-/// The parts of a verdict, without the submission.
+/// A copy of the view's row of the client with this number, or none.
+fn client_row<A: Allocator + Copy>(view: &View<A>, number: u32) -> Result<Option<Client>, Why>
+    ensures row { IfOk result (λ row. row ≡ row_of (clients_of view.now) number) }
+    ensures memory { IfErr result (λ why. why ≡ Why.OutOfMemory) }
+{
+    match view.client(number) {
+        Some(client) => Ok(Some(copied(client)?)),
+        None => Ok(None),
+    }
+}
+
+/// The parts of a verdict, without the submission and its client.
 #[derive(Drop)]
 struct VerdictParts<A: Allocator> {
-    client: Option<Client>,
     reads: Reads<A>,
     outcome: Outcome<A>,
 }
 
 impl<A: Allocator + Copy> VerdictParts<A> {
     /// A fault found before the entries were looked at: nothing was read.
-    fn unread(alloc: A, keeping: Keeping, client: Option<Client>, fault: Fault) -> VerdictParts<A>
-        ensures client { result.client ≡ client }
+    fn unread(alloc: A, keeping: Keeping, fault: Fault) -> VerdictParts<A>
         ensures reads { result.reads.entries ≡ [] }
         ensures keeps { result.reads.keeps ≡ keeps_reads keeping }
         ensures outcome { result.outcome ≡ Outcome.No fault }
     {
         VerdictParts {
-            client,
             reads: Reads::new(alloc, keeping),
             outcome: Outcome::No(fault),
         }
@@ -111,8 +118,7 @@ fn find<A: Allocator + Copy>(
     keeping: Keeping,
 ) -> Result<VerdictParts<A>, Why>
     ensures keeps { IfOk result (λ f. f.reads.keeps ≡ keeps_reads keeping) }
-    ensures client { IfOk result (λ f. f.client ≡ row_of (clients_of view.now) number) }
-    ensures known { IfOk result (λ f. (s : State) → AgreesWithReads s number f.client f.reads.entries → IsVerdict s (submission_with number log.now plan.now) f.outcome) }
+    ensures known { IfOk result (λ f. (s : State) → AgreesWithReads s number (row_of (clients_of view.now) number) f.reads.entries → IsVerdict s (submission_with number log.now plan.now) f.outcome) }
     ensures view_agrees { IfOk result (λ f. Agrees f.reads.entries (client_sight_in view.now number)) }
     ensures among { IfOk result (λ f. AreLooked view.now (submission_with number log.now plan.now) f.outcome f.reads.entries) }
     ensures fault { IfOk result (λ f. RefusesByFault f.outcome) }
@@ -120,14 +126,13 @@ fn find<A: Allocator + Copy>(
 {
     let Some(client) = view.client(number) else {
         let fault = Fault::UnknownClient;
-        return Ok(VerdictParts::unread(alloc, keeping, None, fault));
+        return Ok(VerdictParts::unread(alloc, keeping, fault));
     };
-    let row = Some(copied(client)?);
     match read_submission(alloc, client.number(), log, plan)? {
-        Spelled::No(fault) => Ok(VerdictParts::unread(alloc, keeping, row, fault)),
+        Spelled::No(fault) => Ok(VerdictParts::unread(alloc, keeping, fault)),
         Spelled::Yes(log, plan) => {
             let walk = judge_entries_keeping(alloc, view, &log, keeping)?;
-            let finding = settle(alloc, row, log, plan, walk)?;
+            let finding = settle(alloc, log, plan, walk)?;
             Ok(finding)
         }
     }
@@ -143,7 +148,6 @@ fn copied(client: &Client) -> Result<Client, AllocError>
 /// lead to.
 fn settle<A: Allocator + Copy>(
     alloc: A,
-    client: Option<Client>,
     log: Log<A>,
     plan: Plan<A>,
     walk: Walk<A>,
@@ -151,7 +155,6 @@ fn settle<A: Allocator + Copy>(
     requires sizes { HasOrderedSizes walk }
     requires spans { AllByRecursion IsSpanned log.entries }
     requires count { length log.entries ≤ entry_limit }
-    ensures client { IfOk result (λ f. f.client ≡ client) }
     ensures reads { IfOk result (λ f. f.reads ≡ walk.reads) }
     ensures outcome { IfOk result (λ f. OutcomeIsSettled log plan walk.sizes.items walk.outcome f.outcome) }
     ensures memory { IfErr result (λ why. why ≡ Why.OutOfMemory) }
@@ -174,11 +177,7 @@ fn settle<A: Allocator + Copy>(
             Err(fault) => Outcome::No(Fault::Row(fault)),
         },
     };
-    Ok(VerdictParts {
-        client,
-        reads,
-        outcome,
-    })
+    Ok(VerdictParts { reads, outcome })
 }
 
 /// What the bytes of a submission decode to.

@@ -59,7 +59,7 @@ impl<'a, A: Allocator + Copy> Recorder<'a, A> {
             view,
             client,
             reads,
-            near: Near::start(),
+            near: view.near(),
             climbs: Climbs::new(alloc),
         }
     }
@@ -109,7 +109,22 @@ impl<'a, A: Allocator + Copy> Recorder<'a, A> {
     pub fn header(&mut self, number: u32) -> Result<Option<Header>, AllocError>
         ensures { LooksAtHeader self.old self.new result number (λ header before. before.sight.head number ≡ option_map header_of header) }
     {
-        let answer = self.read(Read::Look(Cell::Header(number)))?;
+        if self.reads.are_kept() {
+            return self.header_kept(number);
+        }
+        let header = self.view.header(number);
+        let seen = Read::Look(Cell::Header(number));
+        self.reads
+            .see(&seen, &ReadAnswer::Look(Answer::Header(header)));
+        Ok(header)
+    }
+
+    /// The same, where reads are kept.
+    #[inline(never)]
+    fn header_kept(&mut self, number: u32) -> Result<Option<Header>, AllocError>
+        ensures { LooksAtHeader self.old self.new result number (λ header before. before.sight.head number ≡ option_map header_of header) }
+    {
+        let answer = self.read_kept(Read::Look(Cell::Header(number)))?;
         Ok(header_in(answer))
     }
 

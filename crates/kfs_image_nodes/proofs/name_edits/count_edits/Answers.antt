@@ -14,19 +14,19 @@ pub edits_of_one-requires-clause-counts : goal.edits_of_one-requires-clause-coun
 edits_of_one-requires-clause-counts g c = λ n is.
     let key = c.edit-item.result.key in
     let names = c.args.names.now in
-    (counted_name (table name_order names) c.args.counts.now (table by_node c.args.uplinks.now) c.requires.counted key.0 key.1 n (get-table name_order names key ∙ sym (c.copied-from.ensures ∙ c.get.ensures) ∙ is)).0
+    (counted_name (table name_order names) c.args.counts.now (table by_node c.args.uplinks.now) c.requires.counted key.0 key.1 n (get-table name_order names key ∙ sym (c.copied-from.ensures ∙ c.get_near.ensures) ∙ is)).0
 
 pub edits_of_one-requires-clause-uplinks : goal.edits_of_one-requires-clause-uplinks
 edits_of_one-requires-clause-uplinks g c = λ n is.
     let key = c.edit-item.result.key in
     let names = c.args.names.now in
-    (counted_name (table name_order names) c.args.counts.now (table by_node c.args.uplinks.now) c.requires.counted key.0 key.1 n (get-table name_order names key ∙ sym (c.copied-from.ensures ∙ c.get.ensures) ∙ is)).1
+    (counted_name (table name_order names) c.args.counts.now (table by_node c.args.uplinks.now) c.requires.counted key.0 key.1 n (get-table name_order names key ∙ sym (c.copied-from.ensures ∙ c.get_near.ensures) ∙ is)).1
 
 pub returns-in-Some : goal.returns-in-Some
 returns-in-Some g c =
     let e = c.edit-item.result in
     counted_once c.args.names.now c.args.counts.now c.args.uplinks.now c.args.edits.now e c.copied-from.result c.in-Some.made c.requires.counted c.in-len1.len_at_least c.in-len1.len_below c.edit-item.is
-    (c.copied-from.ensures ∙ c.get.ensures)
+    (c.copied-from.ensures ∙ c.get_near.ensures)
     (subst (λ made. IfSome made (AreMovedBy c.args.counts.now c.args.uplinks.now e.key.0 c.copied-from.result e.value)) c.in-Some.is c.in_ok-made.ensures)
 
 pub returns : goal.returns

@@ -3,12 +3,14 @@ ghost use Rattle.std.specs.Prelude.{◌≡◌};
 ghost use Rattle.std.specs.Option.{option_map};
 ghost use Rattle.kfs_image_nodes.specs.Look.{IsAnswer};
 ghost use Rattle.kfs_model.specs.Lease.{holds, row_of};
+ghost use Rattle.kfs_model.specs.Table.{get};
 ghost use Rattle.kfs_model.specs.Tree.{target};
+ghost use Rattle.kfs_types.specs.Views.{header_of};
 ghost use Rattle.kfs_mode.specs.Clients.{ClientsAreDistinct};
 ghost use Rattle.kfs_judge.specs.Check.View.{contents_of, leases_of, clients_of};
 
 use crate::check::view::View;
-use kfs_image_nodes::{Answer, Cell, Name, Near, Shape, look};
+use kfs_image_nodes::{Answer, Cell, Header, Name, Near, Shape, look};
 use kfs_lease::Leases;
 use kfs_mode::{Client, find_client};
 use std::alloc::Allocator;
@@ -41,6 +43,13 @@ impl<A: Allocator + Copy> View<A> {
         find_client(self.clients.as_slice(), number)
     }
 
+    /// The header of a node, or none. Takes no memory.
+    pub(crate) fn header(&self, number: u32) -> Option<Header>
+        ensures { option_map header_of result ≡ get (contents_of self.now).heads number }
+    {
+        self.shape.header(number)
+    }
+
     /// The answer at a cell. Takes no memory.
     pub fn look(&self, cell: &Cell) -> Answer
         ensures { IsAnswer (contents_of self.now) cell.now result }
@@ -55,6 +64,11 @@ impl<A: Allocator + Copy> View<A> {
         ensures { result ≡ target (contents_of self.now).names key.now.0 key.now.1 }
     {
         self.shape.target_near(near, key)
+    }
+
+    /// Where the last name of the view was changed: a place to begin with for `target_near`.
+    pub(crate) fn near(&self) -> Near {
+        self.shape.near()
     }
 
     /// Whether the client holds a live write lease on the node; false where there is no such client or

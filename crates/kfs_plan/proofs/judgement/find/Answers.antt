@@ -18,15 +18,12 @@ use Rattle.kfs_entry.proofs.Ranges.{entries_fit}
 use Rattle.kfs_plan.proofs.Verdicts.{unknown_client, walked_verdict, nothing_read, unread_looked, settled_is_fault, settled_looked}
 use Rattle.kfs_plan.proofs.judgement.find.Goals as goal
 
-pub returns-in_default-clause-client : goal.returns-in_default-clause-client
-returns-in_default-clause-client g c = c.unread.ensures.client ∙ sym (sym c.client.ensures ∙ ap (option_map (λ r. r.now)) c.in_default.is)
-
 pub returns-in_default-clause-known : goal.returns-in_default-clause-known
 returns-in_default-clause-known g c s alike =
     let log : IsBytes c.args.log.now = λ i. omega (arith, c.type_inv.log i) in
     let plan : IsBytes c.args.plan.now = λ i. omega (arith, c.type_inv.plan i) in
     subst (λ o. IsVerdict {A = g.row.A.Denot} s (submission_with c.args.number c.args.log.now c.args.plan.now) o) (sym c.unread.ensures.outcome)
-    (unknown_client g.row.A.Denot s (submission_with c.args.number c.args.log.now c.args.plan.now) log plan (alike.row ∙ c.unread.ensures.client))
+    (unknown_client g.row.A.Denot s (submission_with c.args.number c.args.log.now c.args.plan.now) log plan (alike.row ∙ (sym c.client.ensures ∙ ap (option_map (λ r. r.now)) c.in_default.is)))
 
 pub returns-in-No-clause-known : goal.returns-in-No-clause-known
 returns-in-No-clause-known g c s alike =
@@ -35,7 +32,7 @@ returns-in-No-clause-known g c s alike =
     let read = subst (λ r. IsReading {A = g.row.A.Denot} (submission_with c.number.result c.args.log.now c.args.plan.now) r) c.in-No.is c.in_ok-fault.ensures.read in
     let own = subst (λ n. IsReading {A = g.row.A.Denot} (submission_with n c.args.log.now c.args.plan.now) (readings.No c.in-No.fault)) same read in
     subst (λ o. IsVerdict {A = g.row.A.Denot} s (submission_with c.args.number c.args.log.now c.args.plan.now) o) (sym c.unread-in-No.ensures.outcome)
-    (own s c.in_ok-copied.field-0 (alike.row ∙ c.unread-in-No.ensures.client))
+    (own s c.in-Some.client.now (alike.row ∙ row))
 
 pub judge_entries_keeping-requires-clause-client : goal.judge_entries_keeping-requires-clause-client
 judge_entries_keeping-requires-clause-client g c =
@@ -63,8 +60,8 @@ returns-in_ok-finding-in-Yes-clause-known g c s alike =
     let spelled = subst (λ n. AreSpelled {A = g.row.A.Denot} (submission_with n c.args.log.now c.args.plan.now) c.in-Yes.log c.in-Yes.plan) same read in
     let known = c.in_ok-walk-in-Yes.ensures.known in
     let this = some_is c.in-Some.client.now known.0 (sym row ∙ ap (row_of clients) (sym spelled.owner) ∙ known.1) in
-    walked_verdict g.row.A.Denot s (submission_with c.args.number c.args.log.now c.args.plan.now) known.0 c.in_ok-finding-in-Yes.finding.client c.in-Yes.log c.in-Yes.plan c.in_ok-walk-in-Yes.walk c.in_ok-finding-in-Yes.finding.reads.entries c.in_ok-finding-in-Yes.finding.outcome
-    spelled (subst IsClient this c.number.ensures.in_range) (c.in_ok-finding-in-Yes.ensures.client ∙ ap Some (c.in_ok-copied.ensures ∙ this)) (ap (λ r. r.entries) c.in_ok-finding-in-Yes.ensures.reads) known.2 c.in_ok-finding-in-Yes.ensures.outcome alike
+    walked_verdict g.row.A.Denot s (submission_with c.args.number c.args.log.now c.args.plan.now) known.0 (row_of clients c.args.number) c.in-Yes.log c.in-Yes.plan c.in_ok-walk-in-Yes.walk c.in_ok-finding-in-Yes.finding.reads.entries c.in_ok-finding-in-Yes.finding.outcome
+    spelled (subst IsClient this c.number.ensures.in_range) (row ∙ ap Some this) (ap (λ r. r.entries) c.in_ok-finding-in-Yes.ensures.reads) known.2 c.in_ok-finding-in-Yes.ensures.outcome alike
 
 pub returns-in_default-clause-view_agrees : goal.returns-in_default-clause-view_agrees
 returns-in_default-clause-view_agrees g c = nothing_read c.args.view.now c.args.number c.unread.result.reads.entries c.unread.ensures.reads
