@@ -21,7 +21,7 @@ flipped_behind Second files s is = said_is_behind First (s.number + 1) files.1 s
 
 -- a journal that begins with this state in this file
 abbrev pub fresh_journal : File → ℕ → List ℕ → Journal
-fresh_journal file number state = record { file = file; number = number; end = 21 + length state }
+fresh_journal file number state = record { file = file; number = number; state_len = length state; end = 21 + length state }
 
 pub fresh_settled : (file : File) (number : ℕ) (state : List ℕ) (new : Files) (may_leave : Files → Type 0) → IsFresh number state (content file new) → IsBehind file number (content (other file) new) → Only new may_leave → IsSettled new may_leave (fresh_journal file number state)
 fresh_settled file number state new may_leave fresh older durable = record {
@@ -31,6 +31,8 @@ fresh_settled file number state new may_leave fresh older durable = record {
   file = fresh.parts;
   says = fresh.says;
   end = sym fresh.size;
+  state_len = refl;
+  len = omega arith;
   older = older;
   durable = durable;
 }

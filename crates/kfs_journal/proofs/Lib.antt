@@ -10,3 +10,4 @@ mod Changes
 mod Opens
 mod MadeCalls
 mod TornCalls
+mod Growth

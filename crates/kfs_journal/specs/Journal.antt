@@ -1,7 +1,7 @@
 -- Where a journal stands, and what it promises.
-use Rattle.std.specs.Prelude.{◌≡◌, ◌⊎◌, ◌<◌, ℕ, ◌+◌, List, [], ◌∷◌, ◌++◌, length, map, take, Vec, Option, Some, None, IfSome}
+use Rattle.std.specs.Prelude.{◌≡◌, ◌⊎◌, ◌<◌, ◌≤◌, ◌^◌, ◌*◌, ℕ, ◌+◌, List, [], ◌∷◌, ◌++◌, length, map, take, Vec, Option, Some, None, IfSome}
 use Rattle.kfs_journal.specs.Disk.{Files, content, other, Only}
-use Rattle.kfs_journal.specs.Format.{said_by, recovered, meaning}
+use Rattle.kfs_journal.specs.Format.{said_by, recovered, meaning, records_len}
 use Rattle.kfs_journal.specs.declared.disk.File.{File}
 use Rattle.kfs_journal.specs.declared.disk.File.TheVariants.{First, Second}
 use Rattle.kfs_journal.specs.declared.journal.Journal.{Journal}
@@ -28,8 +28,19 @@ pub record IsSettled (seen : Files) (may_leave : Files → Type 0) (journal : Jo
   pub file : content journal.file seen ≡ front ++ 0 ∷ []
   pub says : Says front journal.number state groups
   pub end : journal.end ≡ length front
+  pub state_len : journal.state_len ≡ length state
+  pub len : journal.end ≡ 21 + length state + records_len groups
   pub older : IsBehind journal.file journal.number (content (other journal.file) seen)
   pub durable : Only seen may_leave
+
+-- the records have 2^20 bytes, and four times those of the state, or more
+abbrev pub HasGrown : Option (List ℕ × List (List ℕ)) → Type 0
+HasGrown None = ⊥
+HasGrown (Some kept) = (2 ^ 20 ≤ records_len kept.1) × (4 * length kept.0 ≤ records_len kept.1)
+
+-- so it is on these files, where all of them is on the disk
+abbrev pub StandsOn : Files → Journal → Type 0
+StandsOn files journal = IsSettled files (λ c. c ≡ files) journal
 
 -- the files stand for this or that
 abbrev pub IsOneOf : Option (List ℕ × List (List ℕ)) → Option (List ℕ × List (List ℕ)) → Files → Type 0

@@ -1,8 +1,8 @@
 //! The journal: one file counts, and the other waits for the next state.
 ghost use Rattle.std.specs.Prelude.{◌≡◌, ◌⊎◌, ◌≤◌, ◌+◌, ◌^◌, ◌↔◌, [], IsTrue, length, IfSome, IfOk, OnOk, IsErrOf, IsNone, option_map, Some, None};
-ghost use Rattle.kfs_journal.specs.Disk.{content, other, Only, LeavesOnly};
+ghost use Rattle.kfs_journal.specs.Disk.{Files, content, other, Only, LeavesOnly};
 ghost use Rattle.kfs_journal.specs.Format.{head_at, meaning, with_group};
-ghost use Rattle.kfs_journal.specs.Journal.{IsSettled, IsBehind, IsOneOf, AreEmpty, AreForeign, opened_pair};
+ghost use Rattle.kfs_journal.specs.Journal.{IsSettled, IsBehind, IsOneOf, HasGrown, StandsOn, AreEmpty, AreForeign, opened_pair};
 
 use crate::disk::{Disk, File};
 use crate::fault::JournalFault;
@@ -20,8 +20,17 @@ const MAX_END: usize = 1 << 60;
 /// The length of a state, for the same reason.
 const MAX_STATE: usize = 1 << 60;
 
-/// Where a journal stands: the file that counts, the number of its state, and where its last gate stands. It
-/// takes no memory, and goes with one disk, which the caller keeps.
+/// The bytes of a head beside its state.
+const HEAD: usize = 21;
+
+/// A change of state is due where the records have so many bytes,
+const DUE_RECORDS: usize = 1 << 20;
+
+/// and so many times those of the state. So what changes write stays below a quarter of what groups do.
+const DUE_TIMES: usize = 4;
+
+/// Where a journal stands: the file that counts, the number of its state and how many bytes it has, and where the
+/// file's last gate stands. It takes no memory, and goes with one disk, which the caller keeps.
 ///
 /// After a call with `Failed` it can't be used again: the clause `IsSettled`, which each call wants, is gone.
 /// Open the files again.
@@ -29,6 +38,7 @@ const MAX_STATE: usize = 1 << 60;
 pub struct Journal {
     file: File,
     number: u64,
+    state_len: usize,
     end: usize,
 }
 
@@ -78,6 +88,18 @@ impl Journal {
         Ok(())
     }
 
+    /// Whether the records have 2^20 bytes or more, and four times as many as the state or more. Then `change` is
+    /// due: it cuts the file, and the time to open it.
+    pub fn is_change_due(&self) -> bool
+        ensures { (files : Files) → StandsOn files self.now → (IsTrue result ↔ HasGrown (meaning files)) }
+    {
+        let records = self
+            .end
+            .saturating_sub(HEAD)
+            .saturating_sub(self.state_len);
+        records >= DUE_RECORDS && self.state_len.saturating_mul(DUE_TIMES) <= records
+    }
+
     /// Goes on in the other file, from a new state and no groups, by four syncs. At `Ok` each crash leaves files
     /// that stand for it.
     ///
@@ -112,8 +134,8 @@ impl Journal {
         write_head(alloc, disk, file, number, state)?;
         self.file = file;
         self.number = number;
-        // a head has 21 bytes beside the state
-        self.end = 21 + state.len();
+        self.state_len = state.len();
+        self.end = HEAD + state.len();
         Ok(())
     }
 
@@ -144,7 +166,8 @@ impl Journal {
         Ok(Journal {
             file: File::First,
             number: 0,
-            end: 21 + state.len(),
+            state_len: state.len(),
+            end: HEAD + state.len(),
         })
     }
 
@@ -233,6 +256,7 @@ fn open_file<A: Allocator + Copy, D: Disk>(
     let journal = Journal {
         file,
         number: head.number,
+        state_len: head.state.len(),
         end,
     };
     Ok(Opened {

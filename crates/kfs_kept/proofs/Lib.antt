@@ -5,3 +5,4 @@ mod Meant
 mod Beside
 mod Stays
 mod OneState
+mod Unanswered
