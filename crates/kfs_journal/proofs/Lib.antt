@@ -11,3 +11,4 @@ mod Opens
 mod MadeCalls
 mod TornCalls
 mod Growth
+mod Drafts

@@ -1,7 +1,7 @@
 -- Where a journal stands, and what it promises.
 use Rattle.std.specs.Prelude.{◌≡◌, ◌⊎◌, ◌<◌, ◌≤◌, ◌^◌, ◌*◌, ℕ, ◌+◌, List, [], ◌∷◌, ◌++◌, length, map, take, Vec, Option, Some, None, IfSome}
 use Rattle.kfs_journal.specs.Disk.{Files, content, other, Only}
-use Rattle.kfs_journal.specs.Format.{said_by, recovered, meaning, records_len}
+use Rattle.kfs_journal.specs.Format.{said_by, recovered, meaning, before_gate, records_len}
 use Rattle.kfs_journal.specs.declared.disk.File.{File}
 use Rattle.kfs_journal.specs.declared.disk.File.TheVariants.{First, Second}
 use Rattle.kfs_journal.specs.declared.journal.Journal.{Journal}
@@ -75,9 +75,17 @@ pub record IsFresh (number : ℕ) (state new : List ℕ) : Type 0 where
   pub says : Says front number state []
   pub size : length front ≡ 21 + length state
 
+-- the first bytes of what it was, or what says nothing
+abbrev pub IsLess : List ℕ → List ℕ → Type 0
+IsLess old new = ((n : ℕ) × (new ≡ take n old)) ⊎ (said_by new ≡ None)
+
 -- what the file says while it gets a new head: less of what it said, nothing, or what the head says
 abbrev pub IsRenewed : ℕ → List ℕ → List ℕ → List ℕ → Type 0
-IsRenewed number state old new = ((n : ℕ) × (new ≡ take n old)) ⊎ ((said_by new ≡ None) ⊎ (said_by new ≡ Some (record { number = number; state = state; groups = [] })))
+IsRenewed number state old new = IsLess old new ⊎ (said_by new ≡ Some (record { number = number; state = state; groups = [] }))
+
+-- the beginning of a head, and its gate closed
+abbrev pub IsClosedHead : ℕ → List ℕ → List ℕ → Type 0
+IsClosedHead number old new = new ≡ before_gate number ++ 0 ∷ []
 
 abbrev pub groups_of : {A : Type 0} → List (Vec ℕ A) → List (List ℕ)
 groups_of groups = map (λ group. group.items) groups

@@ -1,8 +1,14 @@
 //! The journal: one file counts, and the other waits for the next state.
-ghost use Rattle.std.specs.Prelude.{◌≡◌, ◌⊎◌, ◌≤◌, ◌+◌, ◌^◌, ◌↔◌, [], IsTrue, length, IfSome, IfOk, OnOk, IsErrOf, IsNone, option_map, Some, None};
+ghost use Rattle.std.specs.Prelude.{◌≡◌, ◌⊎◌, ◌≤◌, ◌<◌, ◌+◌, ◌^◌, ◌↔◌, ℕ, List, [], IsTrue, length, IfSome, IfOk, OnOk, IsErrOf, IsNone, option_map, Some, None};
 ghost use Rattle.kfs_journal.specs.Disk.{Files, content, other, Only, LeavesOnly};
+ghost use Rattle.kfs_journal.specs.Draft.{HasDraft};
+ghost use Rattle.kfs_journal.specs.declared.journal.draft.Draft.{Draft};
 ghost use Rattle.kfs_journal.specs.Format.{head_at, meaning, with_group};
 ghost use Rattle.kfs_journal.specs.Journal.{IsSettled, IsBehind, IsOneOf, HasGrown, StandsOn, AreEmpty, AreForeign, opened_pair};
+
+mod draft;
+
+pub use self::draft::Draft;
 
 use crate::disk::{Disk, File};
 use crate::fault::JournalFault;
@@ -67,6 +73,10 @@ impl Journal {
 
         ensures settled { OnOk result (IsSettled (D.seen disk.new) (D.may_leave disk.new) self.new) }
         ensures acknowledged { OnOk result (meaning (D.seen disk.new) ≡ with_group (meaning (D.seen disk.old)) group.now) }
+
+        // A draft of the next file stays as it is.
+        ensures draft { (draft : Draft) (bytes : List ℕ) → HasDraft (D.seen disk.old) self.old draft bytes → OnOk result (HasDraft (D.seen disk.new) self.new draft bytes) }
+        ensures short { OnOk result (length group.now < 2 ^ 32) }
 
         // A crash at any moment of the call leaves what was before it, with the new group or without.
         ensures any_moment { LeavesOnly D.moment D.left_since disk.old disk.new
