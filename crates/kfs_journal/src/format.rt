@@ -139,10 +139,7 @@ pub fn head_rest<A: Allocator>(alloc: A, state: &[u8]) -> Result<Vec<u8, A>, All
 }
 
 /// Appends a group's record, with its gate open. `Err` where memory is refused: a part of it may be there then.
-pub fn push_record<A: Allocator>(
-    records: &mut Vec<u8, A>,
-    group: &[u8],
-) -> Result<(), AllocError>
+pub fn push_record<A: Allocator>(records: &mut Vec<u8, A>, group: &[u8]) -> Result<(), AllocError>
     requires { length group.now < 2 ^ 32 }
     ensures { OnOk result (records.new.items ≡ records.old.items ++ record_bytes group.now) }
 {

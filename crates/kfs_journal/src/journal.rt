@@ -9,7 +9,6 @@ ghost use Rattle.kfs_journal.specs.Journal.{IsSettled, IsBehind, IsOneOf, HasGro
 mod draft;
 
 pub use self::draft::Draft;
-
 use crate::disk::{Disk, File};
 use crate::fault::JournalFault;
 use crate::format::{Head, head_of, read_groups, record_of};
@@ -103,10 +102,7 @@ impl Journal {
     pub fn is_change_due(&self) -> bool
         ensures { (files : Files) → StandsOn files self.now → (IsTrue result ↔ HasGrown (meaning files)) }
     {
-        let records = self
-            .end
-            .saturating_sub(HEAD)
-            .saturating_sub(self.state_len);
+        let records = self.end.saturating_sub(HEAD).saturating_sub(self.state_len);
         records >= DUE_RECORDS && self.state_len.saturating_mul(DUE_TIMES) <= records
     }
 

@@ -1,4 +1,4 @@
-use Rattle.std.proofs.Common.{◌≡◌, ◌+◌, ◌++◌, List, ℕ, length, refl, sym, ◌∙◌, arith, append_assoc, length-append}
+use Rattle.std.proofs.Common.{◌+◌, ◌++◌, refl, arith, append_assoc, length-append}
 use Rattle.std.specs.Int.{w64, to_be_bytes}
 use Rattle.kfs_journal.proofs.Drafts.{behind_means, longer, longer_means, longer_settled, draft_is, draft_size, has_draft}
 use Rattle.kfs_journal.proofs.Moments.{weaker}

@@ -1,7 +1,6 @@
-use Rattle.std.proofs.Common.{◌≡◌, ◌+◌, ◌++◌, ◌∷◌, [], List, ℕ, length, inl, Some, refl, sym, ap, ◌∙◌, arith, length-append}
+use Rattle.std.proofs.Common.{◌+◌, ◌∷◌, [], inl, Some, refl, arith}
 use Rattle.kfs_journal.specs.Disk.{Files}
-use Rattle.kfs_journal.specs.Format.{before_gate, meaning}
-use Rattle.kfs_journal.proofs.Renewal.{gate_size}
+use Rattle.kfs_journal.specs.Format.{meaning}
 use Rattle.kfs_journal.specs.Journal.{IsOneOf}
 use Rattle.kfs_journal.proofs.Drafts.{behind_means, longer, draft_is, draft_size, finish_moment, finish_means, finish_settled}
 use Rattle.kfs_journal.proofs.Moments.{and_then, weaker}
@@ -12,14 +11,6 @@ write_through-requires-clause-at g c =
     let w = c.requires.whole.2 in
     let size = draft_size _ _ c.args.journal.now c.requires.settled c.other-file.result c.other-file.ensures _ c.args.self _ w.stands in
     omega (arith, size)
-
-pub write_through-2-requires-clause-at : goal.write_through-2-requires-clause-at
-write_through-2-requires-clause-at g c =
-    let w = c.requires.whole.2 in
-    let was = draft_is _ _ c.args.journal.now c.requires.settled c.other-file.result c.other-file.ensures _ c.args.self _ w.stands in
-    let size = draft_size _ _ c.args.journal.now c.requires.settled c.other-file.result c.other-file.ensures _ c.args.self _ w.stands in
-    let mid = longer _ _ c.args.journal.now c.requires.settled c.other-file.result c.other-file.ensures (c.args.journal.now.number + 1) _ _ was refl c.args.self.end (0 ∷ []) _ size c.in_ok-write_through.ensures.written in
-    omega (arith, ap length mid, length-append (before_gate (c.args.journal.now.number + 1)) (0 ∷ _), gate_size (c.args.journal.now.number + 1))
 
 pub returns-in_err-write_through-clause-any_moment : goal.returns-in_err-write_through-clause-any_moment
 returns-in_err-write_through-clause-any_moment g c = λ state groups w.
