@@ -240,9 +240,9 @@ impl<A: Allocator + Copy, D: Disk + Drop> Kept<A, D> {
 
     /// Makes a checkpoint where one is due, and tells whether it was.
     ///
-    /// A host calls it behind each `call_all`. So the files have at most about five times the bytes of a state and
-    /// one group more, and a state is written for each four times its bytes of groups. `Err` is that of `checkpoint`:
-    /// what was answered stays kept, and the next call tries again, unless the disk has failed.
+    /// A host calls it behind each `call_all`. So the file that counts has at most five times the bytes of its state,
+    /// or that state and 2^20 bytes, and one group more. `Err` is that of `checkpoint`: what was answered stays kept,
+    /// and the next call tries again, unless the disk has failed.
     pub fn checkpoint_if_due<B: Allocator + Copy>(&mut self, alloc: B) -> Result<bool, SaveFault>
         requires kept { IsKept D.seen D.may_leave self.old }
         ensures kept { IsKept D.seen D.may_leave self.new }
