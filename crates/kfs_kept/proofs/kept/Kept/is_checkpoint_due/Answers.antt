@@ -6,4 +6,4 @@ pub returns-then-self : goal.returns-then-self
 returns-then-self g c =
     let is_open : IsTrue c.args.self.now.is_open = search rules in
     let due = c.is_change_due.ensures (g.D.Disk.seen c.args.self.now.disk) (stands_on _ _ _ (c.requires.kept is_open).settled) in
-    ((λ is. (is_open, due.0 is)), (λ both. due.1 both.1))
+    record { due = ((λ is. (is_open, due.0 is)), (λ both. due.1 both.1)) }
