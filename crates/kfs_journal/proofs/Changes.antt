@@ -15,13 +15,13 @@ pub current_stays : (file : File) (step : List ℕ → List ℕ → Type 0) (old
 current_stays First step old new moved = moved.stays
 current_stays Second step old new moved = moved.stays
 
-flipped_behind : (file : File) (files : Files) (s : Said) → said_by (content file files) ≡ Some s → IsBehind (other file) (s.number + 1) (content (other (other file)) files)
+pub flipped_behind : (file : File) (files : Files) (s : Said) → said_by (content file files) ≡ Some s → IsBehind (other file) (s.number + 1) (content (other (other file)) files)
 flipped_behind First files s is = said_is_behind Second (s.number + 1) files.0 s is (omega arith)
 flipped_behind Second files s is = said_is_behind First (s.number + 1) files.1 s is (omega arith)
 
 -- a journal that begins with this state in this file
 abbrev pub fresh_journal : File → ℕ → List ℕ → Journal
-fresh_journal file number state = record { file = file; number = number; end = 21 + length state }
+fresh_journal file number state = record { file = file; number = number; state_len = length state; end = 21 + length state }
 
 pub fresh_settled : (file : File) (number : ℕ) (state : List ℕ) (new : Files) (may_leave : Files → Type 0) → IsFresh number state (content file new) → IsBehind file number (content (other file) new) → Only new may_leave → IsSettled new may_leave (fresh_journal file number state)
 fresh_settled file number state new may_leave fresh older durable = record {
@@ -31,6 +31,8 @@ fresh_settled file number state new may_leave fresh older durable = record {
   file = fresh.parts;
   says = fresh.says;
   end = sym fresh.size;
+  state_len = refl;
+  len = omega arith;
   older = older;
   durable = durable;
 }
@@ -56,9 +58,9 @@ module _ (seen : Files) (may_leave : Files → Type 0) (journal : Journal) (s : 
       before older = inl (counts file c journal.number s.state s.groups (still_says _ c moved) older ∙ sym (settled_means seen may_leave journal s))
 
       by_case : IsRenewed (journal.number + 1) state (content (other file) seen) (content (other file) c) → IsOneOf (meaning seen) (Some (state, [])) c
-      by_case (inl cut) = before (subst (λ (l : List ℕ). IsBehind file journal.number l) (sym cut.1) (front_behind file journal.number (content (other file) seen) cut.0 s.older))
-      by_case (inr (inl none)) = before (none_behind file journal.number (content (other file) c) none)
-      by_case (inr (inr some)) = inr (counts (other file) c (journal.number + 1) state [] some (flipped_behind file c (said journal.number s.state s.groups) (still_says _ c moved)))
+      by_case (inl (inl cut)) = before (subst (λ (l : List ℕ). IsBehind file journal.number l) (sym cut.1) (front_behind file journal.number (content (other file) seen) cut.0 s.older))
+      by_case (inl (inr none)) = before (none_behind file journal.number (content (other file) c) none)
+      by_case (inr some) = inr (counts (other file) c (journal.number + 1) state [] some (flipped_behind file c (said journal.number s.state s.groups) (still_says _ c moved)))
 
   pub change_settled : (new_file : File) → new_file ≡ other file → (new : Files) (may_leave_new : Files → Type 0) → In new_file (λ old new. IsFresh (journal.number + 1) state new) seen new → Only new may_leave_new → IsSettled new may_leave_new (fresh_journal new_file (journal.number + 1) state)
   change_settled new_file is new may_leave_new renewed durable =
@@ -98,9 +100,9 @@ module _ (seen : Files) (empty : AreEmpty seen) (state : List ℕ) where
       before first = inl (λ i. pair_of (newer (first i) (second i)))
 
       by_case : IsRenewed 0 state seen.0 c.0 → IsOneOf None (Some (state, [])) c
-      by_case (inl cut) = before (ap (λ (l : List ℕ). said_by l) cut.1 ∙ below_none (said_by (take cut.0 seen.0)) (front_behind Second 0 seen.0 cut.0 (none_behind Second 0 seen.0 both_none.0)))
-      by_case (inr (inl none)) = before none
-      by_case (inr (inr some)) = inr (counts First c 0 state [] some (none_behind First 0 c.1 second))
+      by_case (inl (inl cut)) = before (ap (λ (l : List ℕ). said_by l) cut.1 ∙ below_none (said_by (take cut.0 seen.0)) (front_behind Second 0 seen.0 cut.0 (none_behind Second 0 seen.0 both_none.0)))
+      by_case (inl (inr none)) = before none
+      by_case (inr some) = inr (counts First c 0 state [] some (none_behind First 0 c.1 second))
 
   pub create_settled : (new : Files) (may_leave : Files → Type 0) → In First (λ old new. IsFresh 0 state new) seen new → Only new may_leave → IsSettled new may_leave (fresh_journal First 0 state)
   create_settled new may_leave moved durable =

@@ -10,3 +10,5 @@ mod Changes
 mod Opens
 mod MadeCalls
 mod TornCalls
+mod Growth
+mod Drafts

@@ -1,7 +1,7 @@
 -- Where a journal stands, and what it promises.
-use Rattle.std.specs.Prelude.{◌≡◌, ◌⊎◌, ◌<◌, ℕ, ◌+◌, List, [], ◌∷◌, ◌++◌, length, map, take, Vec, Option, Some, None, IfSome}
+use Rattle.std.specs.Prelude.{◌≡◌, ◌⊎◌, ◌<◌, ◌≤◌, ◌^◌, ◌*◌, ℕ, ◌+◌, List, [], ◌∷◌, ◌++◌, length, map, take, Vec, Option, Some, None, IfSome}
 use Rattle.kfs_journal.specs.Disk.{Files, content, other, Only}
-use Rattle.kfs_journal.specs.Format.{said_by, recovered, meaning}
+use Rattle.kfs_journal.specs.Format.{said_by, recovered, meaning, before_gate, records_len}
 use Rattle.kfs_journal.specs.declared.disk.File.{File}
 use Rattle.kfs_journal.specs.declared.disk.File.TheVariants.{First, Second}
 use Rattle.kfs_journal.specs.declared.journal.Journal.{Journal}
@@ -28,8 +28,19 @@ pub record IsSettled (seen : Files) (may_leave : Files → Type 0) (journal : Jo
   pub file : content journal.file seen ≡ front ++ 0 ∷ []
   pub says : Says front journal.number state groups
   pub end : journal.end ≡ length front
+  pub state_len : journal.state_len ≡ length state
+  pub len : journal.end ≡ 21 + length state + records_len groups
   pub older : IsBehind journal.file journal.number (content (other journal.file) seen)
   pub durable : Only seen may_leave
+
+-- the records have 2^20 bytes, and four times those of the state, or more
+abbrev pub HasGrown : Option (List ℕ × List (List ℕ)) → Type 0
+HasGrown None = ⊥
+HasGrown (Some kept) = (2 ^ 20 ≤ records_len kept.1) × (4 * length kept.0 ≤ records_len kept.1)
+
+-- so it is on these files, where all of them is on the disk
+abbrev pub StandsOn : Files → Journal → Type 0
+StandsOn files journal = IsSettled files (λ c. c ≡ files) journal
 
 -- the files stand for this or that
 abbrev pub IsOneOf : Option (List ℕ × List (List ℕ)) → Option (List ℕ × List (List ℕ)) → Files → Type 0
@@ -64,9 +75,17 @@ pub record IsFresh (number : ℕ) (state new : List ℕ) : Type 0 where
   pub says : Says front number state []
   pub size : length front ≡ 21 + length state
 
+-- the first bytes of what it was, or what says nothing
+abbrev pub IsLess : List ℕ → List ℕ → Type 0
+IsLess old new = ((n : ℕ) × (new ≡ take n old)) ⊎ (said_by new ≡ None)
+
 -- what the file says while it gets a new head: less of what it said, nothing, or what the head says
 abbrev pub IsRenewed : ℕ → List ℕ → List ℕ → List ℕ → Type 0
-IsRenewed number state old new = ((n : ℕ) × (new ≡ take n old)) ⊎ ((said_by new ≡ None) ⊎ (said_by new ≡ Some (record { number = number; state = state; groups = [] })))
+IsRenewed number state old new = IsLess old new ⊎ (said_by new ≡ Some (record { number = number; state = state; groups = [] }))
+
+-- the beginning of a head, and its gate closed
+abbrev pub IsClosedHead : ℕ → List ℕ → List ℕ → Type 0
+IsClosedHead number old new = new ≡ before_gate number ++ 0 ∷ []
 
 abbrev pub groups_of : {A : Type 0} → List (Vec ℕ A) → List (List ℕ)
 groups_of groups = map (λ group. group.items) groups

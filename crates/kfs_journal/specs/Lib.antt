@@ -1,4 +1,5 @@
 pub mod Disk
+pub mod Draft
 pub mod Format
 pub mod Journal
 pub mod Memory

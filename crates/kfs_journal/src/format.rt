@@ -1,7 +1,7 @@
 //! Heads and records as bytes: how they are read, and what is written. The crate's head has the format.
-ghost use Rattle.std.specs.Prelude.{◌≡◌, ◌<◌, ◌^◌, [], ◌∷◌, ◌++◌, length, option_map, IfOk};
+ghost use Rattle.std.specs.Prelude.{◌≡◌, ◌<◌, ◌^◌, [], ◌∷◌, ◌++◌, length, option_map, IfOk, OnOk};
 ghost use Rattle.std.specs.Int.{w32, w64, to_be_bytes};
-ghost use Rattle.kfs_journal.specs.Format.{sized, group_at, head_at, magic, Splits};
+ghost use Rattle.kfs_journal.specs.Format.{sized, group_at, head_at, magic, record_bytes, Splits};
 ghost use Rattle.kfs_journal.specs.Journal.{groups_of};
 
 use std::alloc::{AllocError, Allocator};
@@ -136,4 +136,14 @@ pub fn head_rest<A: Allocator>(alloc: A, state: &[u8]) -> Result<Vec<u8, A>, All
     bytes.extend_from_slice(state)?;
     bytes.push(0)?;
     Ok(bytes)
+}
+
+/// Appends a group's record, with its gate open. `Err` where memory is refused: a part of it may be there then.
+pub fn push_record<A: Allocator>(records: &mut Vec<u8, A>, group: &[u8]) -> Result<(), AllocError>
+    requires { length group.now < 2 ^ 32 }
+    ensures { OnOk result (records.new.items ≡ records.old.items ++ record_bytes group.now) }
+{
+    records.push(1)?;
+    records.extend_from_slice(&(group.len() as u32).to_be_bytes())?;
+    records.extend_from_slice(group)
 }

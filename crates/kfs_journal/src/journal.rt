@@ -1,9 +1,14 @@
 //! The journal: one file counts, and the other waits for the next state.
-ghost use Rattle.std.specs.Prelude.{◌≡◌, ◌⊎◌, ◌≤◌, ◌+◌, ◌^◌, ◌↔◌, [], IsTrue, length, IfSome, IfOk, OnOk, IsErrOf, IsNone, option_map, Some, None};
-ghost use Rattle.kfs_journal.specs.Disk.{content, other, Only, LeavesOnly};
+ghost use Rattle.std.specs.Prelude.{◌≡◌, ◌⊎◌, ◌≤◌, ◌<◌, ◌+◌, ◌^◌, ◌↔◌, ℕ, List, [], IsTrue, length, IfSome, IfOk, OnOk, IsErrOf, IsNone, option_map, Some, None};
+ghost use Rattle.kfs_journal.specs.Disk.{Files, content, other, Only, LeavesOnly};
+ghost use Rattle.kfs_journal.specs.Draft.{HasDraft};
+ghost use Rattle.kfs_journal.specs.declared.journal.draft.Draft.{Draft};
 ghost use Rattle.kfs_journal.specs.Format.{head_at, meaning, with_group};
-ghost use Rattle.kfs_journal.specs.Journal.{IsSettled, IsBehind, IsOneOf, AreEmpty, AreForeign, opened_pair};
+ghost use Rattle.kfs_journal.specs.Journal.{IsSettled, IsBehind, IsOneOf, HasGrown, StandsOn, AreEmpty, AreForeign, opened_pair};
 
+mod draft;
+
+pub use self::draft::Draft;
 use crate::disk::{Disk, File};
 use crate::fault::JournalFault;
 use crate::format::{Head, head_of, read_groups, record_of};
@@ -20,8 +25,17 @@ const MAX_END: usize = 1 << 60;
 /// The length of a state, for the same reason.
 const MAX_STATE: usize = 1 << 60;
 
-/// Where a journal stands: the file that counts, the number of its state, and where its last gate stands. It
-/// takes no memory, and goes with one disk, which the caller keeps.
+/// The bytes of a head beside its state.
+const HEAD: usize = 21;
+
+/// A change of state is due where the records have so many bytes,
+const DUE_RECORDS: usize = 1 << 20;
+
+/// and so many times those of the state. So what changes write stays below a quarter of what groups do.
+const DUE_TIMES: usize = 4;
+
+/// Where a journal stands: the file that counts, the number of its state and how many bytes it has, and where the
+/// file's last gate stands. It takes no memory, and goes with one disk, which the caller keeps.
 ///
 /// After a call with `Failed` it can't be used again: the clause `IsSettled`, which each call wants, is gone.
 /// Open the files again.
@@ -29,6 +43,7 @@ const MAX_STATE: usize = 1 << 60;
 pub struct Journal {
     file: File,
     number: u64,
+    state_len: usize,
     end: usize,
 }
 
@@ -58,6 +73,10 @@ impl Journal {
         ensures settled { OnOk result (IsSettled (D.seen disk.new) (D.may_leave disk.new) self.new) }
         ensures acknowledged { OnOk result (meaning (D.seen disk.new) ≡ with_group (meaning (D.seen disk.old)) group.now) }
 
+        // A draft of the next file stays as it is.
+        ensures draft { (draft : Draft) (bytes : List ℕ) → HasDraft (D.seen disk.old) self.old draft bytes → OnOk result (HasDraft (D.seen disk.new) self.new draft bytes) }
+        ensures short { OnOk result (length group.now < 2 ^ 32) }
+
         // A crash at any moment of the call leaves what was before it, with the new group or without.
         ensures any_moment { LeavesOnly D.moment D.left_since disk.old disk.new
             (IsOneOf (meaning (D.seen disk.old)) (with_group (meaning (D.seen disk.old)) group.now)) }
@@ -76,6 +95,15 @@ impl Journal {
         // a gate and a length, and the group
         self.end += 5 + group.len();
         Ok(())
+    }
+
+    /// Whether the records have 2^20 bytes or more, and four times as many as the state or more. Then `change` is
+    /// due: it cuts the file, and the time to open it.
+    pub fn is_change_due(&self) -> bool
+        ensures { (files : Files) → StandsOn files self.now → (IsTrue result ↔ HasGrown (meaning files)) }
+    {
+        let records = self.end.saturating_sub(HEAD).saturating_sub(self.state_len);
+        records >= DUE_RECORDS && self.state_len.saturating_mul(DUE_TIMES) <= records
     }
 
     /// Goes on in the other file, from a new state and no groups, by four syncs. At `Ok` each crash leaves files
@@ -112,8 +140,8 @@ impl Journal {
         write_head(alloc, disk, file, number, state)?;
         self.file = file;
         self.number = number;
-        // a head has 21 bytes beside the state
-        self.end = 21 + state.len();
+        self.state_len = state.len();
+        self.end = HEAD + state.len();
         Ok(())
     }
 
@@ -144,7 +172,8 @@ impl Journal {
         Ok(Journal {
             file: File::First,
             number: 0,
-            end: 21 + state.len(),
+            state_len: state.len(),
+            end: HEAD + state.len(),
         })
     }
 
@@ -233,6 +262,7 @@ fn open_file<A: Allocator + Copy, D: Disk>(
     let journal = Journal {
         file,
         number: head.number,
+        state_len: head.state.len(),
         end,
     };
     Ok(Opened {

@@ -2,12 +2,15 @@
 //! within one is a torn call on files that are known.
 ghost use Rattle.std.specs.Prelude.{◌≡◌, ◌≤◌, ◌+◌, ◌<◌, ◌^◌, length, OnOk, OnErr, IsErrOf, IsTrue};
 ghost use Rattle.kfs_journal.specs.Disk.{content, In, Only, Torn, Cut, Holds, IsFront, LeavesOnly};
-ghost use Rattle.kfs_journal.specs.Journal.{EndsClosed, IsOpened, IsOpening, IsFresh, IsRenewed};
+ghost use Rattle.kfs_journal.specs.Journal.{EndsClosed, IsOpened, IsOpening, IsFresh, IsLess, IsClosedHead, IsRenewed};
 
 use crate::disk::{Disk, DiskFailed, File};
 use crate::fault::JournalFault;
 use crate::format::{head_front, head_rest};
 use std::alloc::Allocator;
+
+/// Where the gate of a head stands: behind magic and number.
+pub const GATE: usize = 12;
 
 /// Writes and syncs.
 pub fn write_through<D: Disk>(
@@ -59,11 +62,32 @@ pub fn add_gated<D: Disk>(
     write_through(disk, file, gate, &[1])
 }
 
-/// Gives a file a new head, and no records.
+/// Gives a file the beginning of a new head, with its gate closed, and nothing behind it.
 ///
 /// The file is cut to nothing first, and that is on the disk before the new gate is written: a change that a
 /// crash cut short may have left a whole head there, with the next number behind a closed gate, and a torn
 /// write of that gate would open it.
+pub fn close_head<A: Allocator, D: Disk>(
+    alloc: A,
+    disk: &mut D,
+    file: File,
+    number: u64,
+) -> Result<(), JournalFault>
+    requires durable { Only (D.seen disk.old) (D.may_leave disk.old) }
+    ensures written { OnOk result (In file (IsClosedHead number) (D.seen disk.old) (D.seen disk.new)) }
+    ensures durable { OnOk result (Only (D.seen disk.new) (D.may_leave disk.new)) }
+    ensures any_moment { LeavesOnly D.moment D.left_since disk.old disk.new (In file IsLess (D.seen disk.old)) }
+    ensures failed { IsErrOf result JournalFault.Failed → IsTrue (D.has_failed disk.new) }
+    ensures full { IsErrOf result JournalFault.Full → ⊥ }
+    ensures memory { IsErrOf result JournalFault.OutOfMemory → disk.new ≡ disk.old }
+{
+    let front = head_front(alloc, number)?;
+    cut_through(disk, file, 0)?;
+    write_through(disk, file, 0, &front)?;
+    Ok(())
+}
+
+/// Gives a file a new head, and no records.
 pub fn write_head<A: Allocator + Copy, D: Disk>(
     alloc: A,
     disk: &mut D,
@@ -80,12 +104,9 @@ pub fn write_head<A: Allocator + Copy, D: Disk>(
     ensures full { IsErrOf result JournalFault.Full → ⊥ }
     ensures memory { IsErrOf result JournalFault.OutOfMemory → disk.new ≡ disk.old }
 {
-    let front = head_front(alloc, number)?;
     let rest = head_rest(alloc, state)?;
-    cut_through(disk, file, 0)?;
-    write_through(disk, file, 0, &front)?;
-    // the gate stands behind magic and number
-    add_gated(disk, file, 12, &rest)?;
+    close_head(alloc, disk, file, number)?;
+    add_gated(disk, file, GATE, &rest)?;
     Ok(())
 }
 

@@ -5,3 +5,5 @@ mod Meant
 mod Beside
 mod Stays
 mod OneState
+mod Unanswered
+mod Due

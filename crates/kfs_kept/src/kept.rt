@@ -5,8 +5,8 @@ ghost use Rattle.kfs_model.specs.Judgement.{State};
 ghost use Rattle.kfs_desk.specs.Opening.{begin_fault};
 ghost use Rattle.kfs_journal.specs.Disk.{Files, LeavesOnly, Only};
 ghost use Rattle.kfs_journal.specs.Format.{meaning};
-ghost use Rattle.kfs_journal.specs.Journal.{AreEmpty};
-ghost use Rattle.kfs_kept.specs.Calls.Making.{Runs};
+ghost use Rattle.kfs_journal.specs.Journal.{AreEmpty, HasGrown};
+ghost use Rattle.kfs_kept.specs.Calls.Making.{Runs, answered};
 ghost use Rattle.kfs_call_desk.specs.Restore.Saved.{HasTooMany};
 ghost use Rattle.kfs_kept.specs.Faults.{IsOutside, IsWhy};
 ghost use Rattle.kfs_kept.specs.Keeping.{IsKept};
@@ -136,7 +136,10 @@ impl<A: Allocator + Copy, D: Disk + Drop> Kept<A, D> {
     /// Makes calls one after another, keeps those that are answered as one group, and answers all of them.
     ///
     /// At `Ok` each crash leaves files from which the desk is opened as it is now. A call that isn't answered (its
-    /// bytes are no call, the docket is full, or memory is refused for it alone) is as if it hadn't been handed in.
+    /// bytes are no call, the docket is full, or memory is refused for it alone) is as if it hadn't been handed in. Where
+    /// none is answered, nothing is written and nothing synced.
+    ///
+    /// Call `checkpoint_if_due` behind it, once the answers are handed out. Whatever that answers, they stay kept.
     pub fn call_all<B: Allocator + Copy>(
         &mut self,
         alloc: B,
@@ -149,6 +152,9 @@ impl<A: Allocator + Copy, D: Disk + Drop> Kept<A, D> {
         ensures answers { IfOk result (λ answers. Runs self.old.desk (map (λ c. c.now) calls.now) answers.items self.new.desk) }
         ensures open { OnOk result (IsTrue self.new.is_open) }
         ensures acknowledged { OnOk result ((c : Files) → D.may_leave self.new.disk c → StandFor c self.new.desk.state) }
+
+        // Where no call is answered, all is as it was, the disk too.
+        ensures idle { IfOk result (λ answers. answered (map (λ c. c.now) calls.now) answers.items ≡ [] → self.new ≡ self.old) }
 
         // At any moment: the state before all the calls or after all of them, none skipped and none in part.
         ensures any_moment { IsTrue self.old.is_open → LeavesOnly D.moment D.left_since self.old.disk self.new.disk
@@ -174,6 +180,10 @@ impl<A: Allocator + Copy, D: Disk + Drop> Kept<A, D> {
         let Ok(()) = made.make_all(alloc, &mut self.desk, calls) else {
             return Err(CallsFault::NotKept);
         };
+        if made.group.is_empty() {
+            self.is_open = true;
+            return Ok(made.answers);
+        }
         match self.journal.put(alloc, &mut self.disk, &made.group) {
             Ok(()) => {
                 self.is_open = true;
@@ -217,6 +227,48 @@ impl<A: Allocator + Copy, D: Disk + Drop> Kept<A, D> {
                 Err(SaveFault::Failed)
             }
         }
+    }
+
+    /// Whether a checkpoint is due: the records of the groups have 2^20 bytes or more, and four times as many as the
+    /// state that they stand behind or more. A record is five bytes longer than its group.
+    pub fn is_checkpoint_due(&self) -> bool
+        requires kept { IsKept D.seen D.may_leave self.now }
+        ensures due { IsTrue result ↔ (IsTrue self.now.is_open × HasGrown (meaning (D.seen self.now.disk))) }
+    {
+        self.is_open && self.journal.is_change_due()
+    }
+
+    /// Makes a checkpoint where one is due, and tells whether it was.
+    ///
+    /// A host calls it behind each `call_all`. So the file that counts has at most five times the bytes of its state,
+    /// or that state and 2^20 bytes, and one group more. `Err` is that of `checkpoint`: what was answered stays kept,
+    /// and the next call tries again, unless the disk has failed.
+    pub fn checkpoint_if_due<B: Allocator + Copy>(&mut self, alloc: B) -> Result<bool, SaveFault>
+        requires kept { IsKept D.seen D.may_leave self.old }
+        ensures kept { IsKept D.seen D.may_leave self.new }
+        ensures desk { self.new.desk ≡ self.old.desk }
+        ensures open { OnOk result (IsTrue self.new.is_open) }
+
+        // It makes one exactly where it is due. Else nothing changes.
+        ensures due { IfOk result (λ made. IsTrue made ↔ HasGrown (meaning (D.seen self.old.disk))) }
+        ensures short { IfOk result (λ made. IsTrue made → IfSome (meaning (D.seen self.new.disk)) (λ kept. kept.1 ≡ [])) }
+        ensures idle { IfOk result (λ made. IsFalse made → self.new ≡ self.old) }
+        ensures undue { IfErr result (λ why. (why ≡ SaveFault.Closed) ⊎ HasGrown (meaning (D.seen self.old.disk))) }
+
+        // A crash at any moment leaves the desk's state.
+        ensures any_moment { IsTrue self.old.is_open → LeavesOnly D.moment D.left_since self.old.disk self.new.disk (λ c. StandFor c self.old.desk.state) }
+
+        ensures closed { IsErrOf result SaveFault.Closed ↔ IsFalse self.old.is_open }
+        ensures many { IsErrOf result SaveFault.TooMany → HasTooMany self.old.desk.state }
+        ensures full { IsErrOf result SaveFault.Full → HasLongBytes self.old.desk.state ⊎ (2 ^ 64 ≤ self.old.journal.number + 1) }
+        ensures failed { IsErrOf result SaveFault.Failed → IsFalse self.new.is_open × IsTrue (D.has_failed self.new.disk) }
+        ensures same { IfErr result (λ why. (why ≡ SaveFault.Failed) ⊎ (self.new ≡ self.old)) }
+    {
+        if self.is_open && !self.is_checkpoint_due() {
+            return Ok(false);
+        }
+        self.checkpoint(alloc)?;
+        Ok(true)
     }
 
     /// The desk, to look at: what it shows is kept. None where it is closed.

@@ -1,15 +1,15 @@
-//! A run of nine calls, what the files stand for after each of them, and what an opening finds.
+//! A run of seventeen calls, the last eight around a draft of the next file, what the files stand for after each of them, and what an opening finds.
 ghost use Rattle.std.specs.Prelude.{◌≡◌, IfSome};
 ghost use Rattle.kfs_journal.specs.Disk.{Only};
-ghost use Rattle.kfs_journal.specs.Journal.{AreEmpty};
+ghost use Rattle.kfs_journal.specs.Journal.{AreEmpty, IsSettled};
 ghost use Rattle.kfs_journal.specs.Memory.{memory_seen, memory_may_leave};
 
-use kfs_journal::{Disk, Journal, JournalFault, MemoryDisk, OpenFault, Opened};
+use kfs_journal::{Disk, Draft, Journal, JournalFault, MemoryDisk, OpenFault, Opened, push_record};
 use std::alloc::{AllocError, Global};
 
 /// What the files stand for before the run and after each of its calls: the state, and each group behind a
 /// stroke.
-pub const STATES: [&[u8]; 10] = [
+pub const STATES: [&[u8]; 18] = [
     b"nothing",
     b"first",
     b"first/a",
@@ -20,11 +20,19 @@ pub const STATES: [&[u8]; 10] = [
     b"",
     b"/k",
     b"third",
+    b"third",
+    b"third/l",
+    b"third/l",
+    b"third/l/mn",
+    b"third/l/mn",
+    b"third/l/mn",
+    b"fourth/l/mn",
+    b"fourth/l/mn/o",
 ];
 
 /// How many calls of the disk each call of the run makes. A group takes two writes, each with its sync; a new
-/// state also a cut and the beginning of its head.
-pub const DISK_CALLS: [usize; 9] = [8, 4, 4, 4, 8, 4, 8, 4, 8];
+/// state also a cut and the beginning of its head. A draft is begun by a cut and two writes, and finished by two writes.
+pub const DISK_CALLS: [usize; 17] = [8, 4, 4, 4, 8, 4, 8, 4, 8, 6, 4, 2, 4, 2, 2, 4, 4];
 
 /// Makes the run on empty files, and counts the calls that were answered.
 pub fn run<D: Disk>(alloc: Global, disk: &mut D, answered: &mut usize) -> Result<(), JournalFault>
@@ -49,6 +57,37 @@ pub fn run<D: Disk>(alloc: Global, disk: &mut D, answered: &mut usize) -> Result
     *answered = 8;
     journal.change(alloc, disk, b"third")?;
     *answered = 9;
+    run_drafted(alloc, disk, journal, answered)
+}
+
+/// The eight calls around a draft: a state in two parts, with a group before each, and their records.
+fn run_drafted<D: Disk>(
+    alloc: Global,
+    disk: &mut D,
+    mut journal: Journal,
+    answered: &mut usize,
+) -> Result<(), JournalFault>
+    requires { IsSettled (D.seen disk.old) (D.may_leave disk.old) journal }
+{
+    let mut records = Vec::new(alloc);
+    let mut draft = Draft::begin(alloc, &journal, disk, 6)?;
+    *answered = 10;
+    journal.put(alloc, disk, b"l")?;
+    push_record(&mut records, b"l")?;
+    *answered = 11;
+    draft.extend(&journal, disk, b"fou")?;
+    *answered = 12;
+    journal.put(alloc, disk, b"mn")?;
+    push_record(&mut records, b"mn")?;
+    *answered = 13;
+    draft.extend(&journal, disk, b"rth")?;
+    *answered = 14;
+    draft.extend(&journal, disk, &records)?;
+    *answered = 15;
+    draft.finish(&mut journal, disk)?;
+    *answered = 16;
+    journal.put(alloc, disk, b"o")?;
+    *answered = 17;
     Ok(())
 }
 
@@ -115,7 +154,7 @@ pub fn disk_of(alloc: Global, first: &[u8], second: &[u8]) -> Option<MemoryDisk>
 
 /// Whether that is what the files may stand for where so many calls were answered, and at most one more was made.
 pub fn is_due(found: &[u8], answered: usize) -> bool {
-    let is_before = answered < 10 && found == STATES[answered];
-    let is_after = answered < 9 && found == STATES[answered + 1];
+    let is_before = answered < 18 && found == STATES[answered];
+    let is_after = answered < 17 && found == STATES[answered + 1];
     is_before || is_after
 }

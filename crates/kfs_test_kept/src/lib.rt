@@ -1,5 +1,5 @@
 //! Tests of kept desks: three groups of calls and a checkpoint, with a crash at each moment of them and of the opening after;
-//! and each call with one allocation refused.
+//! each call with one allocation refused; and when a checkpoint is due.
 //!
 //! It stands on `kfs_kept`, `kfs_journal`, `kfs_call_desk` and `kfs_test_support`. A test is proved too, and would have
 //! to carry the clauses of each call that it makes. So calls are in small functions.
@@ -7,6 +7,8 @@
 
 #[cfg(test)]
 mod crashes;
+#[cfg(test)]
+mod due;
 #[cfg(test)]
 mod memory;
 #[cfg(test)]

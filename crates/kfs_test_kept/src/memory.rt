@@ -33,7 +33,7 @@ enum End {
 }
 
 /// A desk in this memory that is kept on a new disk.
-fn kept_in<A: Allocator + Copy>(alloc: Global, heap: A) -> Option<Kept<A, MemoryDisk>>
+pub fn kept_in<A: Allocator + Copy>(alloc: Global, heap: A) -> Option<Kept<A, MemoryDisk>>
     ensures { IfSome result (λ kept. IsKept memory_seen memory_may_leave kept) }
 {
     let disk = MemoryDisk::new(alloc, Vec::new(alloc), Vec::new(alloc));

@@ -28,7 +28,7 @@ const TICK: &[u8] = b"\x04\0\0\0\0\0\0\0\x31";
 pub const MIGRATE: &[u8] = b"\x05\0\x01\0\0\0\x05\0\0\0\0\x01\0\0\0\x03";
 
 /// No call.
-const BAD: &[u8] = b"\x06";
+pub const BAD: &[u8] = b"\x06";
 
 /// How many steps the run has: the desk is kept, a group, a group, a checkpoint, a group.
 pub const STEPS: usize = 5;
