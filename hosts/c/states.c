@@ -107,6 +107,29 @@ static void check_refusals(struct kfs *desk, uint8_t *bytes, size_t len)
     expect(rows, 0, "its docket");
 }
 
+/* The same desk comes of its image, its client, and its lease; a row that no desk has is refused by its reason. */
+static void check_resumed(struct kfs *desk, const struct kfs_client *client)
+{
+    struct kfs_held lease = { .number = 1, .client = 7, .end = 100, .write = true };
+    static const uint32_t groups[1] = { 0 };
+    struct kfs resumed = { 0 };
+    struct kfs_fault fault = { 0 };
+    uint8_t none, *bytes;
+    size_t len;
+    expect(kfs_save(desk, &none, 0, &len), KFS_SHORT, "the length of an image");
+    bytes = malloc(len);
+    if (!bytes) exit(1);
+    expect(kfs_save(desk, bytes, len, &len), KFS_DONE, "an image");
+    expect(kfs_resume(&resumed, bytes, len, client, 1, groups, 0, &lease, 1, 5, 9, &fault), KFS_DONE, "a resumed desk");
+    check_same_state(desk, &resumed);
+    lease.end = 5;
+    expect(kfs_resume(&resumed, bytes, len, client, 1, groups, 0, &lease, 1, 5, 9, &fault), KFS_REFUSED, "an end that is past");
+    expect(fault.code == KFS_OPEN_LEASE && fault.reason == 3 && fault.index == 0, 1, "its fault");
+    check_same_state(desk, &resumed);
+    free(bytes);
+    kfs_close(&resumed);
+}
+
 /* ---- calls */
 
 /* The desk answers the call's bytes with these bytes. */
@@ -241,6 +264,7 @@ int main(void)
     expect(kfs_tick(&desk, 5, &act), KFS_DONE, "moment 5");
     expect(kfs_lease(&desk, 7, (const uint8_t *)"/", 1, true, 100, &act), KFS_DONE, "a lease of the root");
     bytes = state_of(&desk, &len);
+    check_resumed(&desk, &client);
     /* both go on from the state, since the first desk's docket is full */
     expect(kfs_restore(&again, bytes, len, 13, &fault), KFS_DONE, "a desk that goes on");
     expect(kfs_restore(&other, bytes, len, 13, &fault), KFS_DONE, "another one");

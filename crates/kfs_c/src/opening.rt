@@ -134,7 +134,7 @@ pub(crate) fn tell(why: Unopened, fault: &mut FaultNumbers) -> u32
 }
 
 /// The image that the bytes decode to, if it breaks no rule.
-fn load(alloc: Global, bytes: &[u8]) -> Result<Image<Global>, Unopened>
+pub(crate) fn load(alloc: Global, bytes: &[u8]) -> Result<Image<Global>, Unopened>
     ensures loaded { IfOk result (IsLoaded bytes.now) }
     ensures refused { IfErr result (IsRefusedAs (IsImageRefused bytes.now)) }
 {
@@ -288,7 +288,7 @@ pub(crate) fn unbegun(why: BeginFault) -> Unopened
 }
 
 /// The clients that the rows say.
-fn clients_from(
+pub(crate) fn clients_from(
     alloc: Global,
     rows: &[ClientRow],
     groups: &[u32],
