@@ -10,8 +10,8 @@
  *
  * Memory.  All of it is taken by malloc and realloc, and freed by free. Where one of them answers NULL,
  *   the call answers KFS_NO_MEMORY, and each handle holds what it held, but for the verdict of kfs_land.
- *   No call keeps a pointer that it is given. A handle that is opened, loaded or restored anew holds both desks for
- *   a while: close it first where memory is short.
+ *   No call keeps a pointer that it is given. A handle that is opened, loaded, restored or resumed anew holds both
+ *   desks for a while: close it first where memory is short.
  *
  * Pointers.  None may be NULL, also where its length is 0. What is passed for a call must not overlap
  *   what the call writes, and no other thread may touch it meanwhile. So copy a name out of the buffer

@@ -11,7 +11,7 @@ use Rattle.kfs_lease.specs.declared.leases.listed.LeaseRowFault.TheVariants.{Out
 use Rattle.kfs_desk.specs.Machine.{Desk}
 use Rattle.kfs_c.specs.Holding.{OnDesk}
 use Rattle.kfs_c.specs.Opening.{IsLoaded, IsRefusedAs}
-use Rattle.kfs_c.specs.Resuming.{AreLeasesRefused, IsResumedOn, IsResumedWith, IsUnresumed, IsUnresumedWith}
+use Rattle.kfs_c.specs.Resuming.{AreLeasesRefused, AreLeasesRight, IsResumedOn, IsResumedWith, IsUnresumed, IsUnresumedWith}
 use Rattle.kfs_c.specs.States.{unleased_as}
 use Rattle.kfs_c.specs.declared.held.Held.{Held}
 use Rattle.kfs_c.specs.declared.held.Held.TheVariants as helds
@@ -33,11 +33,11 @@ on_desk_more One Other (Some (helds.View view)) more no = absurd no
 on_desk_more One Other (Some (helds.Verdict verdict)) more no = absurd no
 
 pub with_bytes : {B : Type 0} (bytes groups : List ℕ) (rows : List ClientRow) (held : List LeaseNumbers) (moment limit : ℕ) (image : DeviceImage) (result : Result B Unopened) (value : B → Held)
-    → IsLoaded bytes image → IfOk result (λ box. OnDesk (Some (value box)) (IsResumedOn image groups rows held moment limit))
+    → IsLoaded bytes image → IfOk result (λ box. AreLeasesRight image groups rows held moment) → IfOk result (λ box. OnDesk (Some (value box)) (IsResumedOn image groups rows held moment limit))
     → IfOk result (λ box. OnDesk (Some (value box)) (IsResumedWith bytes groups rows held moment limit))
-with_bytes bytes groups rows held moment limit image (Ok box) value loaded is =
-    on_desk_more (IsResumedOn image groups rows held moment limit) (IsResumedWith bytes groups rows held moment limit) (Some (value box)) (λ desk resumed. (image, loaded, resumed)) is
-with_bytes bytes groups rows held moment limit image (Err why) value loaded is = tt
+with_bytes bytes groups rows held moment limit image (Ok box) value loaded right is =
+    on_desk_more (IsResumedOn image groups rows held moment limit) (IsResumedWith bytes groups rows held moment limit) (Some (value box)) (λ desk resumed. (image, loaded, right, resumed)) is
+with_bytes bytes groups rows held moment limit image (Err why) value loaded right is = tt
 
 pub behind_bytes : {B : Type 0} (bytes groups : List ℕ) (rows : List ClientRow) (held : List LeaseNumbers) (moment : ℕ) (image : DeviceImage) (result : Result B Unopened)
     → IsLoaded bytes image → IfErr result (IsRefusedAs (IsUnresumedWith image groups rows held moment)) → IfErr result (IsRefusedAs (IsUnresumed bytes groups rows held moment))

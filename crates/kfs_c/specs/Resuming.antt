@@ -28,9 +28,14 @@ IsResumed image clients held limit desk = desk ≡ opened_at (state_at image cli
 abbrev pub IsResumedOn : DeviceImage → (groups : List ℕ) → List ClientRow → List LeaseNumbers → (moment limit : ℕ) → Desk → Type 0
 IsResumedOn image groups rows held moment limit desk = IsResumed image (map (client_of groups) rows) (listed_leases moment (map lease_of held)) limit desk
 
--- with the image that the bytes decode to, which breaks no rule
+-- beside this image no lease has a fault
+abbrev pub AreLeasesRight : DeviceImage → (groups : List ℕ) → List ClientRow → List LeaseNumbers → (moment : ℕ) → Type 0
+AreLeasesRight image groups rows held moment = fault_of_rows (map (client_of groups) rows) (get image.heads) moment (map lease_of held) ≡ None
+
+-- with the image that the bytes decode to, which breaks no rule, and beside which no lease has a fault
 abbrev pub IsResumedWith : (bytes groups : List ℕ) → List ClientRow → List LeaseNumbers → (moment limit : ℕ) → Desk → Type 0
-IsResumedWith bytes groups rows held moment limit desk = (image : DeviceImage) × IsLoaded bytes image × IsResumedOn image groups rows held moment limit desk
+IsResumedWith bytes groups rows held moment limit desk =
+    (image : DeviceImage) × IsLoaded bytes image × AreLeasesRight image groups rows held moment × IsResumedOn image groups rows held moment limit desk
 
 -- ---- why no desk is begun
 

@@ -2,11 +2,12 @@
 ghost use Rattle.std.specs.Prelude.{◌≡◌, ◌≤◌, ◌⊎◌, All, IfErr, IfOk, None, Some, map};
 ghost use Rattle.kfs_lease.specs.LeaseLists.{AreLawful, fault_of_rows, listed_leases};
 ghost use Rattle.kfs_lease.specs.ShownLists.{row_shown, rows_shown};
+ghost use Rattle.kfs_desk.specs.Opening.{begin_fault};
 ghost use Rattle.kfs_model.specs.Table.{get};
 ghost use Rattle.kfs_c.specs.Holding.{OnDesk};
 ghost use Rattle.kfs_c.specs.Loose.Status as status;
-ghost use Rattle.kfs_c.specs.Opening.{AreClientsRefused, IsRefusedAs, IsRowRight};
-ghost use Rattle.kfs_c.specs.Resuming.{AreHoldersRefused, AreLeasesRefused, IsResumed, IsResumedOn, IsResumedWith, IsUnresumed, IsUnresumedWith, lease_of};
+ghost use Rattle.kfs_c.specs.Opening.{AreClientsRefused, IsRefusedAs, IsRowRight, client_of};
+ghost use Rattle.kfs_c.specs.Resuming.{AreHoldersRefused, AreLeasesRefused, AreLeasesRight, IsResumed, IsResumedOn, IsResumedWith, IsUnresumed, IsUnresumedWith, lease_of};
 
 use crate::acts::kind_asked;
 use crate::handle::Handle;
@@ -45,6 +46,8 @@ pub extern "C" fn kfs_resume(
     ensures resumed { result ≡ status.done → OnDesk handle.new.value (IsResumedWith bytes.now groups.now clients.now leases.now moment limit) }
     // No row of a client is wrong then. Where one is, the first of them is told.
     ensures rows { result ≡ status.done → All (IsRowRight groups.now) clients.now }
+    // Nor is a client wrong beside an earlier one.
+    ensures together { result ≡ status.done → begin_fault (map (client_of groups.now) clients.now) ≡ None }
     ensures refused { result ≡ status.refused → IsUnresumed bytes.now groups.now clients.now leases.now moment fault.new }
     ensures unopened { 1 ≤ result → handle.new.value ≡ handle.old.value }
     ensures silent { result ≤ status.no_memory → fault.new ≡ fault.old }
@@ -71,6 +74,7 @@ fn resume(
 ) -> Result<Box<Held, Global>, Unopened>
     ensures resumed { IfOk result (λ held. OnDesk (Some held.value) (IsResumedWith bytes.now groups.now clients.now leases.now moment limit)) }
     ensures rows { IfOk result (λ _. All (IsRowRight groups.now) clients.now) }
+    ensures together { IfOk result (λ _. begin_fault (map (client_of groups.now) clients.now) ≡ None) }
     ensures refused { IfErr result (IsRefusedAs (IsUnresumed bytes.now groups.now clients.now leases.now moment)) }
 {
     let image = load(alloc, bytes)?;
@@ -88,7 +92,9 @@ fn resume_image(
     limit: u32,
 ) -> Result<Box<Held, Global>, Unopened>
     ensures resumed { IfOk result (λ held. OnDesk (Some held.value) (IsResumedOn image groups.now clients.now leases.now moment limit)) }
+    ensures right { IfOk result (λ _. AreLeasesRight image groups.now clients.now leases.now moment) }
     ensures rows { IfOk result (λ _. All (IsRowRight groups.now) clients.now) }
+    ensures together { IfOk result (λ _. begin_fault (map (client_of groups.now) clients.now) ≡ None) }
     ensures refused { IfErr result (IsRefusedAs (IsUnresumedWith image groups.now clients.now leases.now moment)) }
 {
     let clients = clients_from(alloc, clients, groups)?;
@@ -105,6 +111,8 @@ fn resume_clients(
     limit: u32,
 ) -> Result<Box<Held, Global>, Unopened>
     ensures resumed { IfOk result (λ held. OnDesk (Some held.value) (IsResumed image clients.items (listed_leases moment (map lease_of leases.now)) limit)) }
+    ensures right { IfOk result (λ _. fault_of_rows clients.items (get image.heads) moment (map lease_of leases.now) ≡ None) }
+    ensures together { IfOk result (λ _. begin_fault clients.items ≡ None) }
     ensures refused { IfErr result (IsRefusedAs (AreHoldersRefused clients.items (get image.heads) moment (map lease_of leases.now))) }
 {
     let leases = leases_from(alloc, &image, clients.as_slice(), leases, moment)?;
@@ -184,6 +192,7 @@ fn resume_with(
 ) -> Result<Box<Held, Global>, Unopened>
     requires lawful { AreLawful clients.items (get image.heads) leases }
     ensures resumed { IfOk result (λ held. OnDesk (Some held.value) (IsResumed image clients.items leases limit)) }
+    ensures together { IfOk result (λ _. begin_fault clients.items ≡ None) }
     ensures refused { IfErr result (IsRefusedAs (AreClientsRefused clients.items)) }
 {
     match Desk::resume(alloc, image, clients, leases, limit) {
