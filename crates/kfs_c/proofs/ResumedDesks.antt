@@ -27,10 +27,10 @@ unleased clients heads moment rows found (inr is) = refused_by (AreLeasesRefused
 
 -- what follows for each desk is said of the one that is held
 on_desk_more : (One Other : Desk → Type 0) (held : Option Held) → ((desk : Desk) → One desk → Other desk) → OnDesk held One → OnDesk held Other
-on_desk_more One Other None more no = absurd no
+on_desk_more One Other None more never = absurd never
 on_desk_more One Other (Some (helds.Desk desk)) more one = more desk one
-on_desk_more One Other (Some (helds.View view)) more no = absurd no
-on_desk_more One Other (Some (helds.Verdict verdict)) more no = absurd no
+on_desk_more One Other (Some (helds.View view)) more never = absurd never
+on_desk_more One Other (Some (helds.Verdict verdict)) more never = absurd never
 
 pub with_bytes : {B : Type 0} (bytes groups : List ℕ) (rows : List ClientRow) (held : List LeaseNumbers) (moment limit : ℕ) (image : DeviceImage) (result : Result B Unopened) (value : B → Held)
     → IsLoaded bytes image → IfOk result (λ box. AreLeasesRight image groups rows held moment) → IfOk result (λ box. OnDesk (Some (value box)) (IsResumedOn image groups rows held moment limit))
