@@ -10,8 +10,8 @@
  *
  * Memory.  All of it is taken by malloc and realloc, and freed by free. Where one of them answers NULL,
  *   the call answers KFS_NO_MEMORY, and each handle holds what it held, but for the verdict of kfs_land.
- *   No call keeps a pointer that it is given. A handle that is opened, loaded or restored anew holds both desks for
- *   a while: close it first where memory is short.
+ *   No call keeps a pointer that it is given. A handle that is opened, loaded, restored or resumed anew holds both
+ *   desks for a while: close it first where memory is short.
  *
  * Pointers.  None may be NULL, also where its length is 0. What is passed for a call must not overlap
  *   what the call writes, and no other thread may touch it meanwhile. So copy a name out of the buffer
@@ -164,7 +164,7 @@ enum {
     KFS_CALL_TRAILING = 2   /* a call was read, and bytes remain */
 };
 
-/* Of kfs_open, kfs_load and kfs_restore. */
+/* Of kfs_open, kfs_load, kfs_restore and kfs_resume. */
 enum {
     KFS_OPEN_SIZES = 1,   /* a tier has over 65,536 blocks */
     KFS_OPEN_CLIENT = 2,  /* client `index`; reason: 1 over 16 groups, 2 a bad grant, 3 groups out of the list */
@@ -195,6 +195,14 @@ struct kfs_client {
     uint32_t groups_start;
     uint32_t groups_count;
     bool privileged; /* permission bits don't bind it */
+};
+
+/* A lease of a client on a node. */
+struct kfs_held {
+    uint32_t number;
+    uint32_t client;
+    uint64_t end; /* above the moment */
+    bool write;   /* else for reading */
 };
 
 /* The move of a block of a file to a place of a tier. All count from 0. */
@@ -255,6 +263,10 @@ KFS_LIES(kfs_client, last, 16);
 KFS_LIES(kfs_client, groups_start, 20);
 KFS_LIES(kfs_client, groups_count, 24);
 KFS_LIES(kfs_client, privileged, 28);
+KFS_HOLDS(sizeof(struct kfs_held) == 24, "kfs_held");
+KFS_LIES(kfs_held, client, 4);
+KFS_LIES(kfs_held, end, 8);
+KFS_LIES(kfs_held, write, 16);
 KFS_HOLDS(sizeof(struct kfs_move) == 16, "kfs_move");
 KFS_LIES(kfs_move, block, 4);
 KFS_LIES(kfs_move, tier, 8);
@@ -298,6 +310,17 @@ uint32_t kfs_load(struct kfs *handle, const uint8_t *bytes, size_t bytes_len,
  * it held. */
 uint32_t kfs_restore(struct kfs *handle, const uint8_t *bytes, size_t bytes_len, uint32_t limit,
                      struct kfs_fault *fault);
+
+/* Has the handle hold a desk that goes on with the image that the bytes spell, as kfs_save gives them, these clients,
+ * and the leases that they hold at this moment, ascending by node and then by client. What it held is freed then. The
+ * docket is empty, and will have at most `limit` rows.
+ * KFS_REFUSED: `fault` has a KFS_OPEN_ code, of the first thing that is wrong: the image's bytes, a rule of the image,
+ * a client by itself, a lease, clients together. KFS_REFUSED, KFS_NO_MEMORY: the handle holds what it held. */
+uint32_t kfs_resume(struct kfs *handle, const uint8_t *bytes, size_t bytes_len,
+                    const struct kfs_client *clients, size_t clients_len,
+                    const uint32_t *groups, size_t groups_len,
+                    const struct kfs_held *leases, size_t leases_len, uint64_t moment, uint32_t limit,
+                    struct kfs_fault *fault);
 
 /* Frees what the handle holds. It holds nothing then, and may be closed again. */
 void kfs_close(struct kfs *handle);

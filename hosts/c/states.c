@@ -107,6 +107,60 @@ static void check_refusals(struct kfs *desk, uint8_t *bytes, size_t len)
     expect(rows, 0, "its docket");
 }
 
+/* ---- other clients */
+
+/* What a host knows of its desk: clients and their groups, the leases that are held, and the moment. */
+struct known {
+    struct kfs_client clients[2];
+    size_t clients_len;
+    uint32_t groups[1];
+    size_t groups_len;
+    struct kfs_held leases[2];
+    size_t leases_len;
+    uint64_t moment;
+};
+
+/* Has the handle hold a desk with the image of the one that it holds, and with what the host knows. Where that is
+ * refused, it holds the old one. */
+static uint32_t resume(struct kfs *desk, const struct known *it, uint32_t limit, struct kfs_fault *fault)
+{
+    uint8_t none, *image = NULL;
+    size_t len = 0;
+    uint32_t status = kfs_save(desk, &none, 0, &len);
+    if (status == KFS_SHORT) status = (image = malloc(len)) ? KFS_DONE : KFS_NO_MEMORY;
+    if (status == KFS_DONE) status = kfs_save(desk, image, len, &len);
+    if (status == KFS_DONE)
+        status = kfs_resume(desk, image, len, it->clients, it->clients_len, it->groups, it->groups_len, it->leases,
+                            it->leases_len, it->moment, limit, fault);
+    free(image);
+    return status;
+}
+
+/* Resumed with what it has, a desk has the same state. A lease that no desk has is refused by its reason, and the desk
+ * stays. Another client can be added: it gets no lease that conflicts with one that goes on, and gets it where none does. */
+static void check_resumed(struct kfs *desk, struct kfs *other, const struct kfs_client *client)
+{
+    struct known known = { .clients = { *client }, .clients_len = 1, .leases_len = 1, .moment = 5 };
+    struct kfs_fault fault = { 0 };
+    struct kfs_act act = { 0 };
+    known.leases[0] = (struct kfs_held){ .number = 1, .client = 7, .end = 100, .write = true };
+    expect(resume(other, &known, 9, &fault), KFS_DONE, "a resumed desk");
+    check_same_state(desk, other);
+    known.leases[0].end = 5;
+    expect(resume(other, &known, 9, &fault), KFS_REFUSED, "an end that is past");
+    expect(fault.code == KFS_OPEN_LEASE && fault.reason == 3 && fault.index == 0, 1, "its fault");
+    check_same_state(desk, other);
+    known.leases[0].end = 100;
+    known.clients[known.clients_len++] = (struct kfs_client){ .number = 8, .uid = 1000, .gid = 1000, .first = 100, .last = 199 };
+    expect(resume(other, &known, 9, &fault), KFS_DONE, "a desk with a client more");
+    expect(kfs_lease(other, 8, (const uint8_t *)"/", 1, true, 100, &act), KFS_DONE, "its lease of the root");
+    expect(!act.done && act.fault.code == KFS_LEASE_HELD && act.fault.detail == 7, 1, "the lease that is held");
+    known.leases_len = 0;
+    expect(resume(other, &known, 9, &fault), KFS_DONE, "a desk without the lease");
+    expect(kfs_lease(other, 8, (const uint8_t *)"/", 1, true, 100, &act), KFS_DONE, "a lease of the root again");
+    expect(act.done && act.number == 1, 1, "the lease");
+}
+
 /* ---- calls */
 
 /* The desk answers the call's bytes with these bytes. */
@@ -241,6 +295,8 @@ int main(void)
     expect(kfs_tick(&desk, 5, &act), KFS_DONE, "moment 5");
     expect(kfs_lease(&desk, 7, (const uint8_t *)"/", 1, true, 100, &act), KFS_DONE, "a lease of the root");
     bytes = state_of(&desk, &len);
+    expect(kfs_restore(&other, bytes, len, 9, &fault), KFS_DONE, "a desk to resume");
+    check_resumed(&desk, &other, &client);
     /* both go on from the state, since the first desk's docket is full */
     expect(kfs_restore(&again, bytes, len, 13, &fault), KFS_DONE, "a desk that goes on");
     expect(kfs_restore(&other, bytes, len, 13, &fault), KFS_DONE, "another one");

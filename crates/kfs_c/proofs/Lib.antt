@@ -3,6 +3,7 @@ pub mod Images
 pub mod Names
 pub mod Refusals
 pub mod Restoring
+pub mod ResumedDesks
 pub mod Sent
 pub mod Spelling
 pub mod Values

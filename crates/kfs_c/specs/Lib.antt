@@ -4,6 +4,7 @@ pub mod Holding
 pub mod Opening
 pub mod Permissions
 pub mod Reading
+pub mod Resuming
 pub mod Spelled
 pub mod States
 pub mod Told

@@ -58,7 +58,7 @@ fn lease(
 }
 
 /// The kind of lease that is asked for.
-fn kind_asked(write: bool) -> LeaseKind
+pub(crate) fn kind_asked(write: bool) -> LeaseKind
     ensures { kind_of result ≡ kind_of_lease write }
 {
     if write {

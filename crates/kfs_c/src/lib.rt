@@ -16,6 +16,7 @@ pub mod loose;
 mod numbers;
 mod opening;
 mod permissions;
+mod resuming;
 mod slot;
 mod spelled;
 mod states;

@@ -24,6 +24,20 @@ pub struct ClientRow {
     pub privileged: bool,
 }
 
+/// A lease, as a host gives it.
+#[repr(C)]
+#[derive(Clone, Copy)]
+pub struct LeaseNumbers {
+    /// The number of the node.
+    pub number: u32,
+    /// The number of the client.
+    pub client: u32,
+    /// The moment at which it ends.
+    pub end: u64,
+    /// Whether it is for writing, or else for reading.
+    pub write: bool,
+}
+
 /// The move of a block to another place.
 #[repr(C)]
 #[derive(Clone, Copy)]

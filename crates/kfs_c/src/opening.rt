@@ -4,6 +4,7 @@ ghost use Rattle.kfs_image.specs.Codec.RawImages.{raw_of};
 ghost use Rattle.kfs_model.specs.Device.RawImage.{image_of};
 ghost use Rattle.kfs_model.specs.Device.Finding.{IsWellFormed};
 ghost use Rattle.kfs_model.specs.Device.Spelling.{ImageAnswer};
+ghost use Rattle.kfs_desk.specs.Opening.{begin_fault};
 ghost use Rattle.kfs_c.specs.Holding.{OnDesk};
 ghost use Rattle.kfs_c.specs.Opening.{AreClientsRefused, AreRowsRefused, IsBegun, IsBegunWith, IsImageRefused, IsLoaded, IsLoadedWith, IsNoImage, IsOpenedWith, IsOpeningRefused, IsRowRefused, IsRowRight, IsUnloaded, IsUnopened, IsRefusedAs, broken_as, client_of, misfit_told, sizes_of, sizes_told, stray_told, unbegun_as, unread_as};
 ghost use Rattle.kfs_c.specs.Loose.Status as status;
@@ -69,6 +70,8 @@ pub extern "C" fn kfs_open(
     ensures opened { result ≡ status.done → OnDesk handle.new.value (IsOpenedWith (sizes_of first second third) groups.now clients.now limit) }
     // No row is wrong then. Where one is, the first of them is told.
     ensures rows { result ≡ status.done → All (IsRowRight groups.now) clients.now }
+    // Nor is a client wrong beside an earlier one.
+    ensures together { result ≡ status.done → begin_fault (map (client_of groups.now) clients.now) ≡ None }
     ensures refused { result ≡ status.refused → IsUnopened (sizes_of first second third) groups.now clients.now fault.new }
     ensures unopened { 1 ≤ result → handle.new.value ≡ handle.old.value }
     ensures silent { result ≤ status.no_memory → fault.new ≡ fault.old }
@@ -107,6 +110,8 @@ pub extern "C" fn kfs_load(
     ensures opened { result ≡ status.done → OnDesk handle.new.value (IsLoadedWith bytes.now groups.now clients.now limit) }
     // No row is wrong then. Where one is, the first of them is told.
     ensures rows { result ≡ status.done → All (IsRowRight groups.now) clients.now }
+    // Nor is a client wrong beside an earlier one.
+    ensures together { result ≡ status.done → begin_fault (map (client_of groups.now) clients.now) ≡ None }
     ensures refused { result ≡ status.refused → IsUnloaded bytes.now groups.now clients.now fault.new }
     ensures unopened { 1 ≤ result → handle.new.value ≡ handle.old.value }
     ensures silent { result ≤ status.no_memory → fault.new ≡ fault.old }
@@ -134,7 +139,7 @@ pub(crate) fn tell(why: Unopened, fault: &mut FaultNumbers) -> u32
 }
 
 /// The image that the bytes decode to, if it breaks no rule.
-fn load(alloc: Global, bytes: &[u8]) -> Result<Image<Global>, Unopened>
+pub(crate) fn load(alloc: Global, bytes: &[u8]) -> Result<Image<Global>, Unopened>
     ensures loaded { IfOk result (IsLoaded bytes.now) }
     ensures refused { IfErr result (IsRefusedAs (IsImageRefused bytes.now)) }
 {
@@ -208,6 +213,7 @@ fn open(
 ) -> u32
     ensures opened { result ≡ status.done → OnDesk handle.new.value (IsBegunWith image groups.now clients.now limit) }
     ensures rows { result ≡ status.done → All (IsRowRight groups.now) clients.now }
+    ensures together { result ≡ status.done → begin_fault (map (client_of groups.now) clients.now) ≡ None }
     ensures refused { result ≡ status.refused → IsOpeningRefused groups.now clients.now fault.new }
     ensures unopened { 1 ≤ result → handle.new.value ≡ handle.old.value }
     ensures silent { result ≤ status.no_memory → fault.new ≡ fault.old }
@@ -232,6 +238,7 @@ fn begin_with(
 ) -> Result<Box<Held, Global>, Unopened>
     ensures begun { IfOk result (λ held. OnDesk (Some held.value) (IsBegunWith image groups.now clients.now limit)) }
     ensures rows { IfOk result (λ _. All (IsRowRight groups.now) clients.now) }
+    ensures together { IfOk result (λ _. begin_fault (map (client_of groups.now) clients.now) ≡ None) }
     ensures refused { IfErr result (IsRefusedAs (IsOpeningRefused groups.now clients.now)) }
 {
     let clients = clients_from(alloc, clients, groups)?;
@@ -247,6 +254,7 @@ fn begin(
     limit: u32,
 ) -> Result<Box<Held, Global>, Unopened>
     ensures begun { IfOk result (λ held. OnDesk (Some held.value) (IsBegun image clients.items limit)) }
+    ensures together { IfOk result (λ _. begin_fault clients.items ≡ None) }
     ensures refused { IfErr result (IsRefusedAs (AreClientsRefused clients.items)) }
 {
     match Desk::begin(alloc, image, clients, limit) {
@@ -288,7 +296,7 @@ pub(crate) fn unbegun(why: BeginFault) -> Unopened
 }
 
 /// The clients that the rows say.
-fn clients_from(
+pub(crate) fn clients_from(
     alloc: Global,
     rows: &[ClientRow],
     groups: &[u32],

@@ -145,7 +145,7 @@ fn stateless(found: StateFault) -> Unopened
 }
 
 /// Why a row is no lease.
-fn unleased(found: LeaseRowFault) -> Unopened
+pub(crate) fn unleased(found: LeaseRowFault) -> Unopened
     ensures { result ≡ unleased_as found }
 {
     match found {

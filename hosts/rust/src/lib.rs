@@ -5,7 +5,7 @@
 
 mod raw;
 
-pub use raw::{Fault, Move, Node};
+pub use raw::{Fault, Lease, Move, Node};
 use raw::Handle;
 use std::fmt;
 
@@ -161,6 +161,22 @@ impl Desk {
             raw::kfs_load(
                 &mut held.0, image.as_ptr(), image.len(), rows.as_ptr(), rows.len(), groups.as_ptr(), groups.len(),
                 limit, &mut fault,
+            )
+        };
+        checked(status, fault).map(|()| Desk(held))
+    }
+
+    /// A desk that goes on with an image that `save` gave, these clients, and the leases that they hold at this
+    /// moment, ascending by node and then by client. The docket is empty.
+    pub fn resume(
+        image: &[u8], clients: &[Client], leases: &[Lease], moment: u64, limit: u32,
+    ) -> Result<Desk, Error> {
+        let (rows, groups) = rows(clients);
+        let (mut held, mut fault) = (Held(Handle::EMPTY), Fault::default());
+        let status = unsafe {
+            raw::kfs_resume(
+                &mut held.0, image.as_ptr(), image.len(), rows.as_ptr(), rows.len(), groups.as_ptr(), groups.len(),
+                leases.as_ptr(), leases.len(), moment, limit, &mut fault,
             )
         };
         checked(status, fault).map(|()| Desk(held))

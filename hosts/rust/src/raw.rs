@@ -32,6 +32,17 @@ pub struct Move {
     pub place: u32,
 }
 
+/// A lease of a client on a node.
+#[repr(C)]
+#[derive(Clone, Copy, Debug, PartialEq, Eq)]
+pub struct Lease {
+    pub number: u32,
+    pub client: u32,
+    /// Above the moment.
+    pub end: u64,
+    pub write: bool,
+}
+
 /// Why something was refused: a `KFS_` code of `include/kfs.h`, and what it is about.
 #[repr(C)]
 #[derive(Clone, Copy, Debug, Default, PartialEq, Eq)]
@@ -89,6 +100,11 @@ extern "C" {
     ) -> u32;
     pub fn kfs_restore(
         handle: *mut Handle, bytes: *const u8, bytes_len: usize, limit: u32, fault: *mut Fault,
+    ) -> u32;
+    pub fn kfs_resume(
+        handle: *mut Handle, bytes: *const u8, bytes_len: usize, clients: *const ClientRow, clients_len: usize,
+        groups: *const u32, groups_len: usize, leases: *const Lease, leases_len: usize, moment: u64, limit: u32,
+        fault: *mut Fault,
     ) -> u32;
     pub fn kfs_close(handle: *mut Handle);
     pub fn kfs_submit(
