@@ -59,7 +59,7 @@ fn made(rt: &HostRuntime, threads: &(impl Threads + Sync), folder: &str, state: 
     }
 }
 
-fn found(rt: &HostRuntime, threads: &(impl Threads + Sync), folder: &str, state: &[u8]) -> Option<Found<RawDisk<Pair>>> {
+fn find(rt: &HostRuntime, threads: &(impl Threads + Sync), folder: &str, state: &[u8]) -> Option<Found<RawDisk<Pair>>> {
     match open_files(rt, folder) {
         Ok(opened) => {
             let OpenedFiles { disk, first, second } = opened;
@@ -99,7 +99,7 @@ fn serve<I: Read>(rt: &HostRuntime, keeper: &mut Keeper<RawDisk<Pair>>, reader: 
 fn kept<I: Read>(rt: &HostRuntime, threads: &(impl Threads + Sync), words: (&str, &str), reader: &mut I) -> io::Result<()> {
     let (folder, name) = words;
     let state = fs::read(rt, name)?;
-    match due(found(rt, threads, folder, &state))? {
+    match due(find(rt, threads, folder, &state))? {
         Found::Nothing => println!(rt; "nothing"),
         Found::Kept(keeper) => {
             let mut keeper = keeper;
@@ -114,7 +114,7 @@ fn asked<I: Read>(rt: &HostRuntime, threads: &(impl Threads + Sync), name: &str,
     reader.read_to_end(&mut bytes)?;
     let steps = due(steps::all(rt.alloc(), &bytes))?;
     let calls = due(steps::calls(rt.alloc(), &steps))?;
-    let plain = due(plain::plain(threads, rt.alloc(), &state, &calls))?;
+    let plain = due(plain::ask(threads, rt.alloc(), &state, &calls))?;
     for answer in &plain.answers {
         say(rt, "=", answer)?;
     }
@@ -193,6 +193,20 @@ class Lines:
 
 
 
+def kill_soon(run, process):
+    """Kills the process about its opening. A timer's thread comes too late for that."""
+    end = time.perf_counter() + run.chance.uniform(0, run.opening)
+    while time.perf_counter() < end:
+        pass
+    process.kill()
+    return threading.Timer(0, process.kill)
+
+
+def kill_later(run, process):
+    """Has the process killed at any moment; so a run is killed several times."""
+    return threading.Timer(run.chance.uniform(0, run.longest / 2), process.kill)
+
+
 class FilesRun:
     """Calls of a seed, made by one process after another on the files of a folder, each killed at random but the last."""
 
@@ -207,10 +221,9 @@ class FilesRun:
         self.due = Due(program, self.state, asked)
         self.kills = self.openings = self.checkpoints = self.found = self.answered = 0
         self.begin()
-        began = time.monotonic()
+        # The least time of an opening so far, and that of a whole run.
+        self.opening = self.longest = 600
         self.process(None)
-        # So most runs are killed several times.
-        self.longest = (time.monotonic() - began) / 2
 
     def begin(self):
         """Begins with no files. No journal has been seen yet."""
@@ -221,16 +234,19 @@ class FilesRun:
     def once(self):
         """Has all calls made on new files."""
         self.begin()
-        while not self.process(self.chance.uniform(0, self.longest)):
+        while not self.process(self.chance.choice([kill_soon, kill_later, kill_later])):
             pass
 
-    def process(self, seconds):
-        """Runs a process that is killed after so many seconds. Returns whether it has made all calls."""
+    def process(self, killer):
+        """Runs a process that is killed, where there is a killer. Returns whether it has made all calls."""
         words = [self.program, "kept", self.folder, self.state]
+        began = time.monotonic()
         with subprocess.Popen(words, stdin=subprocess.PIPE, stdout=subprocess.PIPE) as process:
-            timer = threading.Timer(seconds, process.kill) if seconds is not None else threading.Timer(600, process.kill)
+            timer = killer(self, process) if killer else threading.Timer(600, process.kill)
             timer.start()
             first = process.stdout.readline()
+            if killer != kill_soon and first.endswith(b"\n"):
+                self.opening = min(self.opening, time.monotonic() - began)
             place = self.opened(first) if first.endswith(b"\n") else None
             steps = self.steps_from(place)
             with contextlib.suppress(BrokenPipeError):
@@ -238,6 +254,8 @@ class FilesRun:
                 process.stdin.close()
             rest = process.stdout.read()
             timer.cancel()
+        if not killer:
+            self.longest = time.monotonic() - began
         return self.ended(process.returncode, place, steps, rest.split(b"\n")[:-1])
 
     def steps_from(self, place):

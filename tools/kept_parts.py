@@ -254,7 +254,7 @@ pub struct Plain {
     pub states: Vec<Vec<u8>>,
 }
 
-pub fn plain(rt: &(impl Threads + Sync), alloc: Global, state: &[u8], calls: &[&[u8]]) -> Option<Plain> {
+pub fn ask(rt: &(impl Threads + Sync), alloc: Global, state: &[u8], calls: &[&[u8]]) -> Option<Plain> {
     let mut desk = begun(rt, alloc, state)?;
     let mut answers = Vec::new(alloc);
     let mut states = Vec::new(alloc);
