@@ -11,7 +11,7 @@ import threading
 import time
 
 from benchmarks import put_files
-from kept_parts import PARTS, USES, exactly, in_steps, step_bytes
+from kept_parts import USES, exactly, in_steps, step_bytes
 
 FILES_USE = f"{USES} kfs_journal_files hex"
 NAMES = ("first.kdjl", "second.kdjl")
