@@ -1,0 +1,336 @@
+"""What the tools on kept desks share: calls from seeds, the steps in which they are made, and the parts of their programs."""
+import random
+
+from fuzzing.calls import CallMaker
+from fuzzing.codec import DIRECTORY, Header, RawImage, RawNode, encode_image, number_bytes
+
+# What each of the programs stands on.
+USES = "kfs_image kfs_fsck kfs_mode kfs_desk kfs_call kfs_call_desk kfs_journal kfs_kept"
+
+# A desk of a state's bytes, and what is shown of it and of its answers.
+DESKS = r"""//! A desk that begins with the bytes of a state, and what it shows, as bytes.
+ghost use Rattle.std.specs.Prelude.{◌≡◌, IfSome, None};
+ghost use Rattle.kfs_desk.specs.Opening.{begin_fault};
+
+use kfs_call::{AnswerRow, ClientRow, decode_state, encode_answer};
+use kfs_call_desk::{CallFault, Called, encode_desk, told};
+use kfs_desk::Desk;
+use kfs_fsck::fsck;
+use kfs_image::{Image, decode_image};
+use kfs_mode::Client;
+use std::alloc::Global;
+use std::thread::Threads;
+
+/// How many rows a docket has room for.
+pub const LIMIT: u32 = u32::MAX;
+
+fn client_of(row: &ClientRow) -> Option<Client> {
+    let groups = row.groups.as_slice();
+    Client::new(row.number, row.uid, row.gid, groups, row.privileged, row.first, row.last).ok()
+}
+
+fn image_of(rt: &(impl Threads + Sync), alloc: Global, bytes: &[u8]) -> Option<Image<Global>> {
+    let raw = decode_image(alloc, bytes).ok()?;
+    match fsck(rt, alloc, raw) {
+        Ok(image) => Some(image),
+        Err(_) => None,
+    }
+}
+
+/// A desk with the clients and the image of a state. It has no lease.
+pub fn begun(rt: &(impl Threads + Sync), alloc: Global, state: &[u8]) -> Option<Desk<Global>>
+    ensures { IfSome result (λ desk. begin_fault desk.state.clients ≡ None) }
+{
+    let rows = decode_state(alloc, state).ok()?;
+    let mut clients = Vec::new(alloc);
+    for row in rows.clients.as_slice() {
+        clients.push(client_of(row)?).ok()?;
+    }
+    match Desk::begin(alloc, image_of(rt, alloc, rows.image)?, clients, LIMIT) {
+        Ok(desk) => Some(desk),
+        Err(_) => None,
+    }
+}
+
+/// The desk's state as bytes.
+pub fn saved(alloc: Global, desk: &Desk<Global>) -> Option<Vec<u8>> {
+    encode_desk(alloc, desk.image(), desk.clients(), desk.leases()).ok()
+}
+
+/// The answer's bytes behind its row, none for bytes that are no call. `None` for any other fault.
+pub fn answer(alloc: Global, answer: &Result<Called, CallFault>) -> Option<Vec<u8>> {
+    match answer {
+        Ok(called) => {
+            let row = AnswerRow { position: 0, told: told(called) };
+            let bytes = encode_answer(alloc, &row).ok()?;
+            Vec::from_slice(alloc, bytes.get(4..)?).ok()
+        }
+        Err(CallFault::BadCall(_)) => Some(Vec::new(alloc)),
+        Err(_) => None,
+    }
+}
+"""
+
+# A kept desk on some disk. What is to hold of it goes with it, so no loop has to say it.
+KEEPER = r"""//! A kept desk.
+ghost use Rattle.std.specs.Prelude.{◌≡◌, None};
+ghost use Rattle.kfs_desk.specs.Opening.{begin_fault};
+ghost use Rattle.kfs_journal.specs.Disk.{Only};
+ghost use Rattle.kfs_journal.specs.Journal.{AreEmpty};
+ghost use Rattle.kfs_kept.specs.Keeping.{IsKept};
+
+use crate::desks::{LIMIT, answer, saved};
+use kfs_desk::Desk;
+use kfs_journal::Disk;
+use kfs_kept::{Kept, OpenFault};
+use std::alloc::Global;
+use std::thread::Threads;
+
+/// A kept desk.
+#[derive(Drop)]
+pub struct Keeper<D: Disk + Drop> {
+    alloc: Global,
+    kept: Kept<Global, D>,
+    ghost is_kept: { IsKept D.seen D.may_leave kept },
+}
+
+/// What files are opened as.
+#[derive(Drop)]
+pub enum Found<D: Disk + Drop> {
+    /// No journal was made on them.
+    Nothing,
+    Kept(Keeper<D>),
+}
+
+impl<D: Disk + Drop> Keeper<D> {
+    /// A desk that is kept on new files.
+    pub fn begin(alloc: Global, desk: Desk<Global>, disk: D) -> Option<Keeper<D>>
+        requires beside { begin_fault desk.state.clients ≡ None }
+        requires empty { AreEmpty (D.seen disk) }
+        requires durable { Only (D.seen disk) (D.may_leave disk) }
+    {
+        match Kept::create(alloc, desk, disk) {
+            Ok(kept) => Some(Keeper { alloc, kept }),
+            Err(_) => None,
+        }
+    }
+
+    /// What files with these bytes are opened as. `None` where they aren't opened for another reason than that there is no
+    /// journal.
+    pub fn open(rt: &(impl Threads + Sync), alloc: Global, disk: D, first: &[u8], second: &[u8]) -> Option<Found<D>>
+        requires bytes { D.seen disk ≡ (first.now, second.now) }
+        requires durable { Only (D.seen disk) (D.may_leave disk) }
+    {
+        match Kept::open(rt, alloc, disk, first, second, LIMIT) {
+            Ok(kept) => Some(Found::Kept(Keeper { alloc, kept })),
+            Err(back) => match back.why {
+                OpenFault::Empty | OpenFault::NotAJournal => Some(Found::Nothing),
+                _ => None,
+            },
+        }
+    }
+
+    /// Makes calls as one group, and adds each answer.
+    pub fn group(&mut self, calls: &[&[u8]], answers: &mut Vec<Vec<u8>>) -> Option<()> {
+        let alloc = self.alloc;
+        let made = self.kept.call_all(alloc, calls).ok()?;
+        for it in &made {
+            answers.push(answer(alloc, it)?).ok()?;
+        }
+        Some(())
+    }
+
+    /// Makes calls as one group, and counts those that are answered.
+    pub fn count(&mut self, calls: &[&[u8]]) -> Option<usize> {
+        let made = self.kept.call_all(self.alloc, calls).ok()?;
+        let mut count = 0usize;
+        for it in &made {
+            if it.is_ok() {
+                count = count.saturating_add(1);
+            }
+        }
+        Some(count)
+    }
+
+    pub fn checkpoint(&mut self) -> Option<()> {
+        self.kept.checkpoint(self.alloc).ok()
+    }
+
+    /// The state as bytes.
+    pub fn saved(&self) -> Option<Vec<u8>> {
+        saved(self.alloc, self.kept.desk()?)
+    }
+
+    pub fn disk(&self) -> &D {
+        self.kept.disk()
+    }
+}
+"""
+
+# The steps of a run, as `step_bytes` writes them.
+STEPS = r"""//! The steps of a run, read from bytes: 0 is a checkpoint, and 1 a group with its count and each call behind its length.
+use std::alloc::Global;
+
+/// What is done next.
+#[derive(Drop)]
+pub enum Step<'a> {
+    Checkpoint,
+    Group(Vec<&'a [u8]>),
+}
+
+fn number(bytes: &[u8]) -> Option<(usize, &[u8])> {
+    match bytes {
+        [a, b, c, d, rest @ ..] => Some((u32::from_be_bytes([*a, *b, *c, *d]) as usize, rest)),
+        _ => None,
+    }
+}
+
+fn long(bytes: &[u8]) -> Option<(&[u8], &[u8])> {
+    let (count, rest) = number(bytes)?;
+    if rest.len() < count {
+        return None;
+    }
+    Some((&rest[..count], &rest[count..]))
+}
+
+fn group(alloc: Global, bytes: &[u8]) -> Option<(Step<'_>, &[u8])> {
+    let (count, mut rest) = number(bytes)?;
+    let mut calls = Vec::new(alloc);
+    for _ in 0..count {
+        let (call, behind) = long(rest)?;
+        calls.push(call).ok()?;
+        rest = behind;
+    }
+    Some((Step::Group(calls), rest))
+}
+
+/// The first step, and what stands behind it.
+fn first(alloc: Global, bytes: &[u8]) -> Option<(Step<'_>, &[u8])> {
+    match bytes {
+        [0, rest @ ..] => Some((Step::Checkpoint, rest)),
+        [1, rest @ ..] => group(alloc, rest),
+        _ => None,
+    }
+}
+
+/// All steps. Each has a byte at least.
+pub fn all(alloc: Global, bytes: &[u8]) -> Option<Vec<Step<'_>>> {
+    let mut steps = Vec::new(alloc);
+    let mut rest = bytes;
+    for _ in 0..bytes.len() {
+        if rest.is_empty() {
+            break;
+        }
+        let (step, behind) = first(alloc, rest)?;
+        steps.push(step).ok()?;
+        rest = behind;
+    }
+    Some(steps)
+}
+
+/// The calls of all groups, one behind the other.
+pub fn calls<'a>(alloc: Global, steps: &[Step<'a>]) -> Option<Vec<&'a [u8]>> {
+    let mut calls = Vec::new(alloc);
+    for step in steps {
+        if let Step::Group(group) = step {
+            calls.extend_from_slice(group).ok()?;
+        }
+    }
+    Some(calls)
+}
+"""
+
+# What a desk answers that isn't kept.
+PLAIN = r"""//! What a desk that isn't kept answers, and where it stands.
+use crate::desks::{answer, begun, saved};
+use kfs_call_desk::call;
+use std::alloc::Global;
+use std::thread::Threads;
+
+/// The answers, and the states as bytes before the first call and after each.
+#[derive(Drop)]
+pub struct Plain {
+    pub answers: Vec<Vec<u8>>,
+    pub states: Vec<Vec<u8>>,
+}
+
+pub fn ask(rt: &(impl Threads + Sync), alloc: Global, state: &[u8], calls: &[&[u8]]) -> Option<Plain> {
+    let mut desk = begun(rt, alloc, state)?;
+    let mut answers = Vec::new(alloc);
+    let mut states = Vec::new(alloc);
+    states.push(saved(alloc, &desk)?).ok()?;
+    for bytes in calls {
+        let said = call(alloc, &mut desk, bytes);
+        answers.push(answer(alloc, &said)?).ok()?;
+        states.push(saved(alloc, &desk)?).ok()?;
+    }
+    Some(Plain { answers, states })
+}
+"""
+
+PARTS = {"src/desks.rt": DESKS, "src/keeper.rt": KEEPER, "src/steps.rt": STEPS, "src/plain.rt": PLAIN}
+
+
+def fresh_image(sizes):
+    return encode_image(RawImage(2, sizes, [RawNode(1, Header(DIRECTORY, 0o777, 0, 0, 1, 0))], [], []))
+
+
+def client_bytes(words):
+    number, uid, gid, privileged, first, last, *groups = map(int, words)
+    numbers = [(number, 4), (uid, 4), (gid, 4), (privileged, 1), (first, 4), (last, 4), (len(groups), 1), *((it, 4) for it in groups)]
+    return b"".join(number_bytes(*it) for it in numbers)
+
+
+def state_of(lines):
+    """Returns the bytes of the state in which a session's opening lines begin a desk."""
+    image, clients = None, []
+    for line in lines:
+        word, *words = line.decode().split(" ")
+        if word == "new":
+            image = fresh_image(tuple(map(int, words)))
+        elif word == "image":
+            image = bytes.fromhex(words[0])
+        elif word == "client":
+            clients.append(client_bytes(words))
+    header = b"KDSK\x01" + number_bytes(0, 8) + number_bytes(len(clients), 4) + number_bytes(0, 4)
+    return header + b"".join(clients) + image
+
+
+def made(seed, count):
+    """Returns the bytes of a state, and calls as lines in hexadecimal, `-` for no bytes."""
+    lines = CallMaker(seed).script(count)
+    return state_of(lines), [line[5:] for line in lines if line.startswith(b"call ")]
+
+
+def call_bytes(line):
+    return b"" if line == b"-" else bytes.fromhex(line.decode())
+
+
+def exactly(seed, count):
+    """Returns the bytes of a state, and just so many calls as bytes."""
+    asked = count + count // 2 + 10
+    while True:
+        state, lines = made(seed, asked)
+        if len(lines) >= count:
+            return state, [call_bytes(it) for it in lines[:count]]
+        asked *= 2
+
+
+def in_steps(seed, calls, checkpoints, most=6):
+    """Returns the calls in groups, as lists of them, and so many checkpoints between groups, each None."""
+    chance, steps, at = random.Random(f"steps {seed}"), [], 0
+    while at < len(calls):
+        count = chance.randrange(1, most + 1)
+        steps.append(calls[at : at + count])
+        at += count
+    between = range(1, len(steps))
+    for place in sorted(chance.sample(between, min(checkpoints, len(between))), reverse=True):
+        steps.insert(place, None)
+    return steps
+
+
+def step_bytes(step):
+    """Returns a step as the programs read it: 0 is a checkpoint, and 1 a group, with its count and each call behind its length."""
+    if step is None:
+        return b"\0"
+    return b"\x01" + number_bytes(len(step), 4) + b"".join(number_bytes(len(call), 4) + call for call in step)
