@@ -18,7 +18,7 @@ pub fn client(number: u32, last: u32) -> Result<Client, ClientFault> {
 
 /// A desk with a new image that has this many blocks on tier 0, and with client 7, whose numbers begin
 /// at 2.
-fn begun<A: Allocator + Copy>(alloc: A, blocks: u32, limit: u32) -> Option<Desk<A>> {
+pub fn begun<A: Allocator + Copy>(alloc: A, blocks: u32, limit: u32) -> Option<Desk<A>> {
     let image = Image::fresh(alloc, TierSizes::new(blocks, 8, 8)?).ok()?;
     let clients = vec![in alloc; client(7, 65_536).ok()?].ok()?;
     Desk::begin(alloc, image, clients, limit).ok()
@@ -133,6 +133,18 @@ pub fn is_accepted<A: Allocator + Copy>(
     position: u32,
 ) -> bool {
     is_answered(desk, submission, &Ok(yes(position)))
+}
+
+/// A desk with this many blocks on tier 0, and with the empty file 5, on which client 7 holds a write
+/// lease. The docket's next row is row 3.
+pub fn desk_with_file<A: Allocator + Copy>(alloc: A, blocks: u32) -> Option<Desk<A>> {
+    let mut desk = opening_over(alloc, blocks, 100)?;
+    let create = create(alloc).ok()?;
+    if is_accepted(&mut desk, create, 1) && is_leased(&mut desk, b"/a", 5, 2) {
+        Some(desk)
+    } else {
+        None
+    }
 }
 
 /// What an image shows.

@@ -1,7 +1,6 @@
 //! A log with as many entries as there may be, each of which writes one byte.
 
-use crate::bytes::desk_with_file;
-use crate::desks::{is_answered, landed, submission};
+use crate::desks::{desk_with_file, is_answered, landed, submission};
 use kfs_desk::Reply;
 use kfs_plan::{Fault, RowFault, Submission};
 use std::alloc::{AllocError, Global};
