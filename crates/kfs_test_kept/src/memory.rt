@@ -46,7 +46,7 @@ type Answers<A> = Result<Vec<Result<Called, CallFault>, A>, CallsFault>;
 // ---- the calls of `kfs_kept`
 
 /// Keeps the desk on a new disk.
-fn create<A: Allocator + Copy, B: Allocator + Copy>(
+fn keep<A: Allocator + Copy, B: Allocator + Copy>(
     alloc: Global,
     heap: B,
     desk: Desk<A>,
@@ -56,11 +56,14 @@ fn create<A: Allocator + Copy, B: Allocator + Copy>(
     ensures back { IfErr result (λ back. begin_fault back.desk.state.clients ≡ None) }
 {
     let disk = MemoryDisk::new(alloc, Vec::new(alloc), Vec::new(alloc));
-    Kept::create(heap, desk, disk)
+    match Kept::create(heap, desk, disk) {
+        Ok(kept) => Ok(kept),
+        Err(back) => Err(back),
+    }
 }
 
 /// Opens a desk from the files of a disk on which all is synced.
-fn open<A: Allocator + Copy>(
+fn open_files<A: Allocator + Copy>(
     rt: &(impl Threads + Sync),
     heap: A,
     disk: MemoryDisk,
@@ -112,7 +115,7 @@ fn moment<A: Allocator + Copy>(kept: &Kept<A, MemoryDisk>) -> usize {
 fn kept_in<A: Allocator + Copy>(alloc: Global, heap: A) -> Option<Kept<A, MemoryDisk>>
     ensures { IfSome result (λ kept. IsKept memory_seen memory_may_leave kept) }
 {
-    match create(alloc, alloc, opened(heap)?) {
+    match keep(alloc, alloc, opened(heap)?) {
         Ok(kept) => Some(kept),
         Err(_) => None,
     }
@@ -123,7 +126,7 @@ fn found_on(rt: &(impl Threads + AllocGlobal + Sync), disk: MemoryDisk) -> Optio
     requires { Only (memory_seen disk) (memory_may_leave disk) }
 {
     let (first, second) = disk.contents().ok()?;
-    match open(rt, rt.alloc(), disk, (&first, &second)) {
+    match open_files(rt, rt.alloc(), disk, (&first, &second)) {
         Ok(kept) => shown(rt.alloc(), &kept),
         Err(_) => None,
     }
@@ -353,7 +356,7 @@ fn end_of_back<A: Allocator + Copy>(
 {
     let is_told = back.why == SaveFault::OutOfMemory && back.disk.moment() == 0;
     let is_same = shows(alloc, &back.desk, state);
-    let is_kept = create(alloc, heap, back.desk).is_ok();
+    let is_kept = keep(alloc, heap, back.desk).is_ok();
     (is_told && is_same && is_kept).then_some(End::Unchanged)
 }
 
@@ -368,7 +371,7 @@ fn end_of_create<'a>(
     requires { begin_fault desk.state.clients ≡ None }
 {
     heap.refuse_after(growth);
-    let created = create(alloc, heap, desk);
+    let created = keep(alloc, heap, desk);
     let has_refused = heap.has_refused();
     heap.refuse_after(AMPLE);
     match created {
@@ -438,7 +441,7 @@ fn disk_of(alloc: Global, first: &[u8], second: &[u8]) -> Option<MemoryDisk>
 fn open_end(rt: &(impl Threads + AllocGlobal + Sync), files: &Left, growth: u64) -> Option<End> {
     let disk = disk_of(rt.alloc(), &files.first, &files.second)?;
     let heap = Refusing::new(rt.alloc(), growth);
-    let opened = open(rt, &heap, disk, (&files.first, &files.second));
+    let opened = open_files(rt, &heap, disk, (&files.first, &files.second));
     let has_refused = heap.has_refused();
     heap.refuse_after(AMPLE);
     match opened {

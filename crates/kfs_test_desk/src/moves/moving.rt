@@ -38,8 +38,8 @@ pub fn write<A: Allocator + Copy>(alloc: A) -> Result<Submission<A>, AllocError>
 /// A desk with file 5 at `/a` and file 6 at `/b`, each with one block on tier 0: client 7 made them, and holds
 /// the root and file 5. The docket's next row is row 3.
 pub fn two_files<A: Allocator + Copy>(alloc: A, limit: u32) -> Option<Desk<A>> {
-    let mut desk = opening(alloc, limit)?;
     let files = submission(alloc, FILES_LOG, FILES_PLAN).ok()?;
+    let mut desk = opening(alloc, limit)?;
     if is_answered(&mut desk, files, &Ok(landed(1, 2))) && is_leased(&mut desk, b"/a", 5, 2) {
         Some(desk)
     } else {

@@ -48,8 +48,8 @@ fn is_right(end: &ScriptEnd<Global>) -> bool {
 }
 
 fn runs(alloc: Global) -> Option<bool> {
-    let desk = two_files(alloc, 100)?;
     let submissions = vec![in alloc; write(alloc).ok()?, write(alloc).ok()?].ok()?;
+    let desk = two_files(alloc, 100)?;
     let end = run_over(alloc, desk, submissions)?;
     Some(is_right(&end))
 }
@@ -61,8 +61,8 @@ fn moves_between_judgement_and_landing(rt: HostRuntime) {
 
 /// A docket that is full after row 3: the moves have it, and the landing none.
 fn leaves(alloc: Global) -> Option<bool> {
-    let desk = two_files(alloc, 4)?;
     let submissions = vec![in alloc; write(alloc).ok()?].ok()?;
+    let desk = two_files(alloc, 4)?;
     let end = run_over(alloc, desk, submissions)?;
     Some(
         end.replies.as_slice() == [None].as_slice()

@@ -190,8 +190,8 @@ pub fn submit<A: Allocator + Copy>(
 
 /// What a desk with a docket of `limit` rows answers to the Create of file 5, or why it comes back.
 fn created(alloc: Global, limit: u32) -> Option<Result<Reply, Why>> {
-    let mut desk = opening(alloc, limit)?;
     let submission = create(alloc).ok()?;
+    let mut desk = opening(alloc, limit)?;
     match submit(&mut desk, submission) {
         Ok(reply) => Some(Ok(reply)),
         // the submission is as it was handed in
@@ -301,11 +301,11 @@ fn reply(answer: &Result<Reply, Back<Global>>) -> Result<Reply, Why> {
 
 /// What a desk with a docket of three rows answers to the Create of file 5, handed in three times at once.
 fn created_three_times(alloc: Global) -> Option<[Result<Reply, Why>; 3]> {
-    let mut desk = opening(alloc, 3)?;
     let mut submissions = Vec::new(alloc);
     for _ in 0..3 {
         submissions.push(create(alloc).ok()?).ok()?;
     }
+    let mut desk = opening(alloc, 3)?;
     let answers = submit_all(&mut desk, submissions).ok()?;
     match answers.as_slice() {
         [first, second, third] => Some([reply(first), reply(second), reply(third)]),
@@ -335,8 +335,8 @@ fn submissions_one_after_another(rt: HostRuntime) {
 /// How many submissions come back where the desk finds no room for their answers.
 fn sent_back(alloc: Global) -> Option<usize> {
     let heap = Refusing::new(alloc, AMPLE);
-    let mut desk = opening(&heap, 9)?;
     let submissions = vec![in &heap; create(&heap).ok()?].ok()?;
+    let mut desk = opening(&heap, 9)?;
     heap.refuse_after(0);
     match submit_all(&mut desk, submissions) {
         Ok(_) => None,
