@@ -1,6 +1,6 @@
-//! Calls as bytes.
+//! Calls as bytes. Which call they are is in the worked examples of `kfs_call`, and `desk` has what each is answered.
 
-use kfs_call::{Call, FieldFault, LeaseKind, Move, decode_call, encode_call};
+use kfs_call::{FieldFault, decode_call, encode_call};
 use std::alloc::Global;
 
 /// Client 7 hands in a log of one byte and a plan of two.
@@ -76,93 +76,6 @@ fn is_another_when_changed(alloc: Global, bytes: &[u8]) -> bool {
         }
     }
     true
-}
-
-/// Whether the bytes are the call of `SUBMIT`.
-fn is_submit(alloc: Global, bytes: &[u8]) -> bool {
-    match decode_call(alloc, bytes) {
-        Ok(Call::Submit { client, log, plan }) => {
-            client == 7 && log == b"\x09".as_slice() && plan == b"\x08\x07".as_slice()
-        }
-        _ => false,
-    }
-}
-
-/// Whether the bytes are the call of `LEASE`.
-fn is_lease(alloc: Global, bytes: &[u8]) -> bool {
-    match decode_call(alloc, bytes) {
-        Ok(
-            Call::Lease {
-                client,
-                kind,
-                end,
-                path,
-            },
-        ) => client == 7 && kind == LeaseKind::Write && end == 100 && path == b"/".as_slice(),
-        _ => false,
-    }
-}
-
-/// Whether the bytes are the call of `DROP`.
-fn is_drop(alloc: Global, bytes: &[u8]) -> bool {
-    match decode_call(alloc, bytes) {
-        Ok(Call::Drop { client, number }) => client == 7 && number == 258,
-        _ => false,
-    }
-}
-
-/// Whether the bytes are the call of `TICK`.
-fn is_tick(alloc: Global, bytes: &[u8]) -> bool {
-    match decode_call(alloc, bytes) {
-        Ok(Call::Tick { moment }) => moment == 90,
-        _ => false,
-    }
-}
-
-/// Whether the bytes are the call of `MIGRATE`.
-fn is_migrate(alloc: Global, bytes: &[u8]) -> bool {
-    let first = Move {
-        number: 5,
-        block: 1,
-        tier: 2,
-        place: 258,
-    };
-    let second = Move {
-        number: 6,
-        block: 0,
-        tier: 1,
-        place: 0,
-    };
-    match decode_call(alloc, bytes) {
-        Ok(Call::Migrate { moves }) => moves.as_slice() == [first, second].as_slice(),
-        _ => false,
-    }
-}
-
-/// Whether the bytes are the call of `LEASE_AT`.
-fn is_lease_at(alloc: Global, bytes: &[u8]) -> bool {
-    match decode_call(alloc, bytes) {
-        Ok(
-            Call::LeaseAt {
-                client,
-                kind,
-                end,
-                number,
-            },
-        ) => client == 7 && kind == LeaseKind::Write && end == 100 && number == 258,
-        _ => false,
-    }
-}
-
-#[test]
-fn calls_are_read(rt: HostRuntime) {
-    let alloc = rt.alloc();
-    assert!(&rt; is_submit(alloc, SUBMIT));
-    assert!(&rt; is_lease(alloc, LEASE));
-    assert!(&rt; is_drop(alloc, DROP));
-    assert!(&rt; is_tick(alloc, TICK));
-    assert!(&rt; is_migrate(alloc, MIGRATE));
-    assert!(&rt; is_lease_at(alloc, LEASE_AT));
 }
 
 #[test]

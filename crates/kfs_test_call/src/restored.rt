@@ -1,6 +1,7 @@
 //! Bytes of states that make no desk: the first thing that is wrong is told. And memory that is refused.
 
 use crate::saved::{is_saved_as, restored, saved};
+use RestoreFault::{BadClient, BadClients, BadImage, BadLease, BrokenRule};
 use kfs_call::StateFault;
 use kfs_call_desk::{EncodeFault, RestoreFault};
 use kfs_desk::BeginFault;
@@ -41,14 +42,13 @@ enum Edit {
     Longer,
 }
 
-/// A state whose moment is 5, and why it makes no desk.
-#[derive(Clone, Copy)]
-struct Case {
-    clients: &'static [ClientLine],
-    leases: &'static [LeaseLine],
-    edit: Edit,
-    told: Option<RestoreFault>,
-}
+/// The clients and leases of a state whose moment is 5, its image, and why it makes no desk.
+type Case = (
+    &'static [ClientLine],
+    &'static [LeaseLine],
+    Edit,
+    Option<RestoreFault>,
+);
 
 const RIGHT: &[ClientLine] = &[(7, 2, 99), (8, 100, 65_536)];
 
@@ -58,111 +58,126 @@ const WRONG: &[ClientLine] = &[(7, 2, 99), (7, 0, 9)];
 /// Of a client that there isn't.
 const STRANGE: &[LeaseLine] = &[(1, 7, 0, 6), (1, 9, 0, 6)];
 
-/// A state and why it makes no desk.
-fn new_case(
-    clients: &'static [ClientLine],
-    leases: &'static [LeaseLine],
-    edit: Edit,
-    told: Option<RestoreFault>,
-) -> Case {
-    Case {
-        clients,
-        leases,
-        edit,
-        told,
-    }
-}
+/// The root is broken: there is no node 1.
+const NO_ROOT: RestoreFault = BrokenRule(Finding { rule: 2, number: 1 });
 
-/// The cases by their numbers, none behind the last.
-fn case_of(number: usize) -> Option<Case> {
-    let no_root = RestoreFault::BrokenRule(Finding { rule: 2, number: 1 });
-    let header = RestoreFault::BadImage(ImageFault::BadImageHeader);
-    let row = RestoreFault::BadImage(ImageFault::BadImageRow(0));
-    let trailing = RestoreFault::BadImage(ImageFault::ImageTrailing);
-    Some(match number {
-        0 => new_case(RIGHT, &[(1, 7, 0, 6), (1, 8, 0, 7)], Edit::None, None),
-        1 => new_case(&[], &[], Edit::None, None),
-        2 => new_case(WRONG, STRANGE, Edit::Set(4, 3), Some(header)),
-        3 => new_case(WRONG, STRANGE, Edit::Cut, Some(row)),
-        4 => new_case(WRONG, STRANGE, Edit::Longer, Some(trailing)),
-        5 => new_case(WRONG, STRANGE, Edit::Set(NODE + 3, 2), Some(no_root)),
-        6 => bad_client(WRONG, STRANGE, 1),
-        7 => bad_client(&[(7, 2, 65_537)], STRANGE, 0),
-        8 => bad_lease(RIGHT, STRANGE, LeaseRowFault::UnknownClient(1)),
-        9 => bad_lease(RIGHT, &[(2, 7, 0, 6)], LeaseRowFault::NoSuchNode(0)),
-        10 => bad_lease(RIGHT, &[(1, 7, 0, 6), (1, 8, 0, 5)], LeaseRowFault::Past(1)),
-        11 => bad_lease(
-            RIGHT,
-            &[(1, 8, 0, 6), (1, 7, 0, 6)],
-            LeaseRowFault::NotAscending(1),
-        ),
-        12 => bad_lease(
-            RIGHT,
-            &[(1, 7, 1, 6), (1, 7, 1, 6)],
-            LeaseRowFault::NotAscending(1),
-        ),
-        13 => bad_lease(
-            RIGHT,
-            &[(1, 7, 0, 6), (1, 8, 1, 6)],
-            LeaseRowFault::LeaseHeld(1),
-        ),
-        14 => bad_lease(
-            &[(7, 2, 9), (7, 2, 9)],
-            STRANGE,
-            LeaseRowFault::UnknownClient(1),
-        ),
-        15 => bad_clients(&[(7, 2, 9), (7, 20, 29)], BeginFault::ClientTwice(1)),
-        16 => bad_clients(&[(7, 2, 9), (8, 9, 29)], BeginFault::GrantOverlap(1)),
-        _ => return None,
-    })
-}
-
-/// The client with this index has a grant that none may have.
-fn bad_client(clients: &'static [ClientLine], leases: &'static [LeaseLine], index: usize) -> Case {
-    let told = RestoreFault::BadClient(index, ClientFault::BadGrant);
-    new_case(clients, leases, Edit::None, Some(told))
-}
-
-fn bad_lease(
-    clients: &'static [ClientLine],
-    leases: &'static [LeaseLine],
-    fault: LeaseRowFault,
-) -> Case {
-    new_case(
-        clients,
-        leases,
+const CASES: [Case; 17] = [
+    (RIGHT, &[(1, 7, 0, 6), (1, 8, 0, 7)], Edit::None, None),
+    (&[], &[], Edit::None, None),
+    (
+        WRONG,
+        STRANGE,
+        Edit::Set(4, 3),
+        Some(BadImage(ImageFault::BadImageHeader)),
+    ),
+    (
+        WRONG,
+        STRANGE,
+        Edit::Cut,
+        Some(BadImage(ImageFault::BadImageRow(0))),
+    ),
+    (
+        WRONG,
+        STRANGE,
+        Edit::Longer,
+        Some(BadImage(ImageFault::ImageTrailing)),
+    ),
+    (WRONG, STRANGE, Edit::Set(NODE + 3, 2), Some(NO_ROOT)),
+    (
+        WRONG,
+        STRANGE,
         Edit::None,
-        Some(RestoreFault::BadLease(fault)),
-    )
-}
-
-fn bad_clients(clients: &'static [ClientLine], fault: BeginFault) -> Case {
-    new_case(
-        clients,
+        Some(BadClient(1, ClientFault::BadGrant)),
+    ),
+    (
+        &[(7, 2, 65_537)],
+        STRANGE,
+        Edit::None,
+        Some(BadClient(0, ClientFault::BadGrant)),
+    ),
+    (
+        RIGHT,
+        STRANGE,
+        Edit::None,
+        Some(BadLease(LeaseRowFault::UnknownClient(1))),
+    ),
+    (
+        RIGHT,
+        &[(2, 7, 0, 6)],
+        Edit::None,
+        Some(BadLease(LeaseRowFault::NoSuchNode(0))),
+    ),
+    (
+        RIGHT,
+        &[(1, 7, 0, 6), (1, 8, 0, 5)],
+        Edit::None,
+        Some(BadLease(LeaseRowFault::Past(1))),
+    ),
+    (
+        RIGHT,
+        &[(1, 8, 0, 6), (1, 7, 0, 6)],
+        Edit::None,
+        Some(BadLease(LeaseRowFault::NotAscending(1))),
+    ),
+    (
+        RIGHT,
+        &[(1, 7, 1, 6), (1, 7, 1, 6)],
+        Edit::None,
+        Some(BadLease(LeaseRowFault::NotAscending(1))),
+    ),
+    (
+        RIGHT,
+        &[(1, 7, 0, 6), (1, 8, 1, 6)],
+        Edit::None,
+        Some(BadLease(LeaseRowFault::LeaseHeld(1))),
+    ),
+    (
+        &[(7, 2, 9), (7, 2, 9)],
+        STRANGE,
+        Edit::None,
+        Some(BadLease(LeaseRowFault::UnknownClient(1))),
+    ),
+    (
+        &[(7, 2, 9), (7, 20, 29)],
         &[],
         Edit::None,
-        Some(RestoreFault::BadClients(fault)),
-    )
+        Some(BadClients(BeginFault::ClientTwice(1))),
+    ),
+    (
+        &[(7, 2, 9), (8, 9, 29)],
+        &[],
+        Edit::None,
+        Some(BadClients(BeginFault::GrantOverlap(1))),
+    ),
+];
+
+/// The bytes of a client of uid and gid 1000 and without groups.
+fn client_bytes(line: ClientLine) -> [u8; 22] {
+    let [a, b, c, d] = line.0.to_be_bytes();
+    let [e, f, g, h] = line.1.to_be_bytes();
+    let [i, j, k, l] = line.2.to_be_bytes();
+    [
+        a, b, c, d, 0, 0, 3, 232, 0, 0, 3, 232, 0, e, f, g, h, i, j, k, l, 0,
+    ]
 }
 
-/// Appends the clients, of uid and gid 1000 and without groups.
-fn push_clients(out: &mut Vec<u8, Global>, clients: &[ClientLine]) -> Result<(), AllocError> {
-    for (number, first, last) in clients {
-        out.extend_from_slice(&number.to_be_bytes())?;
-        out.extend_from_slice(b"\0\0\x03\xe8\0\0\x03\xe8\0")?;
-        out.extend_from_slice(&first.to_be_bytes())?;
-        out.extend_from_slice(&last.to_be_bytes())?;
-        out.push(0)?;
+fn lease_bytes(line: LeaseLine) -> [u8; 17] {
+    let [a, b, c, d] = line.0.to_be_bytes();
+    let [e, f, g, h] = line.1.to_be_bytes();
+    let [p, q, r, s, t, u, v, w] = line.3.to_be_bytes();
+    [a, b, c, d, e, f, g, h, line.2, p, q, r, s, t, u, v, w]
+}
+
+fn push_clients(out: &mut Vec<u8, Global>, lines: &[ClientLine]) -> Result<(), AllocError> {
+    for line in lines {
+        out.extend_from_slice(&client_bytes(*line))?;
     }
     Ok(())
 }
 
-fn push_leases(out: &mut Vec<u8, Global>, leases: &[LeaseLine]) -> Result<(), AllocError> {
-    for (node, client, kind, end) in leases {
-        out.extend_from_slice(&node.to_be_bytes())?;
-        out.extend_from_slice(&client.to_be_bytes())?;
-        out.push(*kind)?;
-        out.extend_from_slice(&end.to_be_bytes())?;
+fn push_leases(out: &mut Vec<u8, Global>, lines: &[LeaseLine]) -> Result<(), AllocError> {
+    for line in lines {
+        out.extend_from_slice(&lease_bytes(*line))?;
     }
     Ok(())
 }
@@ -192,14 +207,25 @@ fn count(rows: usize) -> [u8; 4] {
     u32::try_from(rows).unwrap_or(u32::MAX).to_be_bytes()
 }
 
-/// The bytes of a state whose moment is 5.
+/// Appends the header of a state with so many clients and leases.
+fn push_header(out: &mut Vec<u8, Global>, clients: usize, leases: usize) -> Result<(), AllocError> {
+    out.extend_from_slice(b"KDSK\x01\0\0\0\0\0\0\0\x05")?;
+    out.extend_from_slice(&count(clients))?;
+    out.extend_from_slice(&count(leases))
+}
+
+/// Appends the bytes of a state.
+fn push_state(out: &mut Vec<u8, Global>, case: &Case) -> Result<(), AllocError> {
+    push_header(out, case.0.len(), case.1.len())?;
+    push_clients(out, case.0)?;
+    push_leases(out, case.1)?;
+    push_image(out, case.2)
+}
+
+/// The bytes of a state.
 fn state(alloc: Global, case: &Case) -> Result<Vec<u8>, AllocError> {
-    let mut out = Vec::from_slice(alloc, b"KDSK\x01\0\0\0\0\0\0\0\x05")?;
-    out.extend_from_slice(&count(case.clients.len()))?;
-    out.extend_from_slice(&count(case.leases.len()))?;
-    push_clients(&mut out, case.clients)?;
-    push_leases(&mut out, case.leases)?;
-    push_image(&mut out, case.edit)?;
+    let mut out = Vec::new(alloc);
+    push_state(&mut out, case)?;
     Ok(out)
 }
 
@@ -216,19 +242,19 @@ fn is_told(
     }
 }
 
-/// Whether the case with this number is told as it should be; none behind the last one.
-fn is_case_told(rt: &(impl Threads + AllocGlobal + Sync), number: usize) -> Option<bool> {
-    let case = case_of(number)?;
-    let bytes = state(rt.alloc(), &case).ok()?;
-    Some(is_told(rt, &bytes, case.told))
+/// Whether the case is told as it should be.
+fn is_case_told(rt: &(impl Threads + AllocGlobal + Sync), case: &Case) -> bool {
+    match state(rt.alloc(), case) {
+        Ok(bytes) => is_told(rt, &bytes, case.3),
+        Err(_) => false,
+    }
 }
 
 #[test]
 fn the_first_fault_is_told(rt: HostRuntime) {
-    for number in 0..17 {
-        assert!(&rt; is_case_told(&rt, number) == Some(true), "{number}");
+    for (number, case) in CASES.iter().enumerate() {
+        assert!(&rt; is_case_told(&rt, case), "{number}");
     }
-    assert!(&rt; is_case_told(&rt, 17) == None);
     let no_rows = b"KDSK\x01\0\0\0\0\0\0\0\x05\xff\xff\xff\xff\xff\xff\xff\xff";
     for len in 0..no_rows.len() {
         let header = Some(RestoreFault::BadState(StateFault::BadHeader));
@@ -243,26 +269,6 @@ fn the_first_fault_is_told(rt: HostRuntime) {
     );
 }
 
-/// Whether each cut of the bytes is refused, and with each byte changed they are refused, or make a desk that is saved
-/// as bytes that make it again.
-fn are_others_right(rt: &(impl Threads + AllocGlobal + Sync), bytes: &[u8]) -> bool {
-    for place in 0..bytes.len() {
-        if restored(rt, rt.alloc(), &bytes[..place]).is_ok() {
-            return false;
-        }
-        let Ok(mut changed) = Vec::from_slice(rt.alloc(), bytes) else {
-            return false;
-        };
-        if place < changed.len() {
-            changed[place] ^= 0x81;
-        }
-        if !is_right(rt, &changed) {
-            return false;
-        }
-    }
-    true
-}
-
 /// Whether the bytes are refused, or make a desk that is saved as bytes that make it again.
 fn is_right(rt: &(impl Threads + AllocGlobal + Sync), bytes: &[u8]) -> bool {
     let Ok(desk) = restored(rt, rt.alloc(), bytes) else {
@@ -274,10 +280,34 @@ fn is_right(rt: &(impl Threads + AllocGlobal + Sync), bytes: &[u8]) -> bool {
     }
 }
 
+/// Whether the cut at this place is refused, and with its byte changed the bytes are refused, or make a desk that is saved
+/// as bytes that make it again.
+fn is_right_at(
+    rt: &(impl Threads + AllocGlobal + Sync),
+    bytes: &[u8],
+    place: usize,
+) -> Option<bool> {
+    let is_cut_refused = restored(rt, rt.alloc(), bytes.get(..place)?).is_err();
+    let mut changed = Vec::from_slice(rt.alloc(), bytes).ok()?;
+    if place < changed.len() {
+        changed[place] ^= 0x81;
+    }
+    Some(is_cut_refused && is_right(rt, &changed))
+}
+
+/// Whether that is so at each place.
+fn are_others_right(rt: &(impl Threads + AllocGlobal + Sync), bytes: &[u8]) -> bool {
+    for place in 0..bytes.len() {
+        if is_right_at(rt, bytes, place) != Some(true) {
+            return false;
+        }
+    }
+    true
+}
+
 /// The bytes of the first case.
 fn right_state(alloc: Global) -> Option<Vec<u8>> {
-    let case = case_of(0)?;
-    state(alloc, &case).ok()
+    state(alloc, &CASES[0]).ok()
 }
 
 #[test]

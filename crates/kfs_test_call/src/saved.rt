@@ -19,7 +19,7 @@ const LIMIT: u32 = 100;
 
 /// A call of a desk.
 #[derive(Clone, Copy)]
-enum Step {
+pub enum Step {
     /// A log and a plan of client 7.
     Submit(&'static [u8], &'static [u8]),
     /// Client, path, kind and end.
@@ -57,17 +57,17 @@ const RUN: [Step; 19] = [
     Step::LeaseAt(8, 5, LeaseKind::Read, 80),
 ];
 
-/// A desk on a new image, with client 7, and client 8, who is in two groups.
-pub fn opened<A: Allocator + Copy>(alloc: A) -> Option<Desk<A>> {
+/// A desk on a new image, whose docket has room for so many rows, with client 7, and client 8, who is in two groups.
+pub fn opened_with<A: Allocator + Copy>(alloc: A, limit: u32) -> Option<Desk<A>> {
     let image = Image::fresh(alloc, TierSizes::new(8, 8, 8)?).ok()?;
     let seven = Client::new(7, 1_000, 1_000, &[], false, 2, 99).ok()?;
     let eight = Client::new(8, 1_001, 1_001, &[50, 51], true, 100, 65_536).ok()?;
     let clients = vec![in alloc; seven, eight].ok()?;
-    Desk::begin(alloc, image, clients, LIMIT).ok()
+    Desk::begin(alloc, image, clients, limit).ok()
 }
 
 /// What the step is answered.
-fn answered<A: Allocator + Copy>(desk: &mut Desk<A>, step: Step) -> Option<Called> {
+pub fn answered<A: Allocator + Copy>(desk: &mut Desk<A>, step: Step) -> Option<Called> {
     let act = match step {
         Step::Submit(log, plan) => {
             return Some(Called::Submitted(desk.submit_bytes(7, log, plan).ok()?));
@@ -153,49 +153,88 @@ fn show_the_same(alloc: Global, one: &Desk<Global>, other: &Desk<Global>) -> boo
     }
 }
 
+/// Whether the desk answers so many steps of the run.
+fn is_run_to(desk: &mut Desk<Global>, count: usize) -> bool {
+    for step in RUN.iter().take(count) {
+        if answered(desk, *step).is_none() {
+            return false;
+        }
+    }
+    true
+}
+
+/// Whether both desks answer the steps of the run from this one on alike.
+fn are_alike_from(one: &mut Desk<Global>, other: &mut Desk<Global>, from: usize) -> bool {
+    for step in RUN.iter().skip(from) {
+        if !are_same(answered(one, *step), answered(other, *step)) {
+            return false;
+        }
+    }
+    true
+}
+
+/// Whether the desk of the bytes, made in one thread, is saved as the same bytes.
+fn is_restored_alone(alloc: Global, bytes: &[u8]) -> bool {
+    match restored_alone(alloc, bytes) {
+        Ok(alone) => is_saved_as(alloc, &alone, bytes),
+        Err(_) => false,
+    }
+}
+
+/// Whether the desk of the bytes shows the same state with an empty docket, and goes on as the other one does.
+fn goes_on_as(
+    rt: &(impl Threads + AllocGlobal + Sync),
+    desk: &mut Desk<Global>,
+    bytes: &[u8],
+    from: usize,
+) -> bool {
+    match restored(rt, rt.alloc(), bytes) {
+        Ok(mut other) => {
+            other.docket().len() == 0
+                && is_saved_as(rt.alloc(), &other, bytes)
+                && are_alike_from(desk, &mut other, from)
+                && show_the_same(rt.alloc(), desk, &other)
+        }
+        Err(_) => false,
+    }
+}
+
 /// Whether a desk that is saved after so many steps of the run, and restored, shows the same state with an empty docket,
 /// and goes on as the other one does.
 fn goes_on(rt: &(impl Threads + AllocGlobal + Sync), saved_after: usize) -> Option<bool> {
-    let mut desk = opened(rt.alloc())?;
-    for step in RUN.iter().take(saved_after) {
-        let _answer = answered(&mut desk, *step)?;
-    }
+    let mut desk = opened_with(rt.alloc(), LIMIT)?;
+    let is_run = is_run_to(&mut desk, saved_after);
     let bytes = saved(rt.alloc(), &desk).ok()?;
-    let mut other = restored(rt, rt.alloc(), &bytes).ok()?;
-    if other.docket().len() != 0 || !is_saved_as(rt.alloc(), &other, &bytes) {
-        return Some(false);
-    }
-    let alone = restored_alone(rt.alloc(), &bytes).ok()?;
-    if !is_saved_as(rt.alloc(), &alone, &bytes) {
-        return Some(false);
-    }
-    for step in RUN.iter().skip(saved_after) {
-        let one = answered(&mut desk, *step);
-        if !are_same(one, answered(&mut other, *step)) {
-            return Some(false);
-        }
-    }
-    Some(show_the_same(rt.alloc(), &desk, &other))
+    Some(
+        is_run
+            && is_restored_alone(rt.alloc(), &bytes)
+            && goes_on_as(rt, &mut desk, &bytes, saved_after),
+    )
 }
 
-/// Whether the run has the answers that it is made for: two landings with a block each, and calls refused.
-fn is_run_as_told(alloc: Global) -> Option<bool> {
-    let mut desk = opened(alloc)?;
+/// How many steps of the run land a block, and how many are refused. None where one isn't answered.
+fn landed_and_refused(desk: &mut Desk<Global>) -> Option<(u32, u32)> {
     let mut landed = 0u32;
     let mut refused = 0u32;
     for step in RUN {
-        match answered(&mut desk, step)? {
+        match answered(desk, step)? {
             Called::Submitted(Reply::Yes { need: 1, .. }) => landed = landed.saturating_add(1),
             Called::Acted(reply) if reply.answer.is_err() => refused = refused.saturating_add(1),
             _ => (),
         }
     }
-    Some(landed == 2 && refused == 7)
+    Some((landed, refused))
+}
+
+/// The same at a new desk. So the run has the answers that it is made for.
+fn run_of_a_new_desk(alloc: Global) -> Option<(u32, u32)> {
+    let mut desk = opened_with(alloc, LIMIT)?;
+    landed_and_refused(&mut desk)
 }
 
 #[test]
 fn a_restored_desk_goes_on(rt: HostRuntime) {
-    assert!(&rt; is_run_as_told(rt.alloc()) == Some(true));
+    assert!(&rt; run_of_a_new_desk(rt.alloc()) == Some((2, 7)));
     for saved_after in 0..=RUN.len() {
         assert!(&rt; goes_on(&rt, saved_after) == Some(true), "{saved_after}");
     }

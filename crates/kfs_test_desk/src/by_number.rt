@@ -8,6 +8,7 @@ use kfs_image_nodes::Shape;
 use kfs_lease::LeaseKind::{Read, Write};
 use kfs_lease::{LeaseFault, LeaseKind, Leases};
 use kfs_mode::{Client, ClientFault};
+use kfs_plan::Submission;
 use kfs_test_support::refusing::Refusing;
 use std::alloc::{Allocator, Global};
 
@@ -26,11 +27,7 @@ fn known(number: u32) -> Result<Client, ClientFault> {
 type Asked = (u32, u32, LeaseKind, u64, Result<u32, LeaseFault>);
 
 /// Asks for a lease by number. A client that isn't known asks beside client 7.
-fn is_answered<A: Allocator + Copy>(
-    leases: &mut Leases<A>,
-    shape: &Shape<A>,
-    asked: &Asked,
-) -> bool {
+fn is_answered(leases: &mut Leases<Global>, shape: &Shape<Global>, asked: &Asked) -> bool {
     let (client, number, kind, end, wanted) = *asked;
     match known(client) {
         Ok(row) => leases.grant_at(shape, &[row], client, number, kind, end) == wanted,
@@ -39,7 +36,7 @@ fn is_answered<A: Allocator + Copy>(
 }
 
 /// Asks with no leases at first, and answers how many come before the first one with another answer.
-fn answered<A: Allocator + Copy>(alloc: A, shape: &Shape<A>, asked: &[Asked]) -> usize {
+fn answered(alloc: Global, shape: &Shape<Global>, asked: &[Asked]) -> usize {
     let mut leases = Leases::new(alloc);
     let mut count = 0usize;
     for each in asked {
@@ -145,8 +142,8 @@ const BY_NUMBER: Act<'static> = Act::LeaseAt {
 
 /// A desk with that directory. Its docket has two rows.
 fn closed<A: Allocator + Copy>(alloc: A) -> Option<Desk<A>> {
-    let mut desk = opening(alloc, 5)?;
     let submission = submission(alloc, CLOSED_LOG, CLOSED_PLAN).ok()?;
+    let mut desk = opening(alloc, 5)?;
     is_accepted(&mut desk, submission, 1).then_some(desk)
 }
 
@@ -158,9 +155,8 @@ fn is_reply<A: Allocator + Copy>(
     desk.act(act) == wanted
 }
 
-/// The client can't search the directory. By its number it leases the file, and changes it.
-fn is_changed_below<A: Allocator + Copy>(alloc: A) -> Option<bool> {
-    let mut desk = closed(alloc)?;
+/// Whether client 7, which can't search the directory, leases the file by its number and changes it. The docket is full then.
+fn changes_below(desk: &mut Desk<Global>, submission: Submission<Global>) -> bool {
     let refused = ActReply {
         position: 2,
         answer: Err(ActFault::Lease(LeaseFault::NoSearch(1))),
@@ -169,13 +165,17 @@ fn is_changed_below<A: Allocator + Copy>(alloc: A) -> Option<bool> {
         position: 3,
         answer: Ok(Done::Leased(5)),
     };
-    let is_leased = is_reply(&mut desk, BY_PATH, Ok(refused))
-        && is_reply(&mut desk, BY_NUMBER, Ok(leased));
+    is_reply(desk, BY_PATH, Ok(refused))
+        && is_reply(desk, BY_NUMBER, Ok(leased))
+        && is_accepted(desk, submission, 4)
+        && is_reply(desk, BY_NUMBER, Err(Unanswered::DocketFull))
+}
+
+/// The same on a desk of its own.
+fn is_changed_below(alloc: Global) -> Option<bool> {
     let submission = submission(alloc, CHMOD_LOG, CHMOD_PLAN).ok()?;
-    let is_right = is_leased
-        && is_accepted(&mut desk, submission, 4)
-        && is_reply(&mut desk, BY_NUMBER, Err(Unanswered::DocketFull));
-    Some(is_right)
+    let mut desk = closed(alloc)?;
+    Some(changes_below(&mut desk, submission))
 }
 
 #[test]
@@ -183,11 +183,13 @@ fn a_file_is_changed_below_a_directory_without_search(rt: HostRuntime) {
     assert!(rt; is_changed_below(rt.alloc()) == Some(true));
 }
 
-/// Asks with only the allocation of this index failing, and once more where it was refused. Answers whether there
-/// was such an allocation; none where the outcome is wrong.
-fn asked_with_one_refused(heap: &Refusing<Global>, growth: u64) -> Option<bool> {
-    let mut desk = closed(heap)?;
-    let view = desk.view().ok()?;
+/// Asks with only the allocation of this index failing, and once more where it was refused. Answers whether there was such
+/// an allocation; none where the outcome is wrong.
+fn asked_beside<A: Allocator + Copy>(
+    heap: &Refusing<Global>,
+    desk: &mut Desk<A>,
+    growth: u64,
+) -> Option<bool> {
     heap.refuse_after(growth);
     let first = desk.act(BY_NUMBER);
     let is_refused = heap.has_refused();
@@ -199,13 +201,18 @@ fn asked_with_one_refused(heap: &Refusing<Global>, growth: u64) -> Option<bool> 
     let is_right = match first {
         Ok(reply) => !is_refused && reply == leased,
         Err(why) => {
-            is_refused
-                && why == Unanswered::OutOfMemory
-                && is_reply(&mut desk, BY_NUMBER, Ok(leased))
+            is_refused && why == Unanswered::OutOfMemory && is_reply(desk, BY_NUMBER, Ok(leased))
         }
     };
-    let is_old = !view.holds(7, 5);
-    (is_right && is_old).then_some(is_refused)
+    is_right.then_some(is_refused)
+}
+
+/// The same on a desk of its own, beside a view, which shows what it showed.
+fn asked_with_one_refused(heap: &Refusing<Global>, growth: u64) -> Option<bool> {
+    let mut desk = closed(heap)?;
+    let view = desk.view().ok()?;
+    let is_refused = asked_beside(heap, &mut desk, growth);
+    if view.holds(7, 5) { None } else { is_refused }
 }
 
 /// How many allocations the call asks for beside a view, each refused in turn; or as an error the index of one at

@@ -18,9 +18,9 @@ pub fn client(number: u32, last: u32) -> Result<Client, ClientFault> {
 
 /// A desk with a new image that has this many blocks on tier 0, and with client 7, whose numbers begin
 /// at 2.
-fn begun<A: Allocator + Copy>(alloc: A, blocks: u32, limit: u32) -> Option<Desk<A>> {
-    let image = Image::fresh(alloc, TierSizes::new(blocks, 8, 8)?).ok()?;
+pub fn begun<A: Allocator + Copy>(alloc: A, blocks: u32, limit: u32) -> Option<Desk<A>> {
     let clients = vec![in alloc; client(7, 65_536).ok()?].ok()?;
+    let image = Image::fresh(alloc, TierSizes::new(blocks, 8, 8)?).ok()?;
     Desk::begin(alloc, image, clients, limit).ok()
 }
 
@@ -68,8 +68,8 @@ pub fn opening_over<A: Allocator + Copy>(alloc: A, blocks: u32, limit: u32) -> O
 
 /// Such a desk with at most 100 rows. It has answered Yes to this log and plan, in row 1.
 pub fn grown<A: Allocator + Copy>(alloc: A, log: &[u8], plan: &[u8]) -> Option<Desk<A>> {
-    let mut desk = opening(alloc, 100)?;
     let submission = submission(alloc, log, plan).ok()?;
+    let mut desk = opening(alloc, 100)?;
     if is_accepted(&mut desk, submission, 1) {
         Some(desk)
     } else {
@@ -133,6 +133,18 @@ pub fn is_accepted<A: Allocator + Copy>(
     position: u32,
 ) -> bool {
     is_answered(desk, submission, &Ok(yes(position)))
+}
+
+/// A desk with this many blocks on tier 0, and with the empty file 5, on which client 7 holds a write
+/// lease. The docket's next row is row 3.
+pub fn desk_with_file<A: Allocator + Copy>(alloc: A, blocks: u32) -> Option<Desk<A>> {
+    let create = create(alloc).ok()?;
+    let mut desk = opening_over(alloc, blocks, 100)?;
+    if is_accepted(&mut desk, create, 1) && is_leased(&mut desk, b"/a", 5, 2) {
+        Some(desk)
+    } else {
+        None
+    }
 }
 
 /// What an image shows.

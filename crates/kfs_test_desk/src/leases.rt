@@ -154,67 +154,6 @@ fn calls_and_nodes_that_go(rt: HostRuntime) {
     expect_calls(&rt, &CALLS_AND_NODES_THAT_GO);
 }
 
-const BEFORE_THE_COPY: [LeaseCall<'static>; 6] = [
-    LeaseCall::Grant(7, "/m", Read, 20, Ok(30)),
-    LeaseCall::Drop(7, 30, Ok(())),
-    LeaseCall::Grant(7, "/a", Write, 10, Ok(5)),
-    LeaseCall::Grant(8, "/d", Read, 20, Ok(20)),
-    LeaseCall::Tick(3, Ok(())),
-    LeaseCall::Moment(3),
-];
-
-const ON_THE_COPY: [LeaseCall<'static>; 6] = [
-    LeaseCall::Holds(7, 5, true),
-    LeaseCall::Tick(2, Err(LeaseFault::Backwards)),
-    LeaseCall::Moment(3),
-    LeaseCall::Tick(10, Ok(())),
-    LeaseCall::Holds(7, 5, false),
-    LeaseCall::Drop(8, 20, Ok(())),
-];
-
-const ON_THE_TABLE: [LeaseCall<'static>; 7] = [
-    LeaseCall::Tick(4, Ok(())),
-    LeaseCall::Holds(7, 5, true),
-    LeaseCall::Grant(7, "/d", Write, 20, Err(LeaseFault::LeaseHeld(8))),
-    LeaseCall::Drop(7, 5, Ok(())),
-    LeaseCall::Drop(8, 20, Ok(())),
-    LeaseCall::Grant(8, "/m", Write, 100, Ok(30)),
-    LeaseCall::Holds(8, 30, true),
-];
-
-const ON_THE_COPY_THEN: [LeaseCall<'static>; 3] = [
-    LeaseCall::Moment(10),
-    LeaseCall::Holds(8, 30, false),
-    LeaseCall::Grant(7, "/m", Write, 20, Ok(30)),
-];
-
-/// Makes these calls on a table and on a copy of it, one table after the other. Answers how many calls
-/// of each list are answered as expected.
-fn answered_apart<A: Allocator + Copy>(
-    leases: &mut Leases<A>,
-    shape: &Shape<A>,
-) -> Option<[usize; 4]> {
-    let before = make_calls(leases, shape, &BEFORE_THE_COPY);
-    let mut copied = leases.copy().ok()?;
-    let on_the_copy = make_calls(&mut copied, shape, &ON_THE_COPY);
-    let on_the_table = make_calls(leases, shape, &ON_THE_TABLE);
-    let then = make_calls(&mut copied, shape, &ON_THE_COPY_THEN);
-    Some([before, on_the_copy, on_the_table, then])
-}
-
-/// The same on the tree of this module, with no leases at first.
-fn answered_on_both(alloc: Global) -> Option<[usize; 4]> {
-    let desk = tree(alloc)?;
-    let mut leases = Leases::new(alloc);
-    answered_apart(&mut leases, desk.image().shape())
-}
-
-#[test]
-fn a_copy_and_the_table_go_on_apart(rt: HostRuntime) {
-    let counts = answered_on_both(rt.alloc());
-    assert!(rt; counts == Some([6, 6, 7, 3]), "{counts:?}");
-}
-
 /// More allocations than the calls of this module ask for.
 const MANY: u64 = 400;
 
@@ -244,7 +183,8 @@ const WITH_A_GROWTH_REFUSED: [LeaseCall<'static>; 12] = [
     LeaseCall::Drop(9, 30, Ok(())),
 ];
 
-const ON_THE_COPY_HELD: [LeaseCall<'static>; 8] = [
+/// The copy shows what the table held, and goes on for itself.
+const ON_THE_COPY_THEN: [LeaseCall<'static>; 12] = [
     LeaseCall::Moment(0),
     LeaseCall::Holds(7, 31, true),
     LeaseCall::Holds(8, 120, true),
@@ -253,6 +193,20 @@ const ON_THE_COPY_HELD: [LeaseCall<'static>; 8] = [
     LeaseCall::Drop(8, 5, Err(LeaseFault::NoLeaseHeld)),
     LeaseCall::Drop(9, 20, Err(LeaseFault::NoLeaseHeld)),
     LeaseCall::Drop(7, 20, Ok(())),
+    LeaseCall::Tick(19, Err(LeaseFault::Backwards)),
+    LeaseCall::Moment(20),
+    LeaseCall::Drop(9, 30, Ok(())),
+    LeaseCall::Grant(9, "/n", Write, 100, Err(LeaseFault::LeaseHeld(7))),
+];
+
+/// The table goes on as if there were no copy.
+const ON_THE_TABLE_THEN: [LeaseCall<'static>; 6] = [
+    LeaseCall::Moment(40),
+    LeaseCall::Holds(8, 31, true),
+    LeaseCall::Holds(9, 30, false),
+    LeaseCall::Tick(39, Err(LeaseFault::Backwards)),
+    LeaseCall::Grant(7, "/m", Write, 100, Ok(30)),
+    LeaseCall::Grant(9, "/n", Read, 50, Err(LeaseFault::LeaseHeld(8))),
 ];
 
 /// Makes the call, and once more where it was the one for which memory ran out.
@@ -279,25 +233,50 @@ fn copied_at_last<'a>(
     }
 }
 
-/// Copies the table and makes the calls beside the copy, with only the allocation of this index failing. Answers
-/// whether there was such an allocation; none where the outcome is wrong.
+/// Makes these calls in order, each once more where it was the one for which memory ran out. Whether they are answered as
+/// expected.
+fn are_answered_at_last<'a>(
+    heap: &'a Refusing<Global>,
+    leases: &mut Leases<&'a Refusing<Global>>,
+    shape: &Shape<&'a Refusing<Global>>,
+    calls: &[LeaseCall<'_>],
+) -> bool {
+    for call in calls {
+        if !is_answered_at_last(heap, leases, shape, *call) {
+            return false;
+        }
+    }
+    true
+}
+
+/// Copies the table and makes the calls beside the copy, with only the allocation of this index failing; then goes on with
+/// the copy, and with the table. Answers whether there was such an allocation; none where the outcome is wrong.
+fn calls_beside_a_copy<'a>(
+    heap: &'a Refusing<Global>,
+    leases: &mut Leases<&'a Refusing<Global>>,
+    shape: &Shape<&'a Refusing<Global>>,
+    growth: u64,
+) -> Option<bool> {
+    heap.refuse_after(growth);
+    let mut copied = copied_at_last(heap, leases)?;
+    let is_right = are_answered_at_last(heap, leases, shape, &WITH_A_GROWTH_REFUSED);
+    let is_refused = heap.has_refused();
+    heap.refuse_after(AMPLE);
+    let on_the_copy = make_calls(&mut copied, shape, &ON_THE_COPY_THEN);
+    let on_the_table = make_calls(leases, shape, &ON_THE_TABLE_THEN);
+    (is_right && on_the_copy == 12 && on_the_table == 6).then_some(is_refused)
+}
+
+/// The same on the tree of this module.
 fn calls_with_one_refused(heap: &Refusing<Global>, growth: u64) -> Option<bool> {
     let desk = tree(heap)?;
     let shape = desk.image().shape();
     let mut leases = Leases::new(heap);
-    let before = make_calls(&mut leases, shape, &BEFORE_THE_GROWTHS);
-    heap.refuse_after(growth);
-    let mut copied = copied_at_last(heap, &leases)?;
-    for call in &WITH_A_GROWTH_REFUSED {
-        if !is_answered_at_last(heap, &mut leases, shape, *call) {
-            return None;
-        }
+    if make_calls(&mut leases, shape, &BEFORE_THE_GROWTHS) == 8 {
+        calls_beside_a_copy(heap, &mut leases, shape, growth)
+    } else {
+        None
     }
-    let is_refused = heap.has_refused();
-    heap.refuse_after(AMPLE);
-    let on_the_copy = make_calls(&mut copied, shape, &ON_THE_COPY_HELD);
-    let is_right = before == 8 && on_the_copy == 8;
-    is_right.then_some(is_refused)
 }
 
 /// How many allocations the calls ask for, each refused in turn; or as an error the index of one at which

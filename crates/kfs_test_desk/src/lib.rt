@@ -14,8 +14,6 @@
 #[cfg(test)]
 mod by_number;
 #[cfg(test)]
-mod bytes;
-#[cfg(test)]
 mod desks;
 #[cfg(test)]
 mod leases;

@@ -46,8 +46,8 @@ fn gives_within(
     replies: &[Option<Reply>],
     shown: &[Shown<'_>],
 ) -> Option<bool> {
-    let desk = opening(alloc, limit)?;
     let creates = creates(alloc, replies.len())?;
+    let desk = opening(alloc, limit)?;
     let end = run_script(alloc, desk, creates, steps).ok()?;
     Some(are_settled(&end, replies) && shows(end.desk.image().shape(), shown))
 }
@@ -242,8 +242,8 @@ fn script_from<A: Allocator + Copy>(
 
 /// The same, starting with the desk.
 fn script_with_one_refused(heap: &Refusing<Global>, growth: u64) -> Option<bool> {
-    let desk = opening(heap, 100)?;
     let creates = creates(heap, 2)?;
+    let desk = opening(heap, 100)?;
     script_from(heap, heap, desk, creates, growth)
 }
 

@@ -1,7 +1,6 @@
 //! A log with as many entries as there may be, each of which writes one byte.
 
-use crate::bytes::desk_with_file;
-use crate::desks::{is_answered, landed, submission};
+use crate::desks::{desk_with_file, is_answered, landed, submission};
 use kfs_desk::Reply;
 use kfs_plan::{Fault, RowFault, Submission};
 use std::alloc::{AllocError, Global};
@@ -92,7 +91,6 @@ fn writes(
 
 /// Whether it is refused without the piece, and then accepted with it.
 fn are_answered(alloc: Global, is_backward: bool) -> Option<bool> {
-    let mut desk = desk_with_file(alloc, 2)?;
     let missing = Reply::No {
         position: 3,
         rejudged: false,
@@ -100,6 +98,7 @@ fn are_answered(alloc: Global, is_backward: bool) -> Option<bool> {
     };
     let first = writes(alloc, is_backward, false).ok()?;
     let second = writes(alloc, is_backward, true).ok()?;
+    let mut desk = desk_with_file(alloc, 2)?;
     Some(
         is_answered(&mut desk, first, &Ok(missing))
             && is_answered(&mut desk, second, &Ok(landed(4, 2))),

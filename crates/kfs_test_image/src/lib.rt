@@ -1,5 +1,5 @@
-//! Tests of edits of an image: a tier that is full, each allocation failing in turn, the bytes after edits,
-//! and the memory that is kept of blocks that are written over. The expected values come from
+//! Tests of edits of an image: a tier that is full, each allocation failing in turn, and the memory that is
+//! kept of blocks that are written over. The expected values come from
 //! docs/DEFINITIONS.md and docs/DECISIONS.md, never from the program's own output. The scripts of
 //! `kfs_rows` show what a landing does to blocks.
 //!
@@ -16,8 +16,6 @@ mod access;
 mod edits;
 #[cfg(test)]
 mod encode;
-#[cfg(test)]
-mod encoded;
 #[cfg(test)]
 mod filled;
 #[cfg(test)]

@@ -1,12 +1,7 @@
-//! Tests of moves of blocks. The expected values come from docs/DEFINITIONS.md and from the examples of
-//! `kfs_model`, never from the program's own output. Begin with `faults.rt`.
-#[cfg(test)]
-mod faults;
-#[cfg(test)]
-mod growths;
+//! Tests of moves of blocks: as many as one call may have. What moves are refused for, where blocks lie then, and each
+//! allocation failing in turn is in the scripts of `kfs_rows`; and what moves are, in the worked examples of `kfs_model`.
+//! Begin with `images.rt`.
 #[cfg(test)]
 pub mod images;
 #[cfg(test)]
 mod many;
-#[cfg(test)]
-mod places;

@@ -1,12 +1,17 @@
 //! Kept desks with one allocation refused: what is answered, and what is left standing.
-ghost use Rattle.std.specs.Prelude.{IfSome};
+//!
+//! The clauses of `kfs_kept` are long. So each of its calls is in a function that says no more than that the desk is kept.
+ghost use Rattle.std.specs.Prelude.{◌≡◌, IfErr, IfOk, IfSome, None};
+ghost use Rattle.kfs_desk.specs.Opening.{begin_fault};
+ghost use Rattle.kfs_journal.specs.Disk.{Only};
 ghost use Rattle.kfs_journal.specs.Memory.{memory_may_leave, memory_seen};
 ghost use Rattle.kfs_kept.specs.Keeping.{IsKept};
 
 use crate::run::{LEASE_FILE, LEASE_ROOT, LIMIT, MIGRATE, opened, saved, submit};
 use kfs_call_desk::{CallFault, Called, call};
+use kfs_desk::Desk;
 use kfs_journal::{MemoryDisk, Tear};
-use kfs_kept::{CallsFault, Kept, OpenFault, SaveFault};
+use kfs_kept::{CallsFault, CreateBack, Kept, OpenBack, OpenFault, SaveFault};
 use kfs_test_support::refusing::Refusing;
 use kfs_test_support::vectors::{CREATE_LOG, CREATE_PLAN, LETTERS_LOG, LETTERS_PLAN};
 use std::alloc::{Allocator, Global};
@@ -32,25 +37,122 @@ enum End {
     Answered,
 }
 
+/// Client 7 asks for the root, creates file 5, asks for it and writes to it, and a block moves.
+type Calls<'a> = [&'a [u8]; 5];
+
+/// What is answered to each call.
+type Answers<A> = Result<Vec<Result<Called, CallFault>, A>, CallsFault>;
+
+// ---- the calls of `kfs_kept`
+
+/// Keeps the desk on a new disk.
+fn keep<A: Allocator + Copy, B: Allocator + Copy>(
+    alloc: Global,
+    heap: B,
+    desk: Desk<A>,
+) -> Result<Kept<A, MemoryDisk>, CreateBack<A, MemoryDisk>>
+    requires { begin_fault desk.state.clients ≡ None }
+    ensures kept { IfOk result (λ kept. IsKept memory_seen memory_may_leave kept) }
+    ensures back { IfErr result (λ back. begin_fault back.desk.state.clients ≡ None) }
+{
+    let disk = MemoryDisk::new(alloc, Vec::new(alloc), Vec::new(alloc));
+    match Kept::create(heap, desk, disk) {
+        Ok(kept) => Ok(kept),
+        Err(back) => Err(back),
+    }
+}
+
+/// Opens a desk from the files of a disk on which all is synced.
+fn open_files<A: Allocator + Copy>(
+    rt: &(impl Threads + Sync),
+    heap: A,
+    disk: MemoryDisk,
+    files: (&[u8], &[u8]),
+) -> Result<Kept<A, MemoryDisk>, OpenBack<MemoryDisk>>
+    requires bytes { memory_seen disk ≡ (files.0.now, files.1.now) }
+    requires durable { Only (memory_seen disk) (memory_may_leave disk) }
+    ensures { IfOk result (λ kept. IsKept memory_seen memory_may_leave kept) }
+{
+    Kept::open(rt, heap, disk, files.0, files.1, LIMIT)
+}
+
+fn call_all<A: Allocator + Copy, B: Allocator + Copy>(
+    heap: B,
+    kept: &mut Kept<A, MemoryDisk>,
+    calls: &[&[u8]],
+) -> Answers<B>
+    requires { IsKept memory_seen memory_may_leave kept.old }
+    ensures { IsKept memory_seen memory_may_leave kept.new }
+{
+    kept.call_all(heap, calls)
+}
+
+fn checkpoint<A: Allocator + Copy, B: Allocator + Copy>(
+    heap: B,
+    kept: &mut Kept<A, MemoryDisk>,
+) -> Result<(), SaveFault>
+    requires { IsKept memory_seen memory_may_leave kept.old }
+    ensures { IsKept memory_seen memory_may_leave kept.new }
+{
+    kept.checkpoint(heap)
+}
+
+/// The state as bytes that an open desk shows.
+fn shown<A: Allocator + Copy>(alloc: Global, kept: &Kept<A, MemoryDisk>) -> Option<Vec<u8>>
+    requires { IsKept memory_seen memory_may_leave kept.now }
+{
+    saved(alloc, kept.desk()?)
+}
+
+/// How many calls of its disk were made.
+fn moment<A: Allocator + Copy>(kept: &Kept<A, MemoryDisk>) -> usize {
+    kept.disk().moment()
+}
+
+// ---- what is shown and found
+
 /// A desk in this memory that is kept on a new disk.
 pub fn kept_in<A: Allocator + Copy>(alloc: Global, heap: A) -> Option<Kept<A, MemoryDisk>>
     ensures { IfSome result (λ kept. IsKept memory_seen memory_may_leave kept) }
 {
-    let disk = MemoryDisk::new(alloc, Vec::new(alloc), Vec::new(alloc));
-    match Kept::create(alloc, opened(heap)?, disk) {
+    match keep(alloc, alloc, opened(heap)?) {
         Ok(kept) => Some(kept),
         Err(_) => None,
     }
 }
 
-/// The state as bytes that the disk's files are opened as after a crash that loses all that isn't synced.
-fn found(rt: &(impl Threads + AllocGlobal + Sync), disk: &MemoryDisk) -> Option<Vec<u8>> {
-    let left = disk.crashed(disk.moment(), Tear::Lost).ok()?;
-    let (first, second) = left.contents().ok()?;
-    match Kept::open(rt, rt.alloc(), left, &first, &second, LIMIT) {
-        Ok(kept) => saved(rt.alloc(), kept.desk()?),
+/// The state as bytes that these files are opened as, where all is synced.
+fn found_on(rt: &(impl Threads + AllocGlobal + Sync), disk: MemoryDisk) -> Option<Vec<u8>>
+    requires { Only (memory_seen disk) (memory_may_leave disk) }
+{
+    let (first, second) = disk.contents().ok()?;
+    match open_files(rt, rt.alloc(), disk, (&first, &second)) {
+        Ok(kept) => shown(rt.alloc(), &kept),
         Err(_) => None,
     }
+}
+
+/// Whether the disk's files are opened as this state after a crash that loses all that isn't synced.
+fn is_found(
+    rt: &(impl Threads + AllocGlobal + Sync),
+    disk: &MemoryDisk,
+    state: &[u8],
+) -> Option<bool> {
+    let left = disk.crashed(disk.moment(), Tear::Lost).ok()?;
+    let found = found_on(rt, left)?;
+    Some(found.as_slice() == state)
+}
+
+/// Whether the desk is open and shows this state.
+fn is_shown<A: Allocator + Copy>(
+    alloc: Global,
+    kept: &Kept<A, MemoryDisk>,
+    state: &[u8],
+) -> Option<bool>
+    requires { IsKept memory_seen memory_may_leave kept.now }
+{
+    let shown = shown(alloc, kept)?;
+    Some(shown.as_slice() == state)
 }
 
 /// Whether the desk is open and shows this state, and its files are opened as it.
@@ -61,120 +163,235 @@ fn stands<A: Allocator + Copy>(
 ) -> Option<bool>
     requires { IsKept memory_seen memory_may_leave kept.now }
 {
-    let shown = saved(rt.alloc(), kept.desk()?)?;
-    let found = found(rt, kept.disk())?;
-    Some(shown.as_slice() == state && found.as_slice() == state)
+    Some(is_shown(rt.alloc(), kept, state)? && is_found(rt, kept.disk(), state)?)
 }
 
-/// The state as bytes after the calls that were answered, of a desk that isn't kept. None where a call wasn't answered for
-/// another reason than memory, or more than one wasn't.
-fn state_after(
+// ---- calls
+
+/// Makes those of the calls that were answered, and says how many weren't, for lack of memory; none where one wasn't for
+/// another reason.
+fn left_out<A: Allocator>(
     alloc: Global,
-    calls: &[&[u8]],
-    answers: &[Result<Called, CallFault>],
-) -> Option<Vec<u8>> {
-    let mut desk = opened(alloc)?;
+    desk: &mut Desk<Global>,
+    calls: &Calls<'_>,
+    answers: &Vec<Result<Called, CallFault>, A>,
+) -> Option<usize> {
     let mut left_out = 0usize;
-    for (index, bytes) in calls.iter().enumerate() {
-        match answers.get(index)? {
+    for (bytes, answer) in calls.iter().zip(answers.iter()) {
+        match answer {
             Ok(_) => {
-                let _answer = call(alloc, &mut desk, bytes);
+                let _answer = call(alloc, desk, bytes);
             }
             Err(CallFault::OutOfMemory) => left_out = left_out.saturating_add(1),
             Err(_) => return None,
         }
     }
-    if left_out > 1 {
-        return None;
-    }
-    saved(alloc, &desk)
+    (answers.len() == calls.len()).then_some(left_out)
 }
 
-/// How five calls end with the allocation of this index refused. None where it isn't as it is due.
-fn calls_end(rt: &(impl Threads + AllocGlobal + Sync), growth: u64) -> Option<End> {
-    let alloc = rt.alloc();
-    let create = submit(alloc, CREATE_LOG, CREATE_PLAN).ok()?;
-    let letters = submit(alloc, LETTERS_LOG, LETTERS_PLAN).ok()?;
-    let calls: [&[u8]; 5] = [LEASE_ROOT, &create, LEASE_FILE, &letters, MIGRATE];
-    let heap = Refusing::new(alloc, AMPLE);
-    let mut kept = kept_in(alloc, &heap)?;
-    let before = saved(alloc, kept.desk()?)?;
-    let moment = kept.disk().moment();
+/// The state as bytes after the calls that were answered, of a desk that isn't kept. None where a call wasn't answered for
+/// another reason than memory, or more than one wasn't.
+fn state_after<A: Allocator>(
+    alloc: Global,
+    calls: &Calls<'_>,
+    answers: &Vec<Result<Called, CallFault>, A>,
+) -> Option<Vec<u8>> {
+    let mut desk = opened(alloc)?;
+    match left_out(alloc, &mut desk, calls, answers) {
+        Some(0..=1) => saved(alloc, &desk),
+        _ => None,
+    }
+}
+
+/// How calls end that are answered. None where desk or files aren't as they are due.
+fn answered_end<A: Allocator + Copy, B: Allocator>(
+    rt: &(impl Threads + AllocGlobal + Sync),
+    kept: &Kept<A, MemoryDisk>,
+    calls: &Calls<'_>,
+    answers: &Vec<Result<Called, CallFault>, B>,
+    has_refused: bool,
+) -> Option<End>
+    requires { IsKept memory_seen memory_may_leave kept.now }
+{
+    let state = state_after(rt.alloc(), calls, answers)?;
+    let end = if has_refused {
+        End::Answered
+    } else {
+        End::Ample
+    };
+    stands(rt, kept, &state)?.then_some(end)
+}
+
+/// How calls end that found no memory at all. None where desk or files aren't as they were.
+fn unchanged_end<A: Allocator + Copy>(
+    rt: &(impl Threads + AllocGlobal + Sync),
+    kept: &Kept<A, MemoryDisk>,
+    before: (&[u8], usize),
+) -> Option<End>
+    requires { IsKept memory_seen memory_may_leave kept.now }
+{
+    let is_same = moment(kept) == before.1 && stands(rt, kept, before.0)?;
+    is_same.then_some(End::Unchanged)
+}
+
+/// How calls end that close the desk. None where its files aren't as they were, or it answers once more.
+fn closed_end<A: Allocator + Copy, B: Allocator + Copy>(
+    rt: &(impl Threads + AllocGlobal + Sync),
+    heap: B,
+    kept: &mut Kept<A, MemoryDisk>,
+    calls: &Calls<'_>,
+    before: (&[u8], usize),
+) -> Option<End>
+    requires { IsKept memory_seen memory_may_leave kept.old }
+{
+    let is_lost = moment(kept) == before.1 && is_found(rt, kept.disk(), before.0)?;
+    let again = call_all(heap, kept, calls).err();
+    let is_closed = !kept.is_open() && again == Some(CallsFault::Closed);
+    (is_lost && is_closed).then_some(End::Closed)
+}
+
+/// How the calls end, made at a desk that shows `state`, with the allocation of this index refused. None where it isn't as
+/// it is due.
+fn end_of_calls<'a>(
+    rt: &(impl Threads + AllocGlobal + Sync),
+    heap: &'a Refusing<Global>,
+    kept: &mut Kept<&'a Refusing<Global>, MemoryDisk>,
+    calls: &Calls<'_>,
+    state: &[u8],
+    growth: u64,
+) -> Option<End>
+    requires { IsKept memory_seen memory_may_leave kept.old }
+{
+    let before = (state, moment(kept));
     heap.refuse_after(growth);
-    let answers = kept.call_all(&heap, &calls);
+    let answers = call_all(heap, kept, calls);
     let has_refused = heap.has_refused();
     heap.refuse_after(AMPLE);
-    let (is_right, end) = match answers {
-        Ok(answers) => {
-            let state = state_after(alloc, &calls, &answers)?;
-            let end = if has_refused {
-                End::Answered
-            } else {
-                End::Ample
-            };
-            (stands(rt, &kept, &state)?, end)
-        }
-        Err(CallsFault::OutOfMemory) => {
-            let is_same = kept.disk().moment() == moment;
-            (is_same && stands(rt, &kept, &before)?, End::Unchanged)
-        }
-        Err(CallsFault::NotKept) => {
-            let is_lost = kept.disk().moment() == moment && found(rt, kept.disk())? == before;
-            let again = kept.call_all(&heap, &calls).err();
-            let is_closed = !kept.is_open() && again == Some(CallsFault::Closed);
-            (is_lost && is_closed, End::Closed)
-        }
+    let end = match answers {
+        Ok(answers) => answered_end(rt, kept, calls, &answers, has_refused)?,
+        Err(CallsFault::OutOfMemory) => unchanged_end(rt, kept, before)?,
+        Err(CallsFault::NotKept) => closed_end(rt, heap, kept, calls, before)?,
         Err(_) => return None,
     };
-    (is_right && has_refused == (end != End::Ample)).then_some(end)
+    (has_refused == (end != End::Ample)).then_some(end)
 }
 
-/// The same of a checkpoint behind the calls. Nothing is refused for the calls.
-fn checkpoint_end(rt: &(impl Threads + AllocGlobal + Sync), growth: u64) -> Option<End> {
-    let alloc = rt.alloc();
-    let create = submit(alloc, CREATE_LOG, CREATE_PLAN).ok()?;
-    let heap = Refusing::new(alloc, AMPLE);
-    let mut kept = kept_in(alloc, &heap)?;
-    kept.call_all(&heap, &[LEASE_ROOT, &create]).ok()?;
-    let before = saved(alloc, kept.desk()?)?;
-    let moment = kept.disk().moment();
+/// The same at a new desk.
+fn calls_end(
+    rt: &(impl Threads + AllocGlobal + Sync),
+    calls: &Calls<'_>,
+    growth: u64,
+) -> Option<End> {
+    let heap = Refusing::new(rt.alloc(), AMPLE);
+    let mut kept = kept_in(rt.alloc(), &heap)?;
+    let state = shown(rt.alloc(), &kept)?;
+    end_of_calls(rt, &heap, &mut kept, calls, &state, growth)
+}
+
+// ---- a checkpoint
+
+/// How a checkpoint ends at a desk that shows `state`, with the allocation of this index refused. None where it isn't as it
+/// is due.
+fn end_of_checkpoint<'a>(
+    rt: &(impl Threads + AllocGlobal + Sync),
+    heap: &'a Refusing<Global>,
+    kept: &mut Kept<&'a Refusing<Global>, MemoryDisk>,
+    state: &[u8],
+    growth: u64,
+) -> Option<End>
+    requires { IsKept memory_seen memory_may_leave kept.old }
+{
+    let before = moment(kept);
     heap.refuse_after(growth);
-    let made = kept.checkpoint(&heap);
+    let made = checkpoint(heap, kept);
     let has_refused = heap.has_refused();
     heap.refuse_after(AMPLE);
-    let is_same = kept.disk().moment() == moment;
-    let stands_still = stands(rt, &kept, &before)?;
+    let is_same = moment(kept) == before;
+    let stands_still = stands(rt, kept, state)?;
     match made {
         Ok(()) if !has_refused && !is_same && stands_still => Some(End::Ample),
         Err(SaveFault::OutOfMemory) if has_refused && is_same && stands_still => {
-            kept.checkpoint(&heap).ok()?;
-            stands(rt, &kept, &before)?.then_some(End::Unchanged)
+            checkpoint(heap, kept).ok()?;
+            stands(rt, kept, state)?.then_some(End::Unchanged)
         }
         _ => None,
     }
 }
 
-/// The same of a journal that is created: desk and disk come back as they were, and the desk is kept on a disk then.
-fn create_end(alloc: Global, growth: u64) -> Option<End> {
-    let heap = Refusing::new(alloc, AMPLE);
-    let desk = opened(&heap)?;
-    let before = saved(alloc, &desk)?;
-    let disk = MemoryDisk::new(alloc, Vec::new(alloc), Vec::new(alloc));
+/// The same at a desk that has answered the first two calls. Nothing is refused for these.
+fn checkpoint_end(
+    rt: &(impl Threads + AllocGlobal + Sync),
+    calls: &Calls<'_>,
+    growth: u64,
+) -> Option<End> {
+    let heap = Refusing::new(rt.alloc(), AMPLE);
+    let mut kept = kept_in(rt.alloc(), &heap)?;
+    let is_made = call_all(&heap, &mut kept, &calls[..2]).is_ok();
+    let state = shown(rt.alloc(), &kept)?;
+    if is_made {
+        end_of_checkpoint(rt, &heap, &mut kept, &state, growth)
+    } else {
+        None
+    }
+}
+
+// ---- a journal that is created
+
+/// Whether the desk shows this state.
+fn shows<A: Allocator + Copy>(alloc: Global, desk: &Desk<A>, state: &[u8]) -> bool {
+    match saved(alloc, desk) {
+        Some(bytes) => bytes.as_slice() == state,
+        None => false,
+    }
+}
+
+/// How a desk comes back that found no memory: as it was, and it is kept then.
+fn end_of_back<A: Allocator + Copy>(
+    alloc: Global,
+    heap: A,
+    back: CreateBack<A, MemoryDisk>,
+    state: &[u8],
+) -> Option<End>
+    requires { begin_fault back.desk.state.clients ≡ None }
+{
+    let is_told = back.why == SaveFault::OutOfMemory && back.disk.moment() == 0;
+    let is_same = shows(alloc, &back.desk, state);
+    let is_kept = keep(alloc, heap, back.desk).is_ok();
+    (is_told && is_same && is_kept).then_some(End::Unchanged)
+}
+
+/// How the desk, which shows `state`, is kept, with the allocation of this index refused. None where it isn't as it is due.
+fn end_of_create<'a>(
+    alloc: Global,
+    heap: &'a Refusing<Global>,
+    desk: Desk<&'a Refusing<Global>>,
+    state: &[u8],
+    growth: u64,
+) -> Option<End>
+    requires { begin_fault desk.state.clients ≡ None }
+{
     heap.refuse_after(growth);
-    let created = Kept::create(&heap, desk, disk);
+    let created = keep(alloc, heap, desk);
     let has_refused = heap.has_refused();
     heap.refuse_after(AMPLE);
     match created {
         Ok(_) => (!has_refused).then_some(End::Ample),
         Err(back) => {
-            let is_told = has_refused && back.why == SaveFault::OutOfMemory;
-            let is_same = back.disk.moment() == 0 && saved(alloc, &back.desk)? == before;
-            let disk = MemoryDisk::new(alloc, Vec::new(alloc), Vec::new(alloc));
-            let is_kept = Kept::create(&heap, back.desk, disk).is_ok();
-            (is_told && is_same && is_kept).then_some(End::Unchanged)
+            let end = end_of_back(alloc, heap, back, state)?;
+            has_refused.then_some(end)
         }
     }
 }
+
+/// The same of a new desk.
+fn create_end(alloc: Global, growth: u64) -> Option<End> {
+    let heap = Refusing::new(alloc, AMPLE);
+    let desk = opened(&heap)?;
+    let state = saved(alloc, &desk)?;
+    end_of_create(alloc, &heap, desk, &state, growth)
+}
+
+// ---- files that are opened
 
 /// The files of a desk that was kept through some calls, and its state as bytes.
 #[derive(Drop)]
@@ -184,14 +401,11 @@ struct Left {
     state: Vec<u8>,
 }
 
-/// Files with a state and two groups.
-fn left_files(alloc: Global) -> Option<Left> {
-    let create = submit(alloc, CREATE_LOG, CREATE_PLAN).ok()?;
-    let letters = submit(alloc, LETTERS_LOG, LETTERS_PLAN).ok()?;
-    let mut kept = kept_in(alloc, alloc)?;
-    kept.call_all(alloc, &[LEASE_ROOT, &create]).ok()?;
-    kept.call_all(alloc, &[LEASE_FILE, &letters, MIGRATE]).ok()?;
-    let state = saved(alloc, kept.desk()?)?;
+/// The files of a kept desk.
+fn left_by(alloc: Global, kept: &Kept<Global, MemoryDisk>) -> Option<Left>
+    requires { IsKept memory_seen memory_may_leave kept.now }
+{
+    let state = shown(alloc, kept)?;
     let (first, second) = kept.disk().contents().ok()?;
     Some(Left {
         first,
@@ -200,13 +414,34 @@ fn left_files(alloc: Global) -> Option<Left> {
     })
 }
 
-/// The same of files that are opened: the disk comes back, and its files are opened then.
+/// Files with a state and two groups.
+fn left_files(alloc: Global, calls: &Calls<'_>) -> Option<Left> {
+    let mut kept = kept_in(alloc, alloc)?;
+    let is_first = call_all(alloc, &mut kept, &calls[..2]).is_ok();
+    let is_second = call_all(alloc, &mut kept, &calls[2..]).is_ok();
+    if is_first && is_second {
+        left_by(alloc, &kept)
+    } else {
+        None
+    }
+}
+
+/// A disk of two files with these bytes, all on the disk.
+fn disk_of(alloc: Global, first: &[u8], second: &[u8]) -> Option<MemoryDisk>
+    ensures seen { IfSome result (λ disk. memory_seen disk ≡ (first.now, second.now)) }
+    ensures durable { IfSome result (λ disk. Only (memory_seen disk) (memory_may_leave disk)) }
+{
+    let first = first.to_vec(alloc).ok()?;
+    let second = second.to_vec(alloc).ok()?;
+    Some(MemoryDisk::new(alloc, first, second))
+}
+
+/// How the files are opened, with the allocation of this index refused: the disk comes back, and its files are opened then.
+/// None where it isn't as it is due.
 fn open_end(rt: &(impl Threads + AllocGlobal + Sync), files: &Left, growth: u64) -> Option<End> {
-    let first = Vec::from_slice(rt.alloc(), &files.first).ok()?;
-    let second = Vec::from_slice(rt.alloc(), &files.second).ok()?;
-    let disk = MemoryDisk::new(rt.alloc(), first, second);
+    let disk = disk_of(rt.alloc(), &files.first, &files.second)?;
     let heap = Refusing::new(rt.alloc(), growth);
-    let opened = Kept::open(rt, &heap, disk, &files.first, &files.second, LIMIT);
+    let opened = open_files(rt, &heap, disk, (&files.first, &files.second));
     let has_refused = heap.has_refused();
     heap.refuse_after(AMPLE);
     match opened {
@@ -216,9 +451,35 @@ fn open_end(rt: &(impl Threads + AllocGlobal + Sync), files: &Left, growth: u64)
         }
         Err(back) => {
             let is_told = has_refused && back.why == OpenFault::OutOfMemory;
-            let is_same = found(rt, &back.disk)? == files.state;
+            let is_same = is_found(rt, &back.disk, &files.state)?;
             (is_told && is_same).then_some(End::Unchanged)
         }
+    }
+}
+
+// ---- each allocation in turn
+
+/// What is done with one allocation refused.
+#[derive(Clone, Copy)]
+enum Done<'a> {
+    Calls,
+    Checkpoint,
+    Create,
+    Open(&'a Left),
+}
+
+/// How it ends, with the allocation of this index refused. None where it isn't as it is due.
+fn end_of(
+    rt: &(impl Threads + AllocGlobal + Sync),
+    done: Done<'_>,
+    calls: &Calls<'_>,
+    growth: u64,
+) -> Option<End> {
+    match done {
+        Done::Calls => calls_end(rt, calls, growth),
+        Done::Checkpoint => checkpoint_end(rt, calls, growth),
+        Done::Create => create_end(rt.alloc(), growth),
+        Done::Open(files) => open_end(rt, files, growth),
     }
 }
 
@@ -250,50 +511,57 @@ impl Ends {
     }
 }
 
-#[test]
-fn refused_memory_of_calls_is_told(rt: HostRuntime) {
+/// How it ends with each allocation refused in turn; or as an error the index of one at which it isn't as it is due.
+fn ends_of(
+    rt: &(impl Threads + AllocGlobal + Sync),
+    done: Done<'_>,
+    calls: &Calls<'_>,
+) -> Result<Ends, u64> {
     let mut ends = Ends::NONE;
     for growth in 0..MANY {
-        let end = calls_end(&rt, growth);
-        assert!(&rt; end.is_some(), "{growth}");
-        if !ends.add(end.unwrap_or(End::Ample)) {
-            break;
+        match end_of(rt, done, calls, growth) {
+            Some(end) => {
+                if !ends.add(end) {
+                    return Ok(ends);
+                }
+            }
+            None => return Err(growth),
         }
     }
-    // The lists of answers and of the group's bytes; what is made behind a call; memory of the desk.
-    assert!(&rt; ends.unchanged == 2, "{ends:?}");
-    assert!(&rt; ends.closed > 5 && ends.answered > 20, "{ends:?}");
+    Err(MANY)
+}
+
+/// Whether all is told where memory is refused: of the calls, the lists of answers and of the group's bytes; what is made
+/// behind a call; and memory of the desk.
+fn are_calls_told(ends: Result<Ends, u64>) -> bool {
+    match ends {
+        Ok(ends) => ends.unchanged == 2 && ends.closed > 5 && ends.answered > 20,
+        Err(_) => false,
+    }
+}
+
+/// Whether nothing changes wherever memory is refused, at more allocations than these.
+fn are_unchanged(ends: Result<Ends, u64>, least: u64) -> bool {
+    match ends {
+        Ok(ends) => ends.unchanged > least && ends.closed == 0 && ends.answered == 0,
+        Err(_) => false,
+    }
 }
 
 #[test]
-fn refused_memory_of_states_is_told(rt: HostRuntime) {
-    let files = left_files(rt.alloc()).expect(&rt, "memory");
-    let mut created = Ends::NONE;
-    let mut checkpoints = Ends::NONE;
-    let mut opened = Ends::NONE;
-    for growth in 0..MANY {
-        let end = create_end(rt.alloc(), growth);
-        assert!(&rt; end.is_some(), "create, {growth}");
-        let is_created = !created.add(end.unwrap_or(End::Ample));
-        let end = checkpoint_end(&rt, growth);
-        assert!(&rt; end.is_some(), "checkpoint, {growth}");
-        let is_made = !checkpoints.add(end.unwrap_or(End::Ample));
-        let end = open_end(&rt, &files, growth);
-        assert!(&rt; end.is_some(), "open, {growth}");
-        if !opened.add(end.unwrap_or(End::Ample)) && is_created && is_made {
-            break;
-        }
+fn refused_memory_is_told(rt: HostRuntime) {
+    let create = submit(rt.alloc(), CREATE_LOG, CREATE_PLAN).expect(&rt, "memory");
+    let letters = submit(rt.alloc(), LETTERS_LOG, LETTERS_PLAN).expect(&rt, "memory");
+    let calls: Calls<'_> = [LEASE_ROOT, &create, LEASE_FILE, &letters, MIGRATE];
+    let files = left_files(rt.alloc(), &calls).expect(&rt, "memory");
+    let ends = ends_of(&rt, Done::Calls, &calls);
+    assert!(&rt; are_calls_told(ends), "calls: {ends:?}");
+    for (done, least) in [
+        (Done::Create, 5),
+        (Done::Checkpoint, 5),
+        (Done::Open(&files), 20),
+    ] {
+        let ends = ends_of(&rt, done, &calls);
+        assert!(&rt; are_unchanged(ends, least), "{least}: {ends:?}");
     }
-    assert!(&rt;
-        created.unchanged > 5 && created.unchanged < MANY,
-        "{created:?}"
-    );
-    assert!(&rt;
-        checkpoints.unchanged > 5 && checkpoints.unchanged < MANY,
-        "{checkpoints:?}"
-    );
-    assert!(&rt;
-        opened.unchanged > 20 && opened.unchanged < MANY,
-        "{opened:?}"
-    );
 }

@@ -5,4 +5,3 @@ mod many;
 mod refused;
 mod rules;
 mod shown;
-mod vectors;

@@ -14,8 +14,6 @@ mod chains;
 #[cfg(test)]
 mod codec;
 #[cfg(test)]
-mod findings;
-#[cfg(test)]
 mod fsck;
 #[cfg(test)]
 mod image_bytes;

@@ -1,33 +1,14 @@
-//! Each rule of an image broken alone, and together with each later rule; the least is found. And the
-//! check with one allocation failing.
+//! The check of an image with one allocation failing. What it finds is in `fsck`, which asks the same.
 
 use kfs_shape::{Finding, ShapeFault, check_shape};
-use kfs_test_support::images::broken::{RIGHT, RULES, broken, due};
-use kfs_test_support::images::small::{SmallImage, found, image};
+use kfs_test_support::images::broken::{RIGHT, broken};
+use kfs_test_support::images::small::{SmallImage, image};
 use kfs_test_support::refusing::Refusing;
 use std::alloc::Allocator;
 use std::process::Abort;
 
 /// More allocations than a check asks for.
 const MANY: u64 = 2000;
-
-/// The finding where the rules of both indexes are broken.
-fn found_of_both<A: Allocator + Copy>(alloc: A, first: usize, second: usize) -> Option<(u8, u32)> {
-    found(alloc, &broken(first, second))?
-}
-
-#[test]
-fn the_least_broken_rule_is_found(rt: HostRuntime) {
-    for first in 0..RULES {
-        for second in first..RULES {
-            let answer = found_of_both(rt.alloc(), first, second);
-            assert!(&rt;
-                answer.is_some() && answer == due(first),
-                "{first} {second}"
-            );
-        }
-    }
-}
 
 /// The answer of the check of these rows with one allocation failing.
 fn told<B: Allocator>(

@@ -36,8 +36,8 @@ fn ended<G: Gate + Sync, R: Threads + Wait + Sync>(
     files: &[File],
     workers: usize,
 ) -> Option<Ending<Global>> {
-    let desk = opened_with(alloc, limit)?;
     let submissions = creates(alloc, files)?;
+    let desk = opened_with(alloc, limit)?;
     batch(rt, alloc, gate, desk, submissions, workers)
 }
 

@@ -155,8 +155,8 @@ fn ended<'a, R: Threads + Wait + Sync>(
     heap: &'a Refusing<Global>,
     growth: u64,
 ) -> Option<Ending<&'a Refusing<Global>>> {
-    let desk = opened_with(heap, 100)?;
     let submissions = all_five(heap)?;
+    let desk = opened_with(heap, 100)?;
     heap.refuse_after(growth);
     batch(rt, heap, &Open, desk, submissions, 1)
 }

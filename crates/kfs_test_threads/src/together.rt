@@ -37,8 +37,8 @@ fn ended<R: Threads + Wait + Sync>(
     gate: &Noting,
     client: u32,
 ) -> Option<Ending<Global>> {
-    let desk = opened(alloc)?;
     let submissions = create_and_write(alloc, client)?;
+    let desk = opened(alloc)?;
     batch(rt, alloc, gate, desk, submissions, 1)
 }
 

@@ -1,6 +1,7 @@
 //! Moves with each allocation failing in turn.
 
-use crate::moves::moving::{AMPLE, are_free, have_bytes, is_migrated, lie_at, to, two_files};
+use crate::desks::AMPLE;
+use crate::moves::moving::{are_free, have_bytes, is_migrated, lie_at, to, two_files};
 use kfs_desk::{Desk, Move, Unanswered};
 use kfs_test_support::refusing::Refusing;
 use std::alloc::{Allocator, Global};
@@ -37,7 +38,7 @@ fn find_no_memory<A: Allocator + Copy>(desk: &mut Desk<A>) -> bool {
 /// Makes the moves beside a view, with only the allocation of this index failing, and once more. Answers
 /// whether there was such an allocation; none where the outcome is wrong.
 fn moves_with_one_refused(heap: &Refusing<Global>, growth: u64) -> Option<bool> {
-    let mut desk = two_files(heap, 8, 100)?;
+    let mut desk = two_files(heap, 100)?;
     let _view = desk.view().ok()?;
     heap.refuse_after(growth);
     let was_refused = find_no_memory(&mut desk);

@@ -1,14 +1,10 @@
 //! A desk with two files of one block each, and calls that move their blocks.
 
-use kfs_desk::{Act, ActFault, ActReply, Desk, Done, Move, MoveFault, Reply};
-use kfs_image::{Image, TierSizes, read_file};
-use kfs_lease::LeaseKind;
-use kfs_mode::Client;
+use crate::desks::{is_answered, is_leased, landed, opening, submission};
+use kfs_desk::{ActFault, ActReply, Desk, Done, Move, MoveFault};
+use kfs_image::read_file;
 use kfs_plan::Submission;
 use std::alloc::{AllocError, Allocator};
-
-/// More allocations than anything here asks for.
-pub const AMPLE: u64 = 1 << 40;
 
 /// Client 7 creates file 5 at `/a` with the bytes `one`, and file 6 at `/b` with the bytes `two`.
 const FILES_LOG: &[u8] = b"KLOG\x01\0\0\0\x07\0\x04\
@@ -34,77 +30,17 @@ const WRITE_LOG: &[u8] = b"KLOG\x01\0\0\0\x07\0\x01\
 const WRITE_PLAN: &[u8] = b"KPLN\x01\0\0\0\0\0\0\0\x01\
     \0\0\0\x05\0\0\0\0\0\0\0\0\0\0\0\0\0\0\0\x03\x01\0\0\0\0\0\0";
 
-/// A submission of client 7.
-fn submission<A: Allocator + Copy>(
-    alloc: A,
-    log: &[u8],
-    plan: &[u8],
-) -> Result<Submission<A>, AllocError> {
-    Ok(Submission {
-        client: 7,
-        log: Vec::from_slice(alloc, log)?,
-        plan: Vec::from_slice(alloc, plan)?,
-    })
-}
-
 /// The Write over file 5.
 pub fn write<A: Allocator + Copy>(alloc: A) -> Result<Submission<A>, AllocError> {
     submission(alloc, WRITE_LOG, WRITE_PLAN)
 }
 
-/// A Yes for this many blocks that wasn't judged again.
-pub fn yes(position: u32, need: u64) -> Reply {
-    Reply::Yes {
-        position,
-        rejudged: false,
-        need,
-    }
-}
-
-/// Whether the submission is answered so.
-fn is_answered<A: Allocator + Copy>(
-    desk: &mut Desk<A>,
-    submission: Submission<A>,
-    wanted: &Reply,
-) -> bool {
-    match desk.submit(submission) {
-        Ok(reply) => reply == *wanted,
-        Err(_) => false,
-    }
-}
-
-/// Whether client 7 is granted a write lease on the path.
-fn is_leased<A: Allocator + Copy>(desk: &mut Desk<A>, path: &[u8]) -> bool {
-    let act = Act::Lease {
-        client: 7,
-        path,
-        kind: LeaseKind::Write,
-        end: 100,
-    };
-    match desk.act(act) {
-        Ok(reply) => reply.answer.is_ok(),
-        Err(_) => false,
-    }
-}
-
-/// A desk over a new image with so many blocks on tier 0 and eight on each other tier, and with client
-/// 7.
-fn begun<A: Allocator + Copy>(alloc: A, blocks: u32, limit: u32) -> Option<Desk<A>> {
-    let image = Image::fresh(alloc, TierSizes::new(blocks, 8, 8)?).ok()?;
-    let client = Client::new(7, 1000, 1000, &[], false, 2, 99).ok()?;
-    let clients = vec![in alloc; client].ok()?;
-    Desk::begin(alloc, image, clients, limit).ok()
-}
-
-/// Such a desk with file 5 at `/a` and file 6 at `/b`, each with one block on tier 0: client 7 made them,
-/// and holds the root and file 5. The docket's next row is row 3.
-pub fn two_files<A: Allocator + Copy>(alloc: A, blocks: u32, limit: u32) -> Option<Desk<A>> {
-    let mut desk = begun(alloc, blocks, limit)?;
+/// A desk with file 5 at `/a` and file 6 at `/b`, each with one block on tier 0: client 7 made them, and holds
+/// the root and file 5. The docket's next row is row 3.
+pub fn two_files<A: Allocator + Copy>(alloc: A, limit: u32) -> Option<Desk<A>> {
     let files = submission(alloc, FILES_LOG, FILES_PLAN).ok()?;
-    if is_leased(&mut desk, b"/")
-        && is_answered(&mut desk, files, &yes(1, 2))
-        && is_leased(&mut desk, b"/a")
-    {
+    let mut desk = opening(alloc, limit)?;
+    if is_answered(&mut desk, files, &Ok(landed(1, 2))) && is_leased(&mut desk, b"/a", 5, 2) {
         Some(desk)
     } else {
         None

@@ -1,6 +1,7 @@
 //! Scripts with moves between looks, judgements and landings.
 
-use crate::moves::moving::{have_bytes, lie_at, to, two_files, write, yes};
+use crate::desks::landed;
+use crate::moves::moving::{have_bytes, lie_at, to, two_files, write};
 use kfs_desk::{Desk, Move};
 use kfs_plan::Submission;
 use kfs_workers_script::{ScriptEnd, Step, run_script};
@@ -40,15 +41,15 @@ fn run_over(
 
 /// Whether both Writes were landed as they were judged, beside the rows of the moves.
 fn is_right(end: &ScriptEnd<Global>) -> bool {
-    end.replies.as_slice() == [Some(yes(4, 1)), Some(yes(6, 1))].as_slice()
+    end.replies.as_slice() == [Some(landed(4, 1)), Some(landed(6, 1))].as_slice()
         && end.desk.docket().len() == 7
         && have_bytes(&end.desk, b"ONE", b"two")
         && end.desk.image().place_of(6, 0) == Some((1, 0))
 }
 
 fn runs(alloc: Global) -> Option<bool> {
-    let desk = two_files(alloc, 8, 100)?;
     let submissions = vec![in alloc; write(alloc).ok()?, write(alloc).ok()?].ok()?;
+    let desk = two_files(alloc, 100)?;
     let end = run_over(alloc, desk, submissions)?;
     Some(is_right(&end))
 }
@@ -60,8 +61,8 @@ fn moves_between_judgement_and_landing(rt: HostRuntime) {
 
 /// A docket that is full after row 3: the moves have it, and the landing none.
 fn leaves(alloc: Global) -> Option<bool> {
-    let desk = two_files(alloc, 8, 4)?;
     let submissions = vec![in alloc; write(alloc).ok()?].ok()?;
+    let desk = two_files(alloc, 4)?;
     let end = run_over(alloc, desk, submissions)?;
     Some(
         end.replies.as_slice() == [None].as_slice()

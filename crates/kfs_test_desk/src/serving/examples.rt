@@ -1,5 +1,6 @@
 //! An example of each public type of `kfs_judge`, `kfs_plan` and `kfs_desk`: how it comes about, and what it holds.
 
+use crate::desks::{AMPLE, begun, client, create, opening, submission};
 use kfs_desk::{
     Act, ActFault, ActReply, Back, BeginBack, BeginFault, Desk, Done, Reply, SubmissionsBack,
     Unanswered, Why,
@@ -10,43 +11,15 @@ use kfs_judge::{
     EntryFault, FileSize, Keeping, Net, Read, ReadAnswer, Reason, View, Walk, judge_entries_keeping,
 };
 use kfs_lease::{LeaseFault, LeaseKind};
-use kfs_mode::{Client, ClientFault};
+use kfs_mode::Client;
 use kfs_plan::{Fault, Judged, Outcome, RowFault, Submission, judge, judge_bytes};
 use kfs_test_support::refusing::Refusing;
 use kfs_test_support::vectors::{CREATE_LOG, CREATE_PLAN, EMPTY_PLAN};
 use std::alloc::{Allocator, Global};
 
-/// A client of uid and gid 1000 that may give the numbers from `first` to `last` to new nodes.
-fn client(number: u32, first: u32, last: u32) -> Result<Client, ClientFault> {
-    Client::new(number, 1_000, 1_000, &[], false, first, last)
-}
-
-/// A desk of client 7 on a new image, whose docket takes `limit` rows.
-fn begun<A: Allocator + Copy>(alloc: A, limit: u32) -> Option<Desk<A>> {
-    let image = Image::fresh(alloc, TierSizes::new(8, 8, 8)?).ok()?;
-    let clients = vec![in alloc; client(7, 2, 99).ok()?].ok()?;
-    Desk::begin(alloc, image, clients, limit).ok()
-}
-
 /// What the desk answers where client 7 asks for a write lease on the root.
 fn lease<A: Allocator + Copy>(desk: &mut Desk<A>) -> Result<ActReply, Unanswered> {
     desk.lease(7, b"/", LeaseKind::Write, 100)
-}
-
-/// Such a desk, of which client 7 holds the root: row 0.
-pub fn opened<A: Allocator + Copy>(alloc: A, limit: u32) -> Option<Desk<A>> {
-    let mut desk = begun(alloc, limit)?;
-    lease(&mut desk).ok()?.answer.ok()?;
-    Some(desk)
-}
-
-/// What client 7 hands in.
-pub fn submission<A: Allocator + Copy>(alloc: A, log: &[u8], plan: &[u8]) -> Option<Submission<A>> {
-    Some(Submission {
-        client: 7,
-        log: Vec::from_slice(alloc, log).ok()?,
-        plan: Vec::from_slice(alloc, plan).ok()?,
-    })
 }
 
 // ---- views, and what a walk over a log's entries finds
@@ -106,7 +79,7 @@ fn size(walk: &Walk<Global>) -> Option<FileSize> {
 
 #[test]
 fn a_walk_and_what_it_read(rt: HostRuntime) {
-    let walk = opened(rt.alloc(), 9).and_then(|desk| walked(rt.alloc(), &desk, CREATE_LOG));
+    let walk = opening(rt.alloc(), 9).and_then(|desk| walked(rt.alloc(), &desk, CREATE_LOG));
     assert!(rt; walk.is_some());
     if let Some(walk) = walk {
         assert!(rt; outcome(&walk) == Ok((1, 1)));
@@ -125,7 +98,7 @@ fn a_walk_and_what_it_read(rt: HostRuntime) {
 
 #[test]
 fn a_walk_that_keeps_no_read(rt: HostRuntime) {
-    let walk = opened(rt.alloc(), 9).and_then(|desk| walked_unread(rt.alloc(), &desk, CREATE_LOG));
+    let walk = opening(rt.alloc(), 9).and_then(|desk| walked_unread(rt.alloc(), &desk, CREATE_LOG));
     assert!(rt; walk.is_some());
     if let Some(walk) = walk {
         assert!(rt; outcome(&walk) == Ok((1, 1)));
@@ -136,7 +109,7 @@ fn a_walk_that_keeps_no_read(rt: HostRuntime) {
 
 #[test]
 fn a_walk_that_stops_at_an_entry(rt: HostRuntime) {
-    let walk = begun(rt.alloc(), 9).and_then(|desk| walked(rt.alloc(), &desk, CREATE_LOG));
+    let walk = begun(rt.alloc(), 8, 9).and_then(|desk| walked(rt.alloc(), &desk, CREATE_LOG));
     let fault = EntryFault {
         index: 0,
         reason: Reason::NoLease(1),
@@ -152,7 +125,7 @@ fn a_walk_that_stops_at_an_entry(rt: HostRuntime) {
 
 /// The verdict on a submission in the state of now.
 fn judged(alloc: Global, desk: &Desk<Global>, log: &[u8], plan: &[u8]) -> Option<Judged<Global>> {
-    judge(alloc, &view(desk)?, submission(alloc, log, plan)?).ok()
+    judge(alloc, &view(desk)?, submission(alloc, log, plan).ok()?).ok()
 }
 
 /// How many names and headers a Yes changes and how many blocks it writes, or why the verdict is a No.
@@ -172,7 +145,7 @@ fn verdict_on(
     log: &[u8],
     plan: &[u8],
 ) -> Option<Result<(usize, usize, u64), Fault>> {
-    let desk = opened(alloc, 9)?;
+    let desk = opening(alloc, 9)?;
     let judged = judged(alloc, &desk, log, plan)?;
     Some(verdict(judged.outcome()))
 }
@@ -183,7 +156,7 @@ fn verdict_on_bytes(
     log: &[u8],
     plan: &[u8],
 ) -> Option<Result<(usize, usize, u64), Fault>> {
-    let view = view(&opened(alloc, 9)?)?;
+    let view = view(&opening(alloc, 9)?)?;
     let outcome = judge_bytes(alloc, &view, 7, log, plan).ok()?;
     Some(verdict(&outcome))
 }
@@ -217,8 +190,8 @@ pub fn submit<A: Allocator + Copy>(
 
 /// What a desk with a docket of `limit` rows answers to the Create of file 5, or why it comes back.
 fn created(alloc: Global, limit: u32) -> Option<Result<Reply, Why>> {
-    let mut desk = opened(alloc, limit)?;
-    let submission = submission(alloc, CREATE_LOG, CREATE_PLAN)?;
+    let submission = create(alloc).ok()?;
+    let mut desk = opening(alloc, limit)?;
     match submit(&mut desk, submission) {
         Ok(reply) => Some(Ok(reply)),
         // the submission is as it was handed in
@@ -240,7 +213,7 @@ fn a_reply_and_a_submission_that_comes_back(rt: HostRuntime) {
 
 /// What such a desk answers to the same bytes, where they lie.
 fn created_of_bytes(alloc: Global, limit: u32) -> Option<Result<Reply, Why>> {
-    let mut desk = opened(alloc, limit)?;
+    let mut desk = opening(alloc, limit)?;
     Some(desk.submit_bytes(7, CREATE_LOG, CREATE_PLAN))
 }
 
@@ -265,7 +238,7 @@ fn docket_len(desk: &Desk<Global>) -> u32 {
 
 #[test]
 fn answers_to_calls_for_leases(rt: HostRuntime) {
-    let desk = begun(rt.alloc(), 2);
+    let desk = begun(rt.alloc(), 8, 2);
     assert!(rt; desk.is_some());
     if let Some(mut desk) = desk {
         let leased = ActReply {
@@ -298,7 +271,8 @@ fn begin(
 /// Why no desk is begun with two clients of one number, and how many clients come back with the image.
 fn begun_with_a_client_twice(alloc: Global) -> Option<(BeginFault, usize)> {
     let image = Image::fresh(alloc, TierSizes::new(8, 8, 8)?).ok()?;
-    let clients = vec![in alloc; client(7, 2, 99).ok()?, client(7, 100, 199).ok()?].ok()?;
+    let other = Client::new(7, 1_000, 1_000, &[], false, 100, 199).ok()?;
+    let clients = vec![in alloc; client(7, 99).ok()?, other].ok()?;
     match begin(alloc, image, clients) {
         Ok(_) => None,
         Err(back) => Some((back.why, back.clients.len())),
@@ -327,12 +301,11 @@ fn reply(answer: &Result<Reply, Back<Global>>) -> Result<Reply, Why> {
 
 /// What a desk with a docket of three rows answers to the Create of file 5, handed in three times at once.
 fn created_three_times(alloc: Global) -> Option<[Result<Reply, Why>; 3]> {
-    let mut desk = opened(alloc, 3)?;
     let mut submissions = Vec::new(alloc);
     for _ in 0..3 {
-        let create = submission(alloc, CREATE_LOG, CREATE_PLAN)?;
-        submissions.push(create).ok()?;
+        submissions.push(create(alloc).ok()?).ok()?;
     }
+    let mut desk = opening(alloc, 3)?;
     let answers = submit_all(&mut desk, submissions).ok()?;
     match answers.as_slice() {
         [first, second, third] => Some([reply(first), reply(second), reply(third)]),
@@ -361,9 +334,9 @@ fn submissions_one_after_another(rt: HostRuntime) {
 
 /// How many submissions come back where the desk finds no room for their answers.
 fn sent_back(alloc: Global) -> Option<usize> {
-    let heap = Refusing::new(alloc, 1 << 40);
-    let mut desk = opened(&heap, 9)?;
-    let submissions = vec![in &heap; submission(&heap, CREATE_LOG, CREATE_PLAN)?].ok()?;
+    let heap = Refusing::new(alloc, AMPLE);
+    let submissions = vec![in &heap; create(&heap).ok()?].ok()?;
+    let mut desk = opening(&heap, 9)?;
     heap.refuse_after(0);
     match submit_all(&mut desk, submissions) {
         Ok(_) => None,

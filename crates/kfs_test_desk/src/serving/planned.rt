@@ -1,11 +1,9 @@
 //! What a plan maker calls: right pieces of a log, and the check of a plan. Each with its answer, and with each allocation of
 //! memory refused.
 
-use crate::serving::examples::{opened, submission, submit};
-use kfs_desk::{Desk, Reply};
+use crate::desks::{AMPLE, desk_with_file};
 use kfs_entry::{Plan, RowList, decode_log, decode_plan};
 use kfs_judge::{View, judge_entries};
-use kfs_lease::LeaseKind;
 use kfs_plan::{RowFault, check_plan, sweep};
 use kfs_test_support::refusing::Refusing;
 use kfs_test_support::vectors::{
@@ -13,36 +11,8 @@ use kfs_test_support::vectors::{
 };
 use std::alloc::{Allocator, Global};
 
-/// More allocations than anything here asks for.
-const AMPLE: u64 = 1 << 40;
-
 /// More allocations than one call asks for.
 const MANY: u64 = 100;
-
-/// Whether client 7 has a Yes to this log and plan.
-fn is_landed<A: Allocator + Copy>(alloc: A, desk: &mut Desk<A>, log: &[u8], plan: &[u8]) -> bool {
-    match submission(alloc, log, plan) {
-        Some(submission) => matches!(submit(desk, submission), Ok(Reply::Yes { .. })),
-        None => false,
-    }
-}
-
-fn is_leased<A: Allocator + Copy>(desk: &mut Desk<A>) -> bool {
-    match desk.lease(7, b"/a", LeaseKind::Write, 100) {
-        Ok(reply) => reply.answer.is_ok(),
-        Err(_) => false,
-    }
-}
-
-/// A desk with the empty file 5. Client 7 holds it.
-fn with_file<A: Allocator + Copy>(alloc: A) -> Option<Desk<A>> {
-    let mut desk = opened(alloc, 9)?;
-    if is_landed(alloc, &mut desk, CREATE_LOG, CREATE_PLAN) && is_leased(&mut desk) {
-        Some(desk)
-    } else {
-        None
-    }
-}
 
 /// A call on the log that writes ten letters, with the answer that is expected.
 #[derive(Clone, Copy)]
@@ -113,7 +83,7 @@ fn called<A: Allocator + Copy>(
 
 /// The same on a desk of its own.
 fn called_on_a_desk(heap: &Refusing<Global>, call: Call, growth: u64) -> Option<bool> {
-    let desk = with_file(heap)?;
+    let desk = desk_with_file(heap, 8)?;
     let view = desk.view().ok()?;
     called(heap, heap, &view, call, growth)
 }
@@ -166,7 +136,7 @@ fn need_of(alloc: Global, view: &View<Global>, plan: &Plan<Global>) -> Option<u6
 
 /// The need of that plan, on a desk of its own.
 fn need_on_a_desk(alloc: Global) -> Option<u64> {
-    let desk = with_file(alloc)?;
+    let desk = desk_with_file(alloc, 8)?;
     let view = desk.view().ok()?;
     let plan = plan_with_swept_pieces(alloc, &view)?;
     need_of(alloc, &view, &plan)

@@ -1,9 +1,9 @@
-//! New images as bytes.
+//! A new image as bytes, with each allocation failing in turn. Which bytes these are is in the scripts of
+//! `kfs_rows` and in the worked examples of `kfs_model`.
 
 use kfs_image::{Image, TierSizes, encode_image};
 use kfs_test_support::refusing::Refusing;
-use kfs_test_support::vectors::ROOT_IMAGE;
-use std::alloc::{AllocError, Allocator, Global};
+use std::alloc::{Allocator, Global};
 use std::process::Abort;
 
 /// More allocations than the bytes ask for.
@@ -17,21 +17,9 @@ fn fresh(alloc: Global) -> Option<Image<Global>> {
     Image::fresh(alloc, TierSizes::new(8, 8, 8)?).ok()
 }
 
-/// The bytes of a new image, in version 2.
-fn root_bytes(alloc: Global) -> Result<Vec<u8>, AllocError> {
-    let mut bytes = Vec::from_slice(alloc, &ROOT_IMAGE[..4])?;
-    bytes.push(2)?;
-    bytes.extend_from_slice(&ROOT_IMAGE[5..])?;
-    Ok(bytes)
-}
-
 /// The bytes of the image, if memory isn't refused.
 fn encoded<B: Allocator>(alloc: B, image: &Image<Global>) -> Option<Vec<u8, B>> {
     encode_image(alloc, image).ok()
-}
-
-fn fresh_bytes(alloc: Global) -> Option<Vec<u8>> {
-    encoded(alloc, &fresh(alloc)?)
 }
 
 /// Whether the bytes are as many as those of a new image.
@@ -59,14 +47,6 @@ fn growths(alloc: Global) -> Option<u64> {
         }
     }
     None
-}
-
-#[test]
-fn a_new_image_is_its_root_in_version_2(rt: HostRuntime) -> Result<(), AllocError> {
-    let due = root_bytes(rt.alloc())?;
-    let bytes = fresh_bytes(rt.alloc());
-    assert!(&rt; bytes == Some(due));
-    Ok(())
 }
 
 #[test]
