@@ -41,6 +41,6 @@ finish-requires-clause-whole g c =
         stands = subst (λ (r : List ℕ). HasDraft (g.D.Disk.seen c.extend-3.new.disk) c.put-2.new.self c.extend-3.new.self (state ++ r)) records all;
         state_len = c.extend-3.ensures.len ∙ c.extend-2.ensures.len ∙ c.extend.ensures.len ∙ c.in_ok-draft.ensures.draft.1;
         state_fits = omega arith;
-        groups_fit = (omega arith, omega arith, tt);
+        groups_fit = (omega arith, (omega arith, tt));
       },
     )
