@@ -22,6 +22,9 @@
 //! A gate stands closed on the disk before anything is written behind it. A write of its own opens it, after
 //! the sync of what stands behind it. So no checksum is trusted: what a torn write left is behind a closed gate.
 //!
+//! A new state is written in one call (`Journal::change`), or in parts with groups between them (`Draft`). The gate
+//! of its head stays closed until all of it is there.
+//!
 //! # What is proved
 //!
 //! - Of every disk that keeps to `Disk`: the clauses of `Journal` and `settle`. A clause `any_moment` says what

@@ -6,3 +6,4 @@ mod Beside
 mod Stays
 mod OneState
 mod Unanswered
+mod Due

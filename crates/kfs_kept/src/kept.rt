@@ -264,7 +264,7 @@ impl<A: Allocator + Copy, D: Disk + Drop> Kept<A, D> {
         ensures failed { IsErrOf result SaveFault.Failed → IsFalse self.new.is_open × IsTrue (D.has_failed self.new.disk) }
         ensures same { IfErr result (λ why. (why ≡ SaveFault.Failed) ⊎ (self.new ≡ self.old)) }
     {
-        if self.is_open && !self.journal.is_change_due() {
+        if self.is_open && !self.is_checkpoint_due() {
             return Ok(false);
         }
         self.checkpoint(alloc)?;

@@ -21,10 +21,7 @@ fn cost(
 {
     let before = kept.disk().moment();
     let answers = kept.call_all(alloc, calls).ok()?;
-    Some((
-        answers.len(),
-        kept.disk().moment().saturating_sub(before),
-    ))
+    Some((answers.len(), kept.disk().moment().saturating_sub(before)))
 }
 
 /// Whether a checkpoint was due and is made, and how many calls of the disk it makes.

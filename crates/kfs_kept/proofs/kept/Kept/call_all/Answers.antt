@@ -1,6 +1,10 @@
-use Rattle.std.proofs.Common.{rules, IsTrue}
+use Rattle.std.proofs.Common.{◌≡◌, length, ap, sym, subst, rules, IsTrue}
+use Rattle.std.proofs.lemmas.List.{nil_from_length}
+use Rattle.kfs_model.specs.Judgement.{State}
 use Rattle.kfs_journal.proofs.Moments.{weaker}
+use Rattle.kfs_kept.specs.Standing.{StandFor}
 use Rattle.kfs_kept.proofs.Meant.{left_stand, put_moment, put_stand}
+use Rattle.kfs_kept.proofs.Unanswered.{desk_stays, group_is_empty, state_stays}
 use Rattle.kfs_kept.proofs.kept.Kept.call_all.Goals as goal
 
 pub returns-in-Ok-put-clause-kept : goal.returns-in-Ok-put-clause-kept
@@ -24,3 +28,31 @@ pub returns-in-Err-Failed-clause-any_moment : goal.returns-in-Err-Failed-clause-
 returns-in-Err-Failed-clause-any_moment g c = λ is_open.
     let was = c.requires.kept is_open in
     weaker g.D.Disk.moment g.D.Disk.left_since c.args.self.now.disk c.put.new.disk _ _ (λ f one. put_moment _ _ _ _ _ _ _ was.stand c.in-Ok.ensures c.deref.ensures.value f one) c.put.ensures.any_moment
+
+pub returns-then-is_empty-clause-kept : goal.returns-then-is_empty-clause-kept
+returns-then-is_empty-clause-kept g c =
+    let is_open : IsTrue c.args.self.now.is_open = search rules in
+    let was = c.requires.kept is_open in
+    let zero : length c.make_all.new.self.group.items ≡ 0 = search rules in
+    let same = state_stays _ _ _ _ _ c.in-Ok.ensures (nil_from_length c.make_all.new.self.group.items zero) in
+    λ _. record { settled = was.settled; stand = subst (λ (s : State). StandFor (g.D.Disk.seen c.args.self.now.disk) s) (sym same) was.stand }
+
+pub returns-then-is_empty-clause-acknowledged : goal.returns-then-is_empty-clause-acknowledged
+returns-then-is_empty-clause-acknowledged g c =
+    let is_open : IsTrue c.args.self.now.is_open = search rules in
+    let was = c.requires.kept is_open in
+    let zero : length c.make_all.new.self.group.items ≡ 0 = search rules in
+    let same = state_stays _ _ _ _ _ c.in-Ok.ensures (nil_from_length c.make_all.new.self.group.items zero) in
+    λ f left. subst (λ (s : State). StandFor f s) (sym same) (left_stand _ _ _ was.settled.durable was.stand f left)
+
+pub returns-then-is_empty-clause-idle : goal.returns-then-is_empty-clause-idle
+returns-then-is_empty-clause-idle g c = λ none.
+    let is_open : IsTrue c.args.self.now.is_open = search rules in
+    let same : c.make_all.new.desk ≡ c.args.self.now.desk = desk_stays _ _ _ _ _ c.in-Ok.ensures none in
+    λ i. record { desk = same i; journal = c.args.self.now.journal; disk = c.args.self.now.disk; is_open = sym is_open i }
+
+pub returns-in-Ok-put-clause-idle : goal.returns-in-Ok-put-clause-idle
+returns-in-Ok-put-clause-idle g c = λ none.
+    let zero : length c.make_all.new.self.group.items ≡ 0 = ap length (group_is_empty _ _ _ _ _ c.in-Ok.ensures none) in
+    let no : ⊥ = search (rules, zero) in
+    absurd no
