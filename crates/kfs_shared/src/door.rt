@@ -20,9 +20,15 @@ use std::time::Duration;
 /// most turns go by. So whoever has a ticket is to be awake, and all others wait at the door.
 const MOST_OUT: u64 = 3;
 
-/// How often a call looks whether its turn has come before it sleeps. That takes some times as long as
-/// waking a thread: else one that sleeps makes the others fall asleep, too.
-const LOOKS: u32 = 2_000;
+/// How often a call with a ticket looks whether its turn has come before it sleeps. A look takes half a
+/// nanosecond to one, so all take 10 to 20 microseconds. With a fifth of that, threads with short turns
+/// fall asleep one behind another, since waking one takes longer than its turn.
+const LOOKS: u32 = 20_000;
+
+/// How often a call looks at the door whether there is room before it sleeps there. That takes one to two
+/// microseconds, which is as long as a short turn: else a call would sleep for a ticket that is free
+/// before it is asleep. It is no longer, so of many calls at the door most sleep.
+const LOOKS_AT_THE_DOOR: u32 = 2_000;
 
 /// How long a call sleeps at the door, in microseconds. Then it draws a ticket in any case.
 const AT_THE_DOOR: u64 = 200;
@@ -81,14 +87,27 @@ fn has_room<D: Docketed>(table: &TurnTable<D>) -> bool
     table.peek(NEXT).wrapping_sub(turn) < MOST_OUT
 }
 
-/// Waits for a while, with no ticket, if as many are out as may be. Nobody sleeps here for longer, whether
-/// woken or not.
+/// Looks for a short while whether one more ticket may be drawn. Whether it may.
+fn finds_room<D: Docketed>(table: &TurnTable<D>) -> bool
+    requires { table.now.table_id.words ≡ 12 }
+{
+    for _ in 0..LOOKS_AT_THE_DOOR {
+        if has_room(table) {
+            return true;
+        }
+        spin_loop();
+    }
+    false
+}
+
+/// Waits for a while, with no ticket, if as many are out as may be. It looks first, and then sleeps. Nobody
+/// sleeps here for longer, whether woken or not.
 pub fn pass_door<D: Docketed, R: Wait>(rt: &R, table: &TurnTable<D>, seat: &mut PassSeat<D>)
     requires table { SeatFits table.now.table_id seat.old.table_id }
     ensures same { (seat.new.table_id ≡ seat.old.table_id) × (seat.new.id ≡ seat.old.id) }
     ensures me { seat.new.me ≡ seat.old.me }
 {
-    if has_room(table) {
+    if finds_room(table) {
         return;
     }
     let marked = mark(table, seat, DOOR);

@@ -10,7 +10,7 @@ use crate::pass::{Pass, Shared, Turn};
 use crate::seats::add_last;
 use crate::want::{SharedBack, SharedWant};
 use kfs_desk::{Desk, Landed, Reply};
-use kfs_plan::{Judged, Why};
+use kfs_plan::{Judged, Outcome, Why};
 use std::alloc::Allocator;
 use std::sync::Wait;
 
@@ -63,22 +63,30 @@ fn back_of<A: Allocator>(judged: Judged<A>, why: SharedWant) -> SharedBack<A>
     SharedBack { submission, why }
 }
 
+/// A verdict that is answered, and what was found of its submission if it was judged again. It is kept
+/// until the turn has ended, since it takes time to give its memory back.
+#[derive(Drop)]
+pub struct Spent<A: Allocator> {
+    judged: Judged<A>,
+    again: Option<Outcome<A>>,
+}
+
 /// The reply to a verdict, or what comes back. A verdict that is answered goes to the list, if that has
 /// room. Else it goes at once.
 pub fn answer_of<A: Allocator>(
     judged: Judged<A>,
     landed: Result<Landed<A>, SharedWant>,
-    answered: &mut Vec<Judged<A>, A>,
+    spent: &mut Vec<Spent<A>, A>,
 ) -> Result<Reply, SharedBack<A>>
     ensures { result ≡ answer_of judged.submission landed }
 {
-    let reply = match landed {
-        Ok(landed) => landed.reply,
+    let Landed { reply, again } = match landed {
+        Ok(landed) => landed,
         Err(why) => return Err(back_of(judged, why)),
     };
-    if answered.len() < answered.capacity() {
+    if spent.len() < spent.capacity() {
         // It can't fail, since the list has room. If it did, the verdict would go.
-        let _ = answered.push(judged);
+        let _ = spent.push(Spent { judged, again });
     }
     Ok(reply)
 }

@@ -4,7 +4,7 @@ ghost use Rattle.kfs_shared.specs.Landings.{AreHandedBack, IsHandedBack, LandsEa
 ghost use Rattle.kfs_shared.specs.Passes.{IsPassOf, IsTurnOf};
 ghost use Rattle.kfs_shared.specs.Sharing.{ShowsNone, ShowsSeen};
 
-use crate::land::{answer_of, unlanded};
+use crate::land::{Spent, answer_of, unlanded};
 use crate::pass::{Pass, Shared, Turn};
 use crate::want::{SharedBack, SharedWant};
 use kfs_desk::{Desk, Reply};
@@ -51,8 +51,8 @@ impl<A: Allocator + Copy> Shared<Desk<A>, A> {
     /// submissions come back for `TurnsSpent`, and there is no view. Else a view is refused with
     /// `OutOfMemory` alone.
     ///
-    /// The verdicts go once the turn has ended. Where memory is refused for a list of them, each goes in
-    /// the turn.
+    /// The verdicts go once the turn has ended, with what was found of those that were judged again. Where
+    /// memory is refused for a list of them, each goes in the turn.
     pub fn land_each<L: Landing<Judged<A>, SharedBack<A>>, R: Wait>(
         &self,
         rt: &R,
@@ -66,12 +66,12 @@ impl<A: Allocator + Copy> Shared<Desk<A>, A> {
         ensures err { IfErr result (λ why. ShowsNone self.now pass.old pass.new why) }
         ensures not_full { IfErr result (λ why. why ≢ SharedWant.DocketFull) }
     {
-        let mut landed = room_for(self.alloc, landings.len());
+        let mut spent = room_for(self.alloc, landings.len());
         let Some(turn) = self.begin_turn(rt, pass) else {
             hand_back(landings);
             return Err(SharedWant::TurnsSpent);
         };
-        let turn = land_in(self, turn, landings, &mut landed);
+        let turn = land_in(self, turn, landings, &mut spent);
         let view = turn.view(self);
         self.end_turn(pass, turn);
         view
@@ -80,11 +80,11 @@ impl<A: Allocator + Copy> Shared<Desk<A>, A> {
 
 /// A list for so many verdicts that have landed, which are to go once the turn has ended. It has no room
 /// where memory is refused.
-fn room_for<A: Allocator>(alloc: A, count: usize) -> Vec<Judged<A>, A> {
-    let mut landed = Vec::new(alloc);
+fn room_for<A: Allocator>(alloc: A, count: usize) -> Vec<Spent<A>, A> {
+    let mut spent = Vec::new(alloc);
     // Without room a verdict goes at once, which answers the same.
-    let _ = landed.reserve(count);
-    landed
+    let _ = spent.reserve(count);
+    spent
 }
 
 /// Lands the verdict in the turn, if there is one.
@@ -92,7 +92,7 @@ fn land_one<A: Allocator + Copy, L: Landing<Judged<A>, SharedBack<A>>>(
     shared: &Shared<Desk<A>, A>,
     turn: Turn<Desk<A>>,
     landing: &mut L,
-    landed: &mut Vec<Judged<A>, A>,
+    spent: &mut Vec<Spent<A>, A>,
 ) -> Turn<Desk<A>>
     requires { IsTurnOf shared.now turn }
     ensures turn { IsTurnOf shared.now result }
@@ -102,7 +102,7 @@ fn land_one<A: Allocator + Copy, L: Landing<Judged<A>, SharedBack<A>>>(
         return turn;
     };
     let (turn, reply) = turn.land(shared, &judged);
-    let answer = answer_of(judged, reply, landed);
+    let answer = answer_of(judged, reply, spent);
     landing.keep(answer);
     turn
 }
@@ -112,7 +112,7 @@ fn land_in<A: Allocator + Copy, L: Landing<Judged<A>, SharedBack<A>>>(
     shared: &Shared<Desk<A>, A>,
     turn: Turn<Desk<A>>,
     landings: &mut [L],
-    landed: &mut Vec<Judged<A>, A>,
+    spent: &mut Vec<Spent<A>, A>,
 ) -> Turn<Desk<A>>
     requires { IsTurnOf shared.now turn }
     ensures turn { IsTurnOf shared.now result }
@@ -122,12 +122,12 @@ fn land_in<A: Allocator + Copy, L: Landing<Judged<A>, SharedBack<A>>>(
         return turn;
     }
     if landings.len() == 1 {
-        return land_one(shared, turn, &mut landings[0], landed);
+        return land_one(shared, turn, &mut landings[0], spent);
     }
     let half = landings.len() / 2;
     let (earlier, later) = landings.split_at_mut(half);
-    let turn = land_in(shared, turn, earlier, landed);
-    land_in(shared, turn, later, landed)
+    let turn = land_in(shared, turn, earlier, spent);
+    land_in(shared, turn, later, spent)
 }
 
 /// Gives the submission of the verdict back, if there is one.
