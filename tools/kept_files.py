@@ -240,8 +240,8 @@ class FilesRun:
     def process(self, killer):
         """Runs a process that is killed, where there is a killer. Returns whether it has made all calls."""
         words = [self.program, "kept", self.folder, self.state]
-        began = time.monotonic()
         with subprocess.Popen(words, stdin=subprocess.PIPE, stdout=subprocess.PIPE) as process:
+            began = time.monotonic()
             timer = killer(self, process) if killer else threading.Timer(600, process.kill)
             timer.start()
             first = process.stdout.readline()

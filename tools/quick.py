@@ -9,7 +9,7 @@ import subprocess
 import sys
 import time
 
-from benchmarks import NAME, copy_with
+from benchmarks import NAME, build, copy_with
 
 # Takes the place of the kit's clang: keeps the module that is to be checked, and its own words, and ends.
 CLANG = """#!/usr/bin/env python3
@@ -70,4 +70,20 @@ def build_quick(program, uses, room, files=()):
     subprocess.run([f"{kit}/toolchain/bin/clang", *words, "-O2"], cwd=room, check=True)
     made = f"{room}/{NAME}"
     subprocess.run(["gcc", "-pie", f"{room}/module.o", f"{kit}/c/libos_c.a", f"{kit}/c/liblibc_c.a", "-o", made], check=True)
+    return made
+
+
+def add_words(words):
+    """Adds the words that say which program is run."""
+    words.add_argument("--quick", action="store_true")
+    words.add_argument("--program")
+
+
+def program_for(asked, room, program, uses, files):
+    """Returns the path of the program: the one that is given; or one that is built, proved or not, and put there."""
+    if asked.program and os.path.isfile(asked.program):
+        return os.path.realpath(asked.program)
+    made = (build_quick if asked.quick else build)(program, uses, f"{room}/made", files)
+    if asked.program:
+        shutil.copy(made, asked.program)
     return made
