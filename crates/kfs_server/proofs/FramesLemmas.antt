@@ -1,0 +1,3 @@
+pub mod Reads
+pub mod Heads
+pub mod OneCut

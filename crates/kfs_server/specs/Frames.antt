@@ -1,0 +1,2 @@
+pub mod Frame
+pub mod Begun

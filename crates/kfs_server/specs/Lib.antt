@@ -1,0 +1,4 @@
+pub mod Frames
+pub mod Replies
+pub mod Asking
+pub mod Examples

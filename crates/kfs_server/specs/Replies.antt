@@ -1,0 +1,2 @@
+pub mod Reply
+pub mod Views

@@ -1,0 +1,46 @@
+//! What a frame is replied.
+
+use kfs_call::AnswerRow;
+use thiserror::Error;
+
+/// Why a frame is refused. Nothing was done for it then.
+#[derive(Clone, Copy, Debug, PartialEq, Eq, Error)]
+pub enum Refusal {
+    /// 1: its body has more than 16,777,216 bytes.
+    #[error("TooLong")]
+    TooLong,
+    /// 2: the input ended within it.
+    #[error("CutShort")]
+    CutShort,
+    /// 3: its body is no call: so many fields were read, and no field that may follow them does. The tag is field 0.
+    #[error("BadField({0})")]
+    BadField(u32),
+    /// 4: its body is a call, and more bytes.
+    #[error("Trailing")]
+    Trailing,
+    /// 5: the call is another client's than the frame, or is the front's alone.
+    #[error("NotYours")]
+    NotYours,
+    /// 6: memory was refused.
+    #[error("memory")]
+    OutOfMemory,
+    /// 7: the docket has as many rows as its limit allows.
+    #[error("full")]
+    DocketFull,
+}
+
+/// What a frame is replied.
+#[derive(Clone, Copy, Debug, PartialEq, Eq)]
+pub enum Reply {
+    /// Its call was made, is kept, and has this answer.
+    Answered(AnswerRow),
+    /// Nothing was done.
+    Refused(Refusal),
+}
+
+/// The reply to the frame with this number.
+#[derive(Clone, Copy, Debug, PartialEq, Eq)]
+pub struct NumberedReply {
+    pub number: u32,
+    pub reply: Reply,
+}
