@@ -7,3 +7,4 @@ mod Stays
 mod OneState
 mod Unanswered
 mod Due
+mod UnderWay

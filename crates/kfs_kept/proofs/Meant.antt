@@ -88,10 +88,11 @@ empty_mean_none files empty = ap meaning empty ∙ nothing
 -- ---- calls that are made, and their group
 
 module _ (files : Files) (old last : Desk) (calls : List (List ℕ)) (answers : List (Result Called CallFault)) (group bytes : List ℕ) (stand : StandFor files old.state) (made : AreMade old calls answers group last) (is : bytes ≡ group) where
+  pub put_leads : GroupLeads old.state bytes last.state
+  put_leads = subst (λ (l : List ℕ). GroupLeads old.state l last.state) (sym is) (answered calls answers, made.kept)
+
   pub put_stand : (new : Files) → meaning new ≡ with_group (meaning files) bytes → StandFor new last.state
-  put_stand new means =
-      let leads : GroupLeads old.state bytes last.state = subst (λ (l : List ℕ). GroupLeads old.state l last.state) (sym is) (answered calls answers, made.kept) in
-      stand_for new (with_group (meaning files) bytes) last.state means (with_group_leads (meaning files) old.state last.state bytes stand leads)
+  put_stand new means = stand_for new (with_group (meaning files) bytes) last.state means (with_group_leads (meaning files) old.state last.state bytes stand put_leads)
 
   pub put_moment : (c : Files) → IsOneOf (meaning files) (with_group (meaning files) bytes) c → StandForBeforeOrAfter old calls c
   put_moment c (inl before) = inl (same_stand files c old.state before stand)

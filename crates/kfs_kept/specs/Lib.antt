@@ -1,5 +1,6 @@
 pub mod Calls
 pub mod Restored
 pub mod Standing
+pub mod Renewing
 pub mod Keeping
 pub mod Faults

@@ -1,5 +1,5 @@
 //! A desk, and the journal that keeps it.
-ghost use Rattle.std.specs.Prelude.{◌≡◌, ◌⊎◌, ◌≤◌, ◌+◌, ◌^◌, ◌↔◌, [], None, OnOk, OnErr, IfErr, IfOk, IfSome, IsErrOf, IsFalse, IsNone, IsTrue, length, map};
+ghost use Rattle.std.specs.Prelude.{◌≡◌, ◌⊎◌, ◌≤◌, ◌+◌, ◌^◌, ◌↔◌, [], None, OnOk, OnErr, IfErr, IfOk, IfSome, IsErrOf, IsFalse, IsNone, IsSome, IsSomeAnd, IsTrue, length, map};
 ghost use Rattle.std.specs.List.{sum_by};
 ghost use Rattle.kfs_model.specs.Judgement.{State};
 ghost use Rattle.kfs_desk.specs.Opening.{begin_fault};
@@ -10,11 +10,13 @@ ghost use Rattle.kfs_kept.specs.Calls.Making.{Runs, answered};
 ghost use Rattle.kfs_call_desk.specs.Restore.Saved.{HasTooMany};
 ghost use Rattle.kfs_kept.specs.Faults.{IsOutside, IsWhy};
 ghost use Rattle.kfs_kept.specs.Keeping.{IsKept};
+ghost use Rattle.kfs_kept.specs.Renewing.{Finishes, GoesOn, IsBegun, StaysOrEnds};
 ghost use Rattle.kfs_kept.specs.Standing.{HasLongBytes, MeanTheSame, StandFor, StandForAtMost, StandForBeforeOrAfter};
 
 use crate::calls::{Made, room_for};
 use crate::fault::{CallsFault, OpenFault, SaveFault};
 use crate::opening::find;
+use crate::renewal::{Renewal, with_group};
 use crate::saving::{begin_journal, state_of};
 use kfs_call_desk::{CallFault, Called};
 use kfs_desk::Desk;
@@ -22,7 +24,7 @@ use kfs_journal::{Disk, Journal, JournalFault};
 use std::alloc::Allocator;
 use std::thread::Threads;
 
-/// A desk, the journal that keeps it, and the disk that both files of the journal are on.
+/// A desk, the journal that keeps it, and the disk that both files of the journal are on. A checkpoint may be under way.
 ///
 /// Once the disk has failed, or memory was refused behind a call that was made, the desk is closed: each call is
 /// refused with `Closed`. Drop it then, and open the files again.
@@ -32,6 +34,7 @@ pub struct Kept<A: Allocator, D: Disk + Drop> {
     journal: Journal,
     disk: D,
     is_open: bool,
+    renewal: Option<Renewal<A>>,
 }
 
 /// Why no journal is created. Desk and disk come back.
@@ -85,6 +88,7 @@ impl<A: Allocator + Copy, D: Disk + Drop> Kept<A, D> {
                 journal,
                 disk,
                 is_open: true,
+                renewal: None,
             }),
             Err(why) => Err(CreateBack { desk, disk, why }),
         }
@@ -128,6 +132,7 @@ impl<A: Allocator + Copy, D: Disk + Drop> Kept<A, D> {
                 journal: found.journal,
                 disk,
                 is_open: true,
+                renewal: None,
             }),
             Err(why) => Err(OpenBack { disk, why }),
         }
@@ -139,7 +144,11 @@ impl<A: Allocator + Copy, D: Disk + Drop> Kept<A, D> {
     /// bytes are no call, the docket is full, or memory is refused for it alone) is as if it hadn't been handed in. Where
     /// none is answered, nothing is written and nothing synced.
     ///
-    /// Call `checkpoint_if_due` behind it, once the answers are handed out. Whatever that answers, they stay kept.
+    /// Where a checkpoint is under way, the group is one more that it has to write. Where memory is refused for that, the
+    /// checkpoint is given up, and the calls are answered all the same.
+    ///
+    /// Call `checkpoint_if_due` behind it, once the answers are handed out, or `begin_checkpoint` and `step_checkpoint`.
+    /// Whatever they answer, the calls stay kept.
     pub fn call_all<B: Allocator + Copy>(
         &mut self,
         alloc: B,
@@ -155,6 +164,9 @@ impl<A: Allocator + Copy, D: Disk + Drop> Kept<A, D> {
 
         // Where no call is answered, all is as it was, the disk too.
         ensures idle { IfOk result (λ answers. answered (map (λ c. c.now) calls.now) answers.items ≡ [] → self.new ≡ self.old) }
+
+        // A checkpoint under way goes on, or is given up.
+        ensures checkpoint { OnOk result (StaysOrEnds self.old.renewal self.new.renewal) }
 
         // At any moment: the state before all the calls or after all of them, none skipped and none in part.
         ensures any_moment { IsTrue self.old.is_open → LeavesOnly D.moment D.left_since self.old.disk self.new.disk
@@ -184,8 +196,10 @@ impl<A: Allocator + Copy, D: Disk + Drop> Kept<A, D> {
             self.is_open = true;
             return Ok(made.answers);
         }
-        match self.journal.put(alloc, &mut self.disk, &made.group) {
+        let group = made.group.as_slice();
+        match self.journal.put(alloc, &mut self.disk, group) {
             Ok(()) => {
+                self.renewal = with_group(self.renewal.take(), group);
                 self.is_open = true;
                 Ok(made.answers)
             }
@@ -197,13 +211,15 @@ impl<A: Allocator + Copy, D: Disk + Drop> Kept<A, D> {
     /// Begins the journal anew in the other file, with the desk's state and no group. Files grow with each group,
     /// and so does the time to open them: this cuts both.
     ///
-    /// The desk's state is written out in memory first. `Err` leaves all as it was, unless the disk has failed.
+    /// The desk's state is written out in memory first. `Err` leaves all as it was, unless the disk has failed. No call is
+    /// answered meanwhile: `begin_checkpoint` makes one in steps. One that is under way is given up.
     pub fn checkpoint<B: Allocator + Copy>(&mut self, alloc: B) -> Result<(), SaveFault>
         requires kept { IsKept D.seen D.may_leave self.old }
         ensures kept { IsKept D.seen D.may_leave self.new }
         ensures desk { self.new.desk ≡ self.old.desk }
         ensures open { OnOk result (IsTrue self.new.is_open) }
         ensures short { OnOk result (IfSome (meaning (D.seen self.new.disk)) (λ kept. kept.1 ≡ [])) }
+        ensures over { OnOk result (IsNone self.new.renewal) }
 
         // A crash at any moment leaves the desk's state.
         ensures any_moment { IsTrue self.old.is_open → LeavesOnly D.moment D.left_since self.old.disk self.new.disk (λ c. StandFor c self.old.desk.state) }
@@ -219,7 +235,11 @@ impl<A: Allocator + Copy, D: Disk + Drop> Kept<A, D> {
         }
         let state = state_of(alloc, &self.desk)?;
         match self.journal.change(alloc, &mut self.disk, &state) {
-            Ok(()) => Ok(()),
+            Ok(()) => {
+                // Its file is the one that counts now.
+                self.renewal = None;
+                Ok(())
+            }
             Err(JournalFault::OutOfMemory) => Err(SaveFault::OutOfMemory),
             Err(JournalFault::Full) => Err(SaveFault::Full),
             Err(JournalFault::Failed) => {
@@ -227,6 +247,105 @@ impl<A: Allocator + Copy, D: Disk + Drop> Kept<A, D> {
                 Err(SaveFault::Failed)
             }
         }
+    }
+
+    /// Begins a checkpoint that is made in steps, between which calls go on. `step_checkpoint` goes on with it.
+    ///
+    /// The desk's state is written out in memory, in the desk's own, and the other file is begun anew, by three syncs. So
+    /// this call takes as long as `encode_desk`. One that is under way is given up. `Err` leaves all as it was, unless
+    /// the disk has failed.
+    pub fn begin_checkpoint(&mut self, alloc: A) -> Result<(), SaveFault>
+        requires kept { IsKept D.seen D.may_leave self.old }
+        ensures kept { IsKept D.seen D.may_leave self.new }
+        ensures desk { self.new.desk ≡ self.old.desk }
+        ensures open { OnOk result (IsTrue self.new.is_open) }
+        ensures begun { OnOk result (IsSomeAnd self.new.renewal (IsBegun self.old.desk.state)) }
+
+        // The files stand for the state and the groups that they stood for.
+        ensures means { OnOk result (MeanTheSame (D.seen self.old.disk) (D.seen self.new.disk)) }
+
+        // A crash at any moment leaves the desk's state.
+        ensures any_moment { IsTrue self.old.is_open → LeavesOnly D.moment D.left_since self.old.disk self.new.disk (λ c. StandFor c self.old.desk.state) }
+
+        ensures closed { IsErrOf result SaveFault.Closed ↔ IsFalse self.old.is_open }
+        ensures many { IsErrOf result SaveFault.TooMany → HasTooMany self.old.desk.state }
+        ensures full { IsErrOf result SaveFault.Full → HasLongBytes self.old.desk.state ⊎ (2 ^ 64 ≤ self.old.journal.number + 1) }
+        ensures failed { IsErrOf result SaveFault.Failed → IsFalse self.new.is_open × IsTrue (D.has_failed self.new.disk) }
+        ensures same { IfErr result (λ why. (why ≡ SaveFault.Failed) ⊎ (self.new ≡ self.old)) }
+    {
+        if !self.is_open {
+            return Err(SaveFault::Closed);
+        }
+        let state = state_of(alloc, &self.desk)?;
+        match Renewal::begin(alloc, state, &self.journal, &mut self.disk) {
+            Ok(renewal) => {
+                self.renewal = Some(renewal);
+                Ok(())
+            }
+            Err(JournalFault::OutOfMemory) => Err(SaveFault::OutOfMemory),
+            Err(JournalFault::Full) => Err(SaveFault::Full),
+            Err(JournalFault::Failed) => {
+                self.is_open = false;
+                Err(SaveFault::Failed)
+            }
+        }
+    }
+
+    /// Writes the next bytes of a checkpoint under way. True where it is finished: the journal goes on in the other file
+    /// then, behind the records of the groups since it was begun. True, too, where none is under way.
+    ///
+    /// It writes at most `most` bytes, and of those records the ones beside that have come since the last step. So it ends
+    /// whatever comes meanwhile. It makes one sync, and the last step three: that is what a call waits for.
+    ///
+    /// `Full` where the other file has 2^60 bytes: nothing has changed.
+    pub fn step_checkpoint(&mut self, most: usize) -> Result<bool, SaveFault>
+        requires kept { IsKept D.seen D.may_leave self.old }
+        ensures kept { IsKept D.seen D.may_leave self.new }
+        ensures desk { self.new.desk ≡ self.old.desk }
+        ensures open { OnOk result (IsTrue self.new.is_open) }
+
+        // How far it comes, and that it is finished exactly where nothing is left to write.
+        ensures goes_on { IfOk result (λ finished. IsFalse finished → GoesOn most self.old.renewal self.new.renewal) }
+        ensures finishes { IfOk result (λ finished. IsTrue finished → Finishes most self.old.renewal (D.seen self.new.disk)) }
+        ensures over { IfOk result (λ finished. IsTrue finished → IsNone self.new.renewal) }
+        ensures idle { IsNone self.old.renewal → OnOk result (self.new ≡ self.old) }
+
+        // A crash at any moment leaves the desk's state.
+        ensures any_moment { IsTrue self.old.is_open → LeavesOnly D.moment D.left_since self.old.disk self.new.disk (λ c. StandFor c self.old.desk.state) }
+
+        ensures closed { IsErrOf result SaveFault.Closed ↔ IsFalse self.old.is_open }
+        ensures many { IsErrOf result SaveFault.TooMany → ⊥ }
+        ensures full { IsErrOf result SaveFault.Full → IsSomeAnd self.old.renewal (λ r. 2 ^ 60 ≤ r.draft.end) }
+        ensures memory { IsErrOf result SaveFault.OutOfMemory → ⊥ }
+        ensures failed { IsErrOf result SaveFault.Failed → IsFalse self.new.is_open × IsTrue (D.has_failed self.new.disk) }
+        ensures same { IfErr result (λ why. (why ≡ SaveFault.Failed) ⊎ (self.new ≡ self.old)) }
+    {
+        if !self.is_open {
+            return Err(SaveFault::Closed);
+        }
+        let Some(renewal) = &mut self.renewal else {
+            return Ok(true);
+        };
+        match renewal.step(&mut self.journal, &mut self.disk, most) {
+            Ok(true) => {
+                self.renewal = None;
+                Ok(true)
+            }
+            Ok(false) => Ok(false),
+            Err(JournalFault::OutOfMemory) => Err(SaveFault::OutOfMemory),
+            Err(JournalFault::Full) => Err(SaveFault::Full),
+            Err(JournalFault::Failed) => {
+                self.is_open = false;
+                Err(SaveFault::Failed)
+            }
+        }
+    }
+
+    /// Whether a checkpoint is under way: `step_checkpoint` goes on with it. A closed desk has none.
+    pub fn is_checkpoint_under_way(&self) -> bool
+        ensures { IsTrue result ↔ (IsTrue self.now.is_open × IsSome self.now.renewal) }
+    {
+        self.is_open && self.renewal.is_some()
     }
 
     /// Whether a checkpoint is due: the records of the groups have 2^20 bytes or more, and four times as many as the

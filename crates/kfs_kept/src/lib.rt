@@ -9,6 +9,7 @@ mod calls;
 mod fault;
 mod kept;
 mod opening;
+mod renewal;
 mod restored;
 mod saving;
 

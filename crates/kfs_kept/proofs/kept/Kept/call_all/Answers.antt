@@ -1,9 +1,12 @@
 use Rattle.std.proofs.Common.{◌≡◌, length, ap, sym, subst, rules, IsTrue}
+use Rattle.std.specs.Prelude.{IfSome}
 use Rattle.std.proofs.lemmas.List.{nil_from_length}
 use Rattle.kfs_model.specs.Judgement.{State}
 use Rattle.kfs_journal.proofs.Moments.{weaker}
 use Rattle.kfs_kept.specs.Standing.{StandFor}
-use Rattle.kfs_kept.proofs.Meant.{left_stand, put_moment, put_stand}
+use Rattle.kfs_kept.specs.Renewing.{IsUnderWay, StaysOrEnds}
+use Rattle.kfs_kept.proofs.Meant.{left_stand, put_leads, put_moment, put_stand}
+use Rattle.kfs_kept.proofs.UnderWay.{moved, stays}
 use Rattle.kfs_kept.proofs.Unanswered.{desk_stays, group_is_empty, state_stays}
 use Rattle.kfs_kept.proofs.kept.Kept.call_all.Goals as goal
 
@@ -11,23 +14,35 @@ pub returns-in-Ok-put-clause-kept : goal.returns-in-Ok-put-clause-kept
 returns-in-Ok-put-clause-kept g c =
     let is_open : IsTrue c.args.self.now.is_open = search rules in
     let was = c.requires.kept is_open in
-    λ _. record { settled = c.in-Ok-put.ensures.settled; stand = put_stand _ _ _ _ _ _ _ was.stand c.in-Ok.ensures c.deref.ensures.value _ c.in-Ok-put.ensures.acknowledged }
+    let leads = put_leads _ _ _ _ _ _ _ was.stand c.in-Ok.ensures c.as_slice-group.ensures.value in
+    let still = moved _ _ _ c.put.new.self _ _ c.take.result c.take.ensures.value c.in-Ok-put.ensures.draft was.renewal in
+    λ _. record {
+      settled = c.in-Ok-put.ensures.settled;
+      stand = put_stand _ _ _ _ _ _ _ was.stand c.in-Ok.ensures c.as_slice-group.ensures.value _ c.in-Ok-put.ensures.acknowledged;
+      renewal = c.with_group.ensures.under_way _ _ _ _ still leads;
+    }
+
+pub returns-in-Ok-put-clause-checkpoint : goal.returns-in-Ok-put-clause-checkpoint
+returns-in-Ok-put-clause-checkpoint g c = subst (λ o. StaysOrEnds o c.with_group.result) c.take.ensures.value c.with_group.ensures.stays
+
+pub returns-then-is_empty-clause-checkpoint : goal.returns-then-is_empty-clause-checkpoint
+returns-then-is_empty-clause-checkpoint g c = stays c.args.self.now.renewal
 
 pub returns-in-Ok-put-clause-acknowledged : goal.returns-in-Ok-put-clause-acknowledged
 returns-in-Ok-put-clause-acknowledged g c =
     let is_open : IsTrue c.args.self.now.is_open = search rules in
     let was = c.requires.kept is_open in
-    λ f left. left_stand _ _ _ c.in-Ok-put.ensures.settled.durable (put_stand _ _ _ _ _ _ _ was.stand c.in-Ok.ensures c.deref.ensures.value _ c.in-Ok-put.ensures.acknowledged) f left
+    λ f left. left_stand _ _ _ c.in-Ok-put.ensures.settled.durable (put_stand _ _ _ _ _ _ _ was.stand c.in-Ok.ensures c.as_slice-group.ensures.value _ c.in-Ok-put.ensures.acknowledged) f left
 
 pub returns-in-Ok-put-clause-any_moment : goal.returns-in-Ok-put-clause-any_moment
 returns-in-Ok-put-clause-any_moment g c = λ is_open.
     let was = c.requires.kept is_open in
-    weaker g.D.Disk.moment g.D.Disk.left_since c.args.self.now.disk c.put.new.disk _ _ (λ f one. put_moment _ _ _ _ _ _ _ was.stand c.in-Ok.ensures c.deref.ensures.value f one) c.put.ensures.any_moment
+    weaker g.D.Disk.moment g.D.Disk.left_since c.args.self.now.disk c.put.new.disk _ _ (λ f one. put_moment _ _ _ _ _ _ _ was.stand c.in-Ok.ensures c.as_slice-group.ensures.value f one) c.put.ensures.any_moment
 
 pub returns-in-Err-Failed-clause-any_moment : goal.returns-in-Err-Failed-clause-any_moment
 returns-in-Err-Failed-clause-any_moment g c = λ is_open.
     let was = c.requires.kept is_open in
-    weaker g.D.Disk.moment g.D.Disk.left_since c.args.self.now.disk c.put.new.disk _ _ (λ f one. put_moment _ _ _ _ _ _ _ was.stand c.in-Ok.ensures c.deref.ensures.value f one) c.put.ensures.any_moment
+    weaker g.D.Disk.moment g.D.Disk.left_since c.args.self.now.disk c.put.new.disk _ _ (λ f one. put_moment _ _ _ _ _ _ _ was.stand c.in-Ok.ensures c.as_slice-group.ensures.value f one) c.put.ensures.any_moment
 
 pub returns-then-is_empty-clause-kept : goal.returns-then-is_empty-clause-kept
 returns-then-is_empty-clause-kept g c =
@@ -35,7 +50,12 @@ returns-then-is_empty-clause-kept g c =
     let was = c.requires.kept is_open in
     let zero : length c.make_all.new.self.group.items ≡ 0 = search rules in
     let same = state_stays _ _ _ _ _ c.in-Ok.ensures (nil_from_length c.make_all.new.self.group.items zero) in
-    λ _. record { settled = was.settled; stand = subst (λ (s : State). StandFor (g.D.Disk.seen c.args.self.now.disk) s) (sym same) was.stand }
+    let files = g.D.Disk.seen c.args.self.now.disk in
+    λ _. record {
+      settled = was.settled;
+      stand = subst (λ (s : State). StandFor files s) (sym same) was.stand;
+      renewal = subst (λ (s : State). IfSome c.args.self.now.renewal (λ r. IsUnderWay files c.args.self.now.journal r s)) (sym same) was.renewal;
+    }
 
 pub returns-then-is_empty-clause-acknowledged : goal.returns-then-is_empty-clause-acknowledged
 returns-then-is_empty-clause-acknowledged g c =
@@ -49,7 +69,7 @@ pub returns-then-is_empty-clause-idle : goal.returns-then-is_empty-clause-idle
 returns-then-is_empty-clause-idle g c = λ none.
     let is_open : IsTrue c.args.self.now.is_open = search rules in
     let same : c.make_all.new.desk ≡ c.args.self.now.desk = desk_stays _ _ _ _ _ c.in-Ok.ensures none in
-    λ i. record { desk = same i; journal = c.args.self.now.journal; disk = c.args.self.now.disk; is_open = sym is_open i }
+    λ i. record { desk = same i; journal = c.args.self.now.journal; disk = c.args.self.now.disk; is_open = sym is_open i; renewal = c.args.self.now.renewal }
 
 pub returns-in-Ok-put-clause-idle : goal.returns-in-Ok-put-clause-idle
 returns-in-Ok-put-clause-idle g c = λ none.

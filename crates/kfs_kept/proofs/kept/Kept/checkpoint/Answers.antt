@@ -11,7 +11,7 @@ state_of-requires g c =
 
 pub returns-in-Ok-clause-kept : goal.returns-in-Ok-clause-kept
 returns-in-Ok-clause-kept g c = λ is_open.
-    record { settled = c.in-Ok.ensures.settled; stand = state_stand _ _ _ c.in_ok-state.ensures.state c.deref.ensures.value _ c.in-Ok.ensures.changed }
+    record { settled = c.in-Ok.ensures.settled; stand = state_stand _ _ _ c.in_ok-state.ensures.state c.deref.ensures.value _ c.in-Ok.ensures.changed; renewal = tt }
 
 pub returns-in-Ok-clause-any_moment : goal.returns-in-Ok-clause-any_moment
 returns-in-Ok-clause-any_moment g c = λ is_open.

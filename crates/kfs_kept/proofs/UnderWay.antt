@@ -1,0 +1,181 @@
+-- What a checkpoint under way goes on to be: with the record of a group, with the bytes of a step, and once all is written.
+use Rattle.std.proofs.Common.{◌≡◌, inl, inr, ℕ, ◌+◌, ◌-◌, ◌<◌, ◌≤◌, ◌^◌, min, ltb, Vec, List, [], ◌∷◌, ◌++◌, length, take, drop, Option, Some, None, Ok, refl, sym, ap, subst, ◌∙◌, append_assoc, arith, length-append, length-take, length-drop}
+use Rattle.std.specs.Prelude.{IfSome}
+use Rattle.std.specs.List.{AllByRecursion}
+use Rattle.std.proofs.Math.Seq.{take-add}
+use Rattle.std.proofs.lemmas.Bool.{cond-true, cond-false, le-ltb, lt-ltb}
+use Rattle.std.proofs.lemmas.List.{append-nil, drop-drop, drop_at, flat_map_more, take-append-le, take_all, take_min}
+use Rattle.kfs_model.specs.Judgement.{State}
+use Rattle.kfs_journal.specs.declared.journal.Journal.{Journal}
+use Rattle.kfs_journal.specs.declared.journal.draft.Draft.{Draft}
+use Rattle.kfs_journal.specs.Disk.{Files}
+use Rattle.kfs_journal.specs.Draft.{HasDraft, IsWhole}
+use Rattle.kfs_journal.specs.Format.{meaning, record_bytes, records_bytes}
+use Rattle.kfs_journal.specs.Journal.{IsOneOf}
+use Rattle.kfs_call_desk.specs.Restore.Restored.{RestoreAnswer}
+use Rattle.kfs_kept.specs.Calls.Leads.{GroupLeads, GroupsLead}
+use Rattle.kfs_kept.specs.Renewing.{IsUnderWay, KeepsAll, StaysOrEnds, reached, whole_of}
+use Rattle.kfs_kept.specs.Standing.{StandFor}
+use Rattle.kfs_kept.specs.declared.renewal.Renewal.{Renewal}
+use Rattle.kfs_kept.proofs.Meant.{groups_more, same_stand, stand_for}
+
+-- ---- the bytes of a step
+
+-- what stands from a place on goes on with what stands before it
+part_more : (n m : ℕ) (xs part : List ℕ) → part ≡ take m (drop n xs) → take (n + length part) xs ≡ take n xs ++ part
+part_more n m xs part is =
+    let len : length part ≡ min m (length (drop n xs)) = ap length is ∙ length-take m (drop n xs) in
+    take-add n (length part) xs ∙ ap (λ (l : List ℕ). take n xs ++ l) (ap (λ (k : ℕ). take k (drop n xs)) len ∙ take_min m (drop n xs) ∙ sym is)
+
+module _ (state records : List ℕ) (done : ℕ) (part : List ℕ) where
+  module _ (most of_records : ℕ) (before : done < length state) (is : part ≡ take most (drop done state)) where
+    state_len : length part ≡ min most (length state - done)
+    state_len = ap length is ∙ length-take most (drop done state) ∙ ap (λ (k : ℕ). min most k) (length-drop done state)
+
+    pub state_parts : take (done + length part) (state ++ records) ≡ take done (state ++ records) ++ part
+    state_parts =
+        let within : done + length part ≤ length state = omega (arith, state_len, before) in
+        let le : done ≤ length state = omega (arith, before) in
+        take-append-le (done + length part) state records within ∙ part_more done most state part is ∙ ap (λ (l : List ℕ). l ++ part) (sym (take-append-le done state records le))
+
+    pub state_within : done + length part ≤ length state + length records
+    state_within = omega (arith, state_len, before)
+
+    pub state_reached : done + length part ≡ reached most of_records done (length state) (length records)
+    state_reached =
+        let so_far : done + length part ≡ min (done + most) (length state) = omega (arith, state_len, before) in
+        so_far ∙ sym (cond-true (ltb done (length state)) _ _ (lt-ltb _ _ before))
+
+  module _ (of_state most come room : ℕ) (behind : length state ≤ done) (within : done ≤ length state + length records) (is : part ≡ take room (drop (done - length state) records)) where
+    records_len : length part ≡ min room (length records - (done - length state))
+    records_len = ap length is ∙ length-take room (drop (done - length state) records) ∙ ap (λ (k : ℕ). min room k) (length-drop (done - length state) records)
+
+    pub records_parts : take (done + length part) (state ++ records) ≡ take done (state ++ records) ++ part
+    records_parts =
+        let at : done ≡ length state + (done - length state) = omega (arith, behind) in
+        let rest : drop done (state ++ records) ≡ drop (done - length state) records =
+        ap (λ (n : ℕ). drop n (state ++ records)) at ∙ sym (drop-drop (done - length state) (length state) (state ++ records)) ∙ ap (λ (l : List ℕ). drop (done - length state) l) (drop_at state records (length state) refl) in
+        part_more done room (state ++ records) part (is ∙ ap (λ (l : List ℕ). take room l) (sym rest))
+
+    pub records_within : done + length part ≤ length state + length records
+    records_within = omega (arith, records_len, behind, within)
+
+    pub records_reached : room ≡ min (most + come) (2 ^ 64 - 1) → length records < 2 ^ 64 → done + length part ≡ reached of_state (most + come) done (length state) (length records)
+    records_reached room_is fits =
+        let so_far : done + length part ≡ min (done + (most + come)) (length state + length records) = omega (arith, records_len, behind, within, room_is, fits) in
+        so_far ∙ sym (cond-false (ltb done (length state)) _ _ (le-ltb _ _ behind))
+
+-- ---- a group more
+
+records_more : (groups : List (List ℕ)) (group : List ℕ) → records_bytes (groups ++ group ∷ []) ≡ records_bytes groups ++ record_bytes group
+records_more groups group = sym (flat_map_more record_bytes [] groups group)
+
+fit_more : (groups : List (List ℕ)) (group : List ℕ) → AllByRecursion (λ g. length g < 2 ^ 32) groups → length group < 2 ^ 32 → AllByRecursion (λ g. length g < 2 ^ 32) (groups ++ group ∷ [])
+fit_more [] group fit fits = (fits, tt)
+fit_more (first ∷ groups) group fit fits = (fit.0, fit_more groups group fit.1 fits)
+
+module _ {A : Type 0} (files : Files) (journal : Journal) where
+  pub begun : (draft : Draft) (state records : Vec ℕ A) (s : State) → RestoreAnswer state.items (Ok s) → records.items ≡ [] → HasDraft files journal draft [] → draft.state_len ≡ length state.items
+      → IsUnderWay files journal (record { draft = draft; state = state; records = records; done = 0; known = 0 }) s
+  begun draft state records s restored none written len = record {
+    first = s;
+    restored = restored;
+    groups = [];
+    records = none;
+    fit = tt;
+    lead = refl;
+    written = written;
+    within = omega arith;
+    state_len = len;
+  }
+
+  pub one_more : (r : Renewal A) (records : Vec ℕ A) (s t : State) (group : List ℕ) → IsUnderWay files journal r s → GroupLeads s group t → length group < 2 ^ 32 → records.items ≡ r.records.items ++ record_bytes group
+      → IsUnderWay files journal (record { draft = r.draft; state = r.state; records = records; done = r.done; known = r.known }) t
+  one_more r records s t group u leads fits is =
+      let more : r.state.items ++ records.items ≡ whole_of r ++ record_bytes group = ap (λ (l : List ℕ). r.state.items ++ l) is ∙ sym (append_assoc r.state.items r.records.items (record_bytes group)) in
+      let front : take r.done (r.state.items ++ records.items) ≡ take r.done (whole_of r) = ap (λ (l : List ℕ). take r.done l) more ∙ take-append-le r.done (whole_of r) (record_bytes group) u.within in
+      record {
+        first = u.first;
+        restored = u.restored;
+        groups = u.groups ++ group ∷ [];
+        records = is ∙ ap (λ (l : List ℕ). l ++ record_bytes group) u.records ∙ sym (records_more u.groups group);
+        fit = fit_more u.groups group u.fit fits;
+        lead = groups_more u.first s t u.groups group u.lead leads;
+        written = subst (λ (bytes : List ℕ). HasDraft files journal r.draft bytes) (sym front) u.written;
+        within = omega (arith, u.within, ap length more, length-append (whole_of r) (record_bytes group));
+        state_len = u.state_len;
+      }
+
+  -- ---- a step
+
+  pub step_more : (r : Renewal A) (draft : Draft) (known : ℕ) (s : State) (state records part : List ℕ) (new : Files) → state ≡ r.state.items → records ≡ r.records.items → IsUnderWay files journal r s
+      → take (r.done + length part) (state ++ records) ≡ take r.done (state ++ records) ++ part → r.done + length part ≤ length state + length records
+      → ((body : List ℕ) → HasDraft files journal r.draft body → HasDraft new journal draft (body ++ part)) → draft.state_len ≡ r.draft.state_len
+      → IsUnderWay new journal (record { draft = draft; state = r.state; records = r.records; done = r.done + length part; known = known }) s
+  step_more r draft known s state records part new state_is records_is u parts within longer len =
+      let whole : state ++ records ≡ whole_of r = λ i. state_is i ++ records_is i in
+      let next : take r.done (whole_of r) ++ part ≡ take (r.done + length part) (whole_of r) =
+      subst (λ (l : List ℕ). take r.done l ++ part ≡ take (r.done + length part) l) whole (sym parts) in
+      record {
+        first = u.first;
+        restored = u.restored;
+        groups = u.groups;
+        records = u.records;
+        fit = u.fit;
+        lead = u.lead;
+        written = subst (λ (bytes : List ℕ). HasDraft new journal draft bytes) next (longer (take r.done (whole_of r)) u.written);
+        within = omega (arith, within, ap length whole, length-append state records);
+        state_len = len ∙ u.state_len;
+      }
+
+  -- ---- all is written
+
+  pub is_whole : (r : Renewal A) (s : State) (u : IsUnderWay files journal r s) → r.done ≡ length (whole_of r) → IsWhole files journal r.draft r.state.items u.groups
+  is_whole r s u all = record {
+    stands = subst (λ (bytes : List ℕ). HasDraft files journal r.draft bytes) (take_all r.done (whole_of r) (omega (arith, all)) ∙ ap (λ (l : List ℕ). r.state.items ++ l) u.records) u.written;
+    state_len = u.state_len;
+    state_fits = omega (arith, r.state.ok, r.state.small);
+    groups_fit = u.fit;
+  }
+
+  -- the file that counts then stands for the same
+  pub finish_stand : (r : Renewal A) (s : State) (u : IsUnderWay files journal r s) (c : Files) → meaning c ≡ Some (r.state.items, u.groups) → StandFor c s
+  finish_stand r s u c means = stand_for c (Some (r.state.items, u.groups)) s means (u.first, u.restored, u.lead)
+
+  pub finish_moment : (r : Renewal A) (s : State) (u : IsUnderWay files journal r s) → StandFor files s → (c : Files) → IsOneOf (meaning files) (Some (r.state.items, u.groups)) c → StandFor c s
+  finish_moment r s u stand c (inl same) = same_stand files c s same stand
+  finish_moment r s u stand c (inr means) = finish_stand r s u c means
+
+  pub keeps_all : (old r : Renewal A) (s : State) (u : IsUnderWay files journal r s) (found : Option (List ℕ × List (List ℕ))) → r.state ≡ old.state → r.records ≡ old.records → found ≡ Some (r.state.items, u.groups) → KeepsAll old found
+  keeps_all old r s u found state records means =
+      let kept : KeepsAll old (Some (r.state.items, u.groups)) = (ap (λ (v : Vec ℕ A). v.items) state, sym u.records ∙ ap (λ (v : Vec ℕ A). v.items) records) in
+      subst (λ (m : Option (List ℕ × List (List ℕ))). KeepsAll old m) (sym means) kept
+
+-- ---- a checkpoint that may be under way
+
+pub at_some : {R : Type 0} (P : R → Type 0) (found : Option R) (r : R) → found ≡ Some r → IfSome found P → P r
+at_some P found r is holds = subst (λ o. IfSome o P) is holds
+
+pub stays : {A : Type 0} (found : Option (Renewal A)) → StaysOrEnds found found
+stays None = tt
+stays (Some r) = (refl, refl, refl)
+
+-- it is where its draft is
+pub moved : {A : Type 0} (files new : Files) (journal new_journal : Journal) (s : State) (found other : Option (Renewal A)) → other ≡ found
+    → ((draft : Draft) (bytes : List ℕ) → HasDraft files journal draft bytes → HasDraft new new_journal draft bytes)
+    → IfSome found (λ r. IsUnderWay files journal r s) → IfSome other (λ r. IsUnderWay new new_journal r s)
+moved {A} files new journal new_journal s found other is keeps holds = subst (λ (o : Option (Renewal A)). IfSome o (λ r. IsUnderWay new new_journal r s)) (sym is) (by_case found holds)
+  where
+    by_case : (o : Option (Renewal A)) → IfSome o (λ r. IsUnderWay files journal r s) → IfSome o (λ r. IsUnderWay new new_journal r s)
+    by_case None holds = tt
+    by_case (Some r) u = record {
+      first = u.first;
+      restored = u.restored;
+      groups = u.groups;
+      records = u.records;
+      fit = u.fit;
+      lead = u.lead;
+      written = keeps r.draft (take r.done (whole_of r)) u.written;
+      within = u.within;
+      state_len = u.state_len;
+    }
