@@ -1,61 +1,19 @@
 //! A crash at each moment of the run, torn in five ways, and the desk that is opened then.
-ghost use Rattle.kfs_journal.specs.Disk.{Only};
-ghost use Rattle.kfs_journal.specs.Memory.{memory_may_leave, memory_seen};
-
-use crate::run::{LIMIT, STEPS, run, saved, states};
-use kfs_journal::{MemoryDisk, Tear};
-use kfs_kept::{Kept, OpenFault};
+use crate::files::{Outcome, found_after, is_found};
+use crate::run::{STEPS, run, states};
+use kfs_journal::Tear;
 use std::alloc::AllocGlobal;
 use std::process::Abort;
 use std::thread::Threads;
 
 const TEARS: [Tear; 5] = [Tear::Lost, Tear::Whole, Tear::Half, Tear::Ones, Tear::Zeros];
 
-/// What files are opened as: the state as bytes, none where nothing is kept, and the disk after the opening.
-#[derive(Drop)]
-struct Outcome {
-    state: Vec<u8>,
-    disk: MemoryDisk,
-}
-
-/// What the files are opened as. None where they aren't opened for another reason than that nothing is kept.
-fn found(rt: &(impl Threads + AllocGlobal + Sync), disk: MemoryDisk) -> Option<Outcome>
-    requires { Only (memory_seen disk) (memory_may_leave disk) }
-{
-    let (first, second) = disk.contents().ok()?;
-    match Kept::open(rt, rt.alloc(), disk, &first, &second, LIMIT) {
-        Ok(kept) => Some(Outcome {
-            state: saved(rt.alloc(), kept.desk()?)?,
-            disk: kept.into_disk(),
-        }),
-        Err(back) => match back.why {
-            OpenFault::Empty | OpenFault::NotAJournal => Some(Outcome {
-                state: Vec::new(rt.alloc()),
-                disk: back.disk,
-            }),
-            _ => None,
-        },
-    }
-}
-
-/// What is found after a crash of the disk.
-fn found_after(
-    rt: &(impl Threads + AllocGlobal + Sync),
-    disk: &MemoryDisk,
-    moment: usize,
-    tear: Tear,
-) -> Option<Outcome> {
-    let crashed = disk.crashed(moment, tear).ok()?;
-    found(rt, crashed)
-}
-
 /// Whether a crash at each moment of the opening leaves what it has found.
 fn is_found_again(rt: &(impl Threads + AllocGlobal + Sync), found: &Outcome) -> bool {
     for moment in 0..=found.disk.moment() {
         for tear in [Tear::Lost, Tear::Half] {
-            match found_after(rt, &found.disk, moment, tear) {
-                Some(again) if again.state == found.state => (),
-                _ => return false,
+            if !is_found(rt, &found.disk, moment, tear, &found.state) {
+                return false;
             }
         }
     }

@@ -2,10 +2,10 @@
 ghost use Rattle.kfs_journal.specs.Memory.{memory_may_leave, memory_seen};
 ghost use Rattle.kfs_kept.specs.Keeping.{IsKept};
 
-use crate::memory::kept_in;
+use crate::keeping::{call_all, kept_in, moment};
 use crate::run::{BAD, submit};
 use kfs_journal::MemoryDisk;
-use kfs_kept::Kept;
+use kfs_kept::{Kept, SaveFault};
 use kfs_test_support::vectors::CREATE_PLAN;
 use std::alloc::Global;
 use std::process::Abort;
@@ -19,9 +19,19 @@ fn cost(
     requires { IsKept memory_seen memory_may_leave kept.old }
     ensures { IsKept memory_seen memory_may_leave kept.new }
 {
-    let before = kept.disk().moment();
-    let answers = kept.call_all(alloc, calls).ok()?;
-    Some((answers.len(), kept.disk().moment().saturating_sub(before)))
+    let before = moment(kept);
+    let answers = call_all(alloc, kept, calls).ok()?;
+    Some((answers.len(), moment(kept).saturating_sub(before)))
+}
+
+fn checkpoint_if_due(
+    alloc: Global,
+    kept: &mut Kept<Global, MemoryDisk>,
+) -> Result<bool, SaveFault>
+    requires { IsKept memory_seen memory_may_leave kept.old }
+    ensures { IsKept memory_seen memory_may_leave kept.new }
+{
+    kept.checkpoint_if_due(alloc)
 }
 
 /// Whether a checkpoint was due and is made, and how many calls of the disk it makes.
@@ -29,9 +39,15 @@ fn made(alloc: Global, kept: &mut Kept<Global, MemoryDisk>) -> Option<(bool, usi
     requires { IsKept memory_seen memory_may_leave kept.old }
     ensures { IsKept memory_seen memory_may_leave kept.new }
 {
-    let before = kept.disk().moment();
-    let is_made = kept.checkpoint_if_due(alloc).ok()?;
-    Some((is_made, kept.disk().moment().saturating_sub(before)))
+    let before = moment(kept);
+    let is_made = checkpoint_if_due(alloc, kept).ok()?;
+    Some((is_made, moment(kept).saturating_sub(before)))
+}
+
+fn is_due(kept: &Kept<Global, MemoryDisk>) -> bool
+    requires { IsKept memory_seen memory_may_leave kept.now }
+{
+    kept.is_checkpoint_due()
 }
 
 /// Of no call, and of bytes that are none.
@@ -49,7 +65,7 @@ fn grown(alloc: Global) -> Option<[(bool, usize); 3]> {
     let log = vec![in alloc; 0u8; 1 << 20].ok()?;
     let long = submit(alloc, &log, CREATE_PLAN).ok()?;
     let (answers, calls) = cost(alloc, &mut kept, &[&long])?;
-    let is_due = kept.is_checkpoint_due();
+    let is_due = is_due(&kept);
     let first = made(alloc, &mut kept)?;
     let second = made(alloc, &mut kept)?;
     (answers == 1 && calls == 4 && is_due).then_some([early, first, second])

@@ -1,20 +1,20 @@
 //! Kept desks with one allocation refused: what is answered, and what is left standing.
-//!
-//! The clauses of `kfs_kept` are long. So each of its calls is in a function that says no more than that the desk is kept.
-ghost use Rattle.std.specs.Prelude.{◌≡◌, IfErr, IfOk, IfSome, None};
+ghost use Rattle.std.specs.Prelude.{◌≡◌, IfSome, None};
 ghost use Rattle.kfs_desk.specs.Opening.{begin_fault};
 ghost use Rattle.kfs_journal.specs.Disk.{Only};
 ghost use Rattle.kfs_journal.specs.Memory.{memory_may_leave, memory_seen};
 ghost use Rattle.kfs_kept.specs.Keeping.{IsKept};
 
-use crate::run::{LEASE_FILE, LEASE_ROOT, LIMIT, MIGRATE, opened, saved, submit};
+use crate::files::is_found;
+use crate::keeping::{Answers, call_all, is_under_way, keep, kept_in, make_steps, moment, open_files, opened, save, saved, shown};
+use crate::run::{LEASE_FILE, LEASE_ROOT, MIGRATE, submit};
 use kfs_call_desk::{CallFault, Called, call};
 use kfs_desk::Desk;
 use kfs_journal::{MemoryDisk, Tear};
 use kfs_kept::{CallsFault, CreateBack, Kept, OpenBack, OpenFault, SaveFault};
 use kfs_test_support::refusing::Refusing;
 use kfs_test_support::vectors::{CREATE_LOG, CREATE_PLAN, LETTERS_LOG, LETTERS_PLAN};
-use std::alloc::{Allocator, Global};
+use std::alloc::{AllocGlobal, Allocator, Global};
 use std::process::Abort;
 use std::thread::Threads;
 
@@ -23,6 +23,9 @@ const AMPLE: u64 = 1 << 40;
 
 /// More allocations than one of the calls asks for.
 const MANY: u64 = 2_000;
+
+/// More steps than a checkpoint has here.
+const MANY_STEPS: usize = 1_000;
 
 /// How a call ends of which one allocation is refused.
 #[derive(Clone, Copy, Debug, PartialEq, Eq)]
@@ -35,127 +38,17 @@ enum End {
     Closed,
     /// All is answered but for at most one call, which is as if it hadn't been handed in.
     Answered,
+    /// All is answered, and the checkpoint that was under way is given up.
+    GivenUp,
 }
 
 /// Client 7 asks for the root, creates file 5, asks for it and writes to it, and a block moves.
 type Calls<'a> = [&'a [u8]; 5];
 
-/// What is answered to each call.
-type Answers<A> = Result<Vec<Result<Called, CallFault>, A>, CallsFault>;
-
-// ---- the calls of `kfs_kept`
-
-/// Keeps the desk on a new disk.
-fn keep<A: Allocator + Copy, B: Allocator + Copy>(
-    alloc: Global,
-    heap: B,
-    desk: Desk<A>,
-) -> Result<Kept<A, MemoryDisk>, CreateBack<A, MemoryDisk>>
-    requires { begin_fault desk.state.clients ≡ None }
-    ensures kept { IfOk result (λ kept. IsKept memory_seen memory_may_leave kept) }
-    ensures back { IfErr result (λ back. begin_fault back.desk.state.clients ≡ None) }
-{
-    let disk = MemoryDisk::new(alloc, Vec::new(alloc), Vec::new(alloc));
-    match Kept::create(heap, desk, disk) {
-        Ok(kept) => Ok(kept),
-        Err(back) => Err(back),
-    }
-}
-
-/// Opens a desk from the files of a disk on which all is synced.
-fn open_files<A: Allocator + Copy>(
-    rt: &(impl Threads + Sync),
-    heap: A,
-    disk: MemoryDisk,
-    files: (&[u8], &[u8]),
-) -> Result<Kept<A, MemoryDisk>, OpenBack<MemoryDisk>>
-    requires bytes { memory_seen disk ≡ (files.0.now, files.1.now) }
-    requires durable { Only (memory_seen disk) (memory_may_leave disk) }
-    ensures { IfOk result (λ kept. IsKept memory_seen memory_may_leave kept) }
-{
-    Kept::open(rt, heap, disk, files.0, files.1, LIMIT)
-}
-
-fn call_all<A: Allocator + Copy, B: Allocator + Copy>(
-    heap: B,
-    kept: &mut Kept<A, MemoryDisk>,
-    calls: &[&[u8]],
-) -> Answers<B>
-    requires { IsKept memory_seen memory_may_leave kept.old }
-    ensures { IsKept memory_seen memory_may_leave kept.new }
-{
-    kept.call_all(heap, calls)
-}
-
-fn checkpoint<A: Allocator + Copy, B: Allocator + Copy>(
-    heap: B,
-    kept: &mut Kept<A, MemoryDisk>,
-) -> Result<(), SaveFault>
-    requires { IsKept memory_seen memory_may_leave kept.old }
-    ensures { IsKept memory_seen memory_may_leave kept.new }
-{
-    kept.checkpoint(heap)
-}
-
-/// The state as bytes that an open desk shows.
-fn shown<A: Allocator + Copy>(alloc: Global, kept: &Kept<A, MemoryDisk>) -> Option<Vec<u8>>
-    requires { IsKept memory_seen memory_may_leave kept.now }
-{
-    saved(alloc, kept.desk()?)
-}
-
-/// How many calls of its disk were made.
-fn moment<A: Allocator + Copy>(kept: &Kept<A, MemoryDisk>) -> usize {
-    kept.disk().moment()
-}
-
 // ---- what is shown and found
 
-/// A desk in this memory that is kept on a new disk.
-pub fn kept_in<A: Allocator + Copy>(alloc: Global, heap: A) -> Option<Kept<A, MemoryDisk>>
-    ensures { IfSome result (λ kept. IsKept memory_seen memory_may_leave kept) }
-{
-    match keep(alloc, alloc, opened(heap)?) {
-        Ok(kept) => Some(kept),
-        Err(_) => None,
-    }
-}
-
-/// The state as bytes that these files are opened as, where all is synced.
-fn found_on(rt: &(impl Threads + AllocGlobal + Sync), disk: MemoryDisk) -> Option<Vec<u8>>
-    requires { Only (memory_seen disk) (memory_may_leave disk) }
-{
-    let (first, second) = disk.contents().ok()?;
-    match open_files(rt, rt.alloc(), disk, (&first, &second)) {
-        Ok(kept) => shown(rt.alloc(), &kept),
-        Err(_) => None,
-    }
-}
-
-/// Whether the disk's files are opened as this state after a crash that loses all that isn't synced.
-fn is_found(
-    rt: &(impl Threads + AllocGlobal + Sync),
-    disk: &MemoryDisk,
-    state: &[u8],
-) -> Option<bool> {
-    let left = disk.crashed(disk.moment(), Tear::Lost).ok()?;
-    let found = found_on(rt, left)?;
-    Some(found.as_slice() == state)
-}
-
-/// Whether the desk is open and shows this state.
-fn is_shown<A: Allocator + Copy>(
-    alloc: Global,
-    kept: &Kept<A, MemoryDisk>,
-    state: &[u8],
-) -> Option<bool>
-    requires { IsKept memory_seen memory_may_leave kept.now }
-{
-    let shown = shown(alloc, kept)?;
-    Some(shown.as_slice() == state)
-}
-
-/// Whether the desk is open and shows this state, and its files are opened as it.
+/// Whether the desk is open and shows this state, and its files are opened as it after a crash that loses all that isn't
+/// synced.
 fn stands<A: Allocator + Copy>(
     rt: &(impl Threads + AllocGlobal + Sync),
     kept: &Kept<A, MemoryDisk>,
@@ -163,7 +56,29 @@ fn stands<A: Allocator + Copy>(
 ) -> Option<bool>
     requires { IsKept memory_seen memory_may_leave kept.now }
 {
-    Some(is_shown(rt.alloc(), kept, state)? && is_found(rt, kept.disk(), state)?)
+    let shown = shown(rt.alloc(), kept)?;
+    Some(shown.as_slice() == state && is_left(rt, kept, state))
+}
+
+/// Whether the files are opened as this state after such a crash.
+fn is_left<A: Allocator + Copy>(
+    rt: &(impl Threads + AllocGlobal + Sync),
+    kept: &Kept<A, MemoryDisk>,
+    state: &[u8],
+) -> bool {
+    is_found(rt, kept.disk(), moment(kept), Tear::Lost, state)
+}
+
+/// Whether a checkpoint under way comes to its end, and the desk stands at this state then.
+fn stands_at_end<A: Allocator + Copy>(
+    rt: &(impl Threads + AllocGlobal + Sync),
+    kept: &mut Kept<A, MemoryDisk>,
+    state: &[u8],
+) -> Option<bool>
+    requires { IsKept memory_seen memory_may_leave kept.old }
+{
+    let is_finished = make_steps(kept, MANY_STEPS)?;
+    Some(is_finished && stands(rt, kept, state)?)
 }
 
 // ---- calls
@@ -203,23 +118,31 @@ fn state_after<A: Allocator>(
     }
 }
 
+/// How calls end that are answered, by whether memory was refused and whether a checkpoint was given up.
+fn end_of_answers(has_refused: bool, is_given_up: bool) -> End {
+    if !has_refused {
+        End::Ample
+    } else if is_given_up {
+        End::GivenUp
+    } else {
+        End::Answered
+    }
+}
+
 /// How calls end that are answered. None where desk or files aren't as they are due.
 fn answered_end<A: Allocator + Copy, B: Allocator>(
     rt: &(impl Threads + AllocGlobal + Sync),
-    kept: &Kept<A, MemoryDisk>,
+    kept: &mut Kept<A, MemoryDisk>,
     calls: &Calls<'_>,
     answers: &Vec<Result<Called, CallFault>, B>,
-    has_refused: bool,
+    end: End,
 ) -> Option<End>
-    requires { IsKept memory_seen memory_may_leave kept.now }
+    requires { IsKept memory_seen memory_may_leave kept.old }
 {
     let state = state_after(rt.alloc(), calls, answers)?;
-    let end = if has_refused {
-        End::Answered
-    } else {
-        End::Ample
-    };
-    stands(rt, kept, &state)?.then_some(end)
+    let is_right = stands(rt, kept, &state)?;
+    let is_right_at_end = stands_at_end(rt, kept, &state)?;
+    (is_right && is_right_at_end).then_some(end)
 }
 
 /// How calls end that found no memory at all. None where desk or files aren't as they were.
@@ -230,8 +153,8 @@ fn unchanged_end<A: Allocator + Copy>(
 ) -> Option<End>
     requires { IsKept memory_seen memory_may_leave kept.now }
 {
-    let is_same = moment(kept) == before.1 && stands(rt, kept, before.0)?;
-    is_same.then_some(End::Unchanged)
+    let is_same = stands(rt, kept, before.0)?;
+    (is_same && moment(kept) == before.1).then_some(End::Unchanged)
 }
 
 /// How calls end that close the desk. None where its files aren't as they were, or it answers once more.
@@ -244,10 +167,27 @@ fn closed_end<A: Allocator + Copy, B: Allocator + Copy>(
 ) -> Option<End>
     requires { IsKept memory_seen memory_may_leave kept.old }
 {
-    let is_lost = moment(kept) == before.1 && is_found(rt, kept.disk(), before.0)?;
+    let is_lost = moment(kept) == before.1 && is_left(rt, kept, before.0);
     let again = call_all(heap, kept, calls).err();
     let is_closed = !kept.is_open() && again == Some(CallsFault::Closed);
     (is_lost && is_closed).then_some(End::Closed)
+}
+
+/// What is answered to the calls with the allocation of this index refused, and whether it was asked for.
+fn refused<'a>(
+    heap: &'a Refusing<Global>,
+    kept: &mut Kept<&'a Refusing<Global>, MemoryDisk>,
+    calls: &Calls<'_>,
+    growth: u64,
+) -> (Answers<&'a Refusing<Global>>, bool)
+    requires { IsKept memory_seen memory_may_leave kept.old }
+    ensures { IsKept memory_seen memory_may_leave kept.new }
+{
+    heap.refuse_after(growth);
+    let answers = call_all(heap, kept, calls);
+    let has_refused = heap.has_refused();
+    heap.refuse_after(AMPLE);
+    (answers, has_refused)
 }
 
 /// How the calls end, made at a desk that shows `state`, with the allocation of this index refused. None where it isn't as
@@ -263,12 +203,11 @@ fn end_of_calls<'a>(
     requires { IsKept memory_seen memory_may_leave kept.old }
 {
     let before = (state, moment(kept));
-    heap.refuse_after(growth);
-    let answers = call_all(heap, kept, calls);
-    let has_refused = heap.has_refused();
-    heap.refuse_after(AMPLE);
+    let was_under_way = is_under_way(kept);
+    let (answers, has_refused) = refused(heap, kept, calls, growth);
+    let answered = end_of_answers(has_refused, was_under_way && !is_under_way(kept));
     let end = match answers {
-        Ok(answers) => answered_end(rt, kept, calls, &answers, has_refused)?,
+        Ok(answers) => answered_end(rt, kept, calls, &answers, answered)?,
         Err(CallsFault::OutOfMemory) => unchanged_end(rt, kept, before)?,
         Err(CallsFault::NotKept) => closed_end(rt, heap, kept, calls, before)?,
         Err(_) => return None,
@@ -276,46 +215,76 @@ fn end_of_calls<'a>(
     (has_refused == (end != End::Ample)).then_some(end)
 }
 
+/// A desk that is kept on a new disk; with a checkpoint under way, where that is asked for.
+fn kept_with<A: Allocator + Copy>(
+    alloc: Global,
+    heap: A,
+    in_steps: bool,
+) -> Option<Kept<A, MemoryDisk>>
+    ensures { IfSome result (λ kept. IsKept memory_seen memory_may_leave kept) }
+{
+    let mut kept = kept_in(alloc, heap)?;
+    if !in_steps {
+        return Some(kept);
+    }
+    save(heap, &mut kept, true).ok()?;
+    Some(kept)
+}
+
 /// The same at a new desk.
 fn calls_end(
     rt: &(impl Threads + AllocGlobal + Sync),
     calls: &Calls<'_>,
     growth: u64,
+    in_steps: bool,
 ) -> Option<End> {
     let heap = Refusing::new(rt.alloc(), AMPLE);
-    let mut kept = kept_in(rt.alloc(), &heap)?;
+    let mut kept = kept_with(rt.alloc(), &heap, in_steps)?;
     let state = shown(rt.alloc(), &kept)?;
     end_of_calls(rt, &heap, &mut kept, calls, &state, growth)
 }
 
 // ---- a checkpoint
 
-/// How a checkpoint ends at a desk that shows `state`, with the allocation of this index refused. None where it isn't as it
-/// is due.
+/// Whether a checkpoint is made or begun with the allocation of this index refused: none where it has asked for fewer. An error
+/// where what it tells isn't that, or it has changed something though memory was refused.
+fn is_refused<'a>(
+    heap: &'a Refusing<Global>,
+    kept: &mut Kept<&'a Refusing<Global>, MemoryDisk>,
+    growth: u64,
+    in_steps: bool,
+) -> Option<bool>
+    requires { IsKept memory_seen memory_may_leave kept.old }
+    ensures { IsKept memory_seen memory_may_leave kept.new }
+{
+    let before = moment(kept);
+    heap.refuse_after(growth);
+    let fault = save(heap, kept, in_steps).err();
+    let has_refused = heap.has_refused();
+    heap.refuse_after(AMPLE);
+    let is_told = fault == has_refused.then_some(SaveFault::OutOfMemory);
+    let is_same = moment(kept) == before;
+    (is_told && is_same == has_refused).then_some(has_refused)
+}
+
+/// How a checkpoint ends at a desk that shows `state`, with the allocation of this index refused. It is made once more then.
+/// None where it isn't as it is due.
 fn end_of_checkpoint<'a>(
     rt: &(impl Threads + AllocGlobal + Sync),
     heap: &'a Refusing<Global>,
     kept: &mut Kept<&'a Refusing<Global>, MemoryDisk>,
     state: &[u8],
     growth: u64,
+    in_steps: bool,
 ) -> Option<End>
     requires { IsKept memory_seen memory_may_leave kept.old }
 {
-    let before = moment(kept);
-    heap.refuse_after(growth);
-    let made = checkpoint(heap, kept);
-    let has_refused = heap.has_refused();
-    heap.refuse_after(AMPLE);
-    let is_same = moment(kept) == before;
-    let stands_still = stands(rt, kept, state)?;
-    match made {
-        Ok(()) if !has_refused && !is_same && stands_still => Some(End::Ample),
-        Err(SaveFault::OutOfMemory) if has_refused && is_same && stands_still => {
-            checkpoint(heap, kept).ok()?;
-            stands(rt, kept, state)?.then_some(End::Unchanged)
-        }
-        _ => None,
-    }
+    let has_refused = is_refused(heap, kept, growth, in_steps)?;
+    let is_right = stands(rt, kept, state)?;
+    save(heap, kept, in_steps).ok()?;
+    let is_right_at_end = stands_at_end(rt, kept, state)?;
+    let end = if has_refused { End::Unchanged } else { End::Ample };
+    (is_right && is_right_at_end).then_some(end)
 }
 
 /// The same at a desk that has answered the first two calls. Nothing is refused for these.
@@ -323,16 +292,13 @@ fn checkpoint_end(
     rt: &(impl Threads + AllocGlobal + Sync),
     calls: &Calls<'_>,
     growth: u64,
+    in_steps: bool,
 ) -> Option<End> {
     let heap = Refusing::new(rt.alloc(), AMPLE);
     let mut kept = kept_in(rt.alloc(), &heap)?;
-    let is_made = call_all(&heap, &mut kept, &calls[..2]).is_ok();
+    call_all(&heap, &mut kept, &calls[..2]).ok()?;
     let state = shown(rt.alloc(), &kept)?;
-    if is_made {
-        end_of_checkpoint(rt, &heap, &mut kept, &state, growth)
-    } else {
-        None
-    }
+    end_of_checkpoint(rt, &heap, &mut kept, &state, growth, in_steps)
 }
 
 // ---- a journal that is created
@@ -436,6 +402,31 @@ fn disk_of(alloc: Global, first: &[u8], second: &[u8]) -> Option<MemoryDisk>
     Some(MemoryDisk::new(alloc, first, second))
 }
 
+/// How files end that are opened. None where the desk isn't the one that they keep.
+fn opened_end<A: Allocator + Copy>(
+    rt: &(impl Threads + AllocGlobal + Sync),
+    kept: &Kept<A, MemoryDisk>,
+    state: &[u8],
+    has_refused: bool,
+) -> Option<End>
+    requires { IsKept memory_seen memory_may_leave kept.now }
+{
+    let is_right = stands(rt, kept, state)?;
+    (is_right && !has_refused).then_some(End::Ample)
+}
+
+/// How files end that aren't opened. None where that isn't for memory, or they aren't opened as this state later.
+fn unopened_end(
+    rt: &(impl Threads + AllocGlobal + Sync),
+    back: &OpenBack<MemoryDisk>,
+    state: &[u8],
+    has_refused: bool,
+) -> Option<End> {
+    let is_told = has_refused && back.why == OpenFault::OutOfMemory;
+    let is_same = is_found(rt, &back.disk, back.disk.moment(), Tear::Lost, state);
+    (is_told && is_same).then_some(End::Unchanged)
+}
+
 /// How the files are opened, with the allocation of this index refused: the disk comes back, and its files are opened then.
 /// None where it isn't as it is due.
 fn open_end(rt: &(impl Threads + AllocGlobal + Sync), files: &Left, growth: u64) -> Option<End> {
@@ -445,15 +436,8 @@ fn open_end(rt: &(impl Threads + AllocGlobal + Sync), files: &Left, growth: u64)
     let has_refused = heap.has_refused();
     heap.refuse_after(AMPLE);
     match opened {
-        Ok(kept) => {
-            let is_right = stands(rt, &kept, &files.state)?;
-            (is_right && !has_refused).then_some(End::Ample)
-        }
-        Err(back) => {
-            let is_told = has_refused && back.why == OpenFault::OutOfMemory;
-            let is_same = is_found(rt, &back.disk, &files.state)?;
-            (is_told && is_same).then_some(End::Unchanged)
-        }
+        Ok(kept) => opened_end(rt, &kept, &files.state, has_refused),
+        Err(back) => unopened_end(rt, &back, &files.state, has_refused),
     }
 }
 
@@ -462,8 +446,8 @@ fn open_end(rt: &(impl Threads + AllocGlobal + Sync), files: &Left, growth: u64)
 /// What is done with one allocation refused.
 #[derive(Clone, Copy)]
 enum Done<'a> {
-    Calls,
-    Checkpoint,
+    Calls { under_way: bool },
+    Checkpoint { in_steps: bool },
     Create,
     Open(&'a Left),
 }
@@ -476,8 +460,8 @@ fn end_of(
     growth: u64,
 ) -> Option<End> {
     match done {
-        Done::Calls => calls_end(rt, calls, growth),
-        Done::Checkpoint => checkpoint_end(rt, calls, growth),
+        Done::Calls { under_way } => calls_end(rt, calls, growth, under_way),
+        Done::Checkpoint { in_steps } => checkpoint_end(rt, calls, growth, in_steps),
         Done::Create => create_end(rt.alloc(), growth),
         Done::Open(files) => open_end(rt, files, growth),
     }
@@ -489,6 +473,7 @@ struct Ends {
     unchanged: u64,
     closed: u64,
     answered: u64,
+    given_up: u64,
 }
 
 impl Ends {
@@ -496,6 +481,7 @@ impl Ends {
         unchanged: 0,
         closed: 0,
         answered: 0,
+        given_up: 0,
     };
 
     /// One end more. Whether an allocation was refused.
@@ -505,6 +491,7 @@ impl Ends {
             End::Unchanged => &mut self.unchanged,
             End::Closed => &mut self.closed,
             End::Answered => &mut self.answered,
+            End::GivenUp => &mut self.given_up,
         };
         *count = count.saturating_add(1);
         true
@@ -532,10 +519,16 @@ fn ends_of(
 }
 
 /// Whether all is told where memory is refused: of the calls, the lists of answers and of the group's bytes; what is made
-/// behind a call; and memory of the desk.
-fn are_calls_told(ends: Result<Ends, u64>) -> bool {
+/// behind a call; memory of the desk; and that of a checkpoint under way.
+fn are_calls_told(ends: Result<Ends, u64>, under_way: bool) -> bool {
     match ends {
-        Ok(ends) => ends.unchanged == 2 && ends.closed > 5 && ends.answered > 20,
+        Ok(ends) => {
+            let is_given_up = ends.given_up > 0;
+            ends.unchanged == 2
+                && ends.closed > 5
+                && ends.answered > 20
+                && is_given_up == under_way
+        }
         Err(_) => false,
     }
 }
@@ -543,7 +536,10 @@ fn are_calls_told(ends: Result<Ends, u64>) -> bool {
 /// Whether nothing changes wherever memory is refused, at more allocations than these.
 fn are_unchanged(ends: Result<Ends, u64>, least: u64) -> bool {
     match ends {
-        Ok(ends) => ends.unchanged > least && ends.closed == 0 && ends.answered == 0,
+        Ok(ends) => {
+            let others = [ends.closed, ends.answered, ends.given_up];
+            ends.unchanged > least && others == [0, 0, 0]
+        }
         Err(_) => false,
     }
 }
@@ -554,11 +550,14 @@ fn refused_memory_is_told(rt: HostRuntime) {
     let letters = submit(rt.alloc(), LETTERS_LOG, LETTERS_PLAN).expect(&rt, "memory");
     let calls: Calls<'_> = [LEASE_ROOT, &create, LEASE_FILE, &letters, MIGRATE];
     let files = left_files(rt.alloc(), &calls).expect(&rt, "memory");
-    let ends = ends_of(&rt, Done::Calls, &calls);
-    assert!(&rt; are_calls_told(ends), "calls: {ends:?}");
+    for under_way in [false, true] {
+        let ends = ends_of(&rt, Done::Calls { under_way }, &calls);
+        assert!(&rt; are_calls_told(ends, under_way), "calls: {ends:?}");
+    }
     for (done, least) in [
         (Done::Create, 5),
-        (Done::Checkpoint, 5),
+        (Done::Checkpoint { in_steps: false }, 5),
+        (Done::Checkpoint { in_steps: true }, 3),
         (Done::Open(&files), 20),
     ] {
         let ends = ends_of(&rt, done, &calls);

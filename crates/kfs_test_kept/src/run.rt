@@ -1,20 +1,14 @@
 //! A run of a kept desk, and what a desk that isn't kept shows after each of its steps.
-ghost use Rattle.std.specs.Prelude.{◌≡◌, IfSome, None};
-ghost use Rattle.kfs_desk.specs.Opening.{begin_fault};
 ghost use Rattle.kfs_journal.specs.Memory.{memory_may_leave, memory_seen};
 ghost use Rattle.kfs_kept.specs.Keeping.{IsKept};
 
-use kfs_call_desk::{call, encode_desk};
+use crate::keeping::{call_all, kept_in, make_steps, moment, opened, save, saved};
+use kfs_call_desk::call;
 use kfs_desk::Desk;
-use kfs_image::{Image, TierSizes};
 use kfs_journal::MemoryDisk;
 use kfs_kept::Kept;
-use kfs_mode::Client;
 use kfs_test_support::vectors::{CREATE_LOG, CREATE_PLAN, LETTERS_LOG, LETTERS_PLAN};
-use std::alloc::{AllocError, Allocator, Global};
-
-/// How many rows a docket has room for.
-pub const LIMIT: u32 = 100;
+use std::alloc::{AllocError, Global};
 
 /// Client 7 asks for a write lease on the root up to moment 50, and then for one on `/a` up to moment 100.
 pub const LEASE_ROOT: &[u8] = b"\x02\0\0\0\x07\x01\0\0\0\0\0\0\0\x32\0\x01/";
@@ -30,22 +24,15 @@ pub const MIGRATE: &[u8] = b"\x05\0\x01\0\0\0\x05\0\0\0\0\x01\0\0\0\x03";
 /// No call.
 pub const BAD: &[u8] = b"\x06";
 
-/// How many steps the run has: the desk is kept, a group, a group, a checkpoint, a group.
-pub const STEPS: usize = 5;
+/// How many steps the run has: the desk is kept, a group, a group, a checkpoint is begun and goes on, a group, it is finished, a
+/// group.
+pub const STEPS: usize = 7;
 
-/// A desk with client 7 on a new image.
-pub fn opened<A: Allocator + Copy>(alloc: A) -> Option<Desk<A>>
-    ensures { IfSome result (λ desk. begin_fault desk.state.clients ≡ None) }
-{
-    let image = Image::fresh(alloc, TierSizes::new(8, 8, 8)?).ok()?;
-    let client = Client::new(7, 1_000, 1_000, &[], false, 2, 99).ok()?;
-    let mut clients = Vec::new(alloc);
-    clients.push(client).ok()?;
-    match Desk::begin(alloc, image, clients, LIMIT) {
-        Ok(desk) => Some(desk),
-        Err(_) => None,
-    }
-}
+/// How many steps a checkpoint goes on before the group within it: its state isn't whole in the next file by then.
+const FIRST_STEPS: usize = 3;
+
+/// More steps than a checkpoint of the run has.
+const MANY_STEPS: usize = 1_000;
 
 /// Appends bytes behind four bytes with their count.
 fn push_long(out: &mut Vec<u8>, bytes: &[u8]) -> Result<(), AllocError> {
@@ -67,7 +54,7 @@ fn answered(alloc: Global, kept: &mut Kept<Global, MemoryDisk>, calls: &[&[u8]])
     requires { IsKept memory_seen memory_may_leave kept.old }
     ensures { IsKept memory_seen memory_may_leave kept.new }
 {
-    let answers = kept.call_all(alloc, calls).ok()?;
+    let answers = call_all(alloc, kept, calls).ok()?;
     let mut count = 0usize;
     for answer in &answers {
         if answer.is_ok() {
@@ -75,6 +62,15 @@ fn answered(alloc: Global, kept: &mut Kept<Global, MemoryDisk>, calls: &[&[u8]])
         }
     }
     Some(count)
+}
+
+/// Begins a checkpoint, and goes on with it. Whether it is finished.
+fn begun(alloc: Global, kept: &mut Kept<Global, MemoryDisk>) -> Option<bool>
+    requires { IsKept memory_seen memory_may_leave kept.old }
+    ensures { IsKept memory_seen memory_may_leave kept.new }
+{
+    save(alloc, kept, true).ok()?;
+    make_steps(kept, FIRST_STEPS)
 }
 
 /// A desk that was kept through the run, and how many calls of the disk were made by the end of each step.
@@ -88,27 +84,23 @@ pub struct Ran {
 pub fn run(alloc: Global) -> Option<Ran> {
     let create = submit(alloc, CREATE_LOG, CREATE_PLAN).ok()?;
     let letters = submit(alloc, LETTERS_LOG, LETTERS_PLAN).ok()?;
-    let disk = MemoryDisk::new(alloc, Vec::new(alloc), Vec::new(alloc));
-    let mut kept = match Kept::create(alloc, opened(alloc)?, disk) {
-        Ok(kept) => kept,
-        Err(_) => return None,
-    };
+    let mut kept = kept_in(alloc, alloc)?;
     let mut moments = [0usize; STEPS];
-    moments[0] = kept.disk().moment();
+    moments[0] = moment(&kept);
     let first = answered(alloc, &mut kept, &[LEASE_ROOT, BAD, &create])?;
-    moments[1] = kept.disk().moment();
-    let second = answered(alloc, &mut kept, &[&create, LEASE_FILE, TICK])?;
-    moments[2] = kept.disk().moment();
-    kept.checkpoint(alloc).ok()?;
-    moments[3] = kept.disk().moment();
-    let third = answered(alloc, &mut kept, &[&letters, MIGRATE])?;
-    moments[4] = kept.disk().moment();
-    ((first, second, third) == (2, 3, 2)).then_some(Ran { kept, moments })
-}
-
-/// The desk's state as bytes.
-pub fn saved<A: Allocator + Copy>(alloc: Global, desk: &Desk<A>) -> Option<Vec<u8>> {
-    encode_desk(alloc, desk.image(), desk.clients(), desk.leases()).ok()
+    moments[1] = moment(&kept);
+    let second = answered(alloc, &mut kept, &[&create, LEASE_FILE])?;
+    moments[2] = moment(&kept);
+    let is_early = begun(alloc, &mut kept)?;
+    moments[3] = moment(&kept);
+    let within = answered(alloc, &mut kept, &[TICK])?;
+    moments[4] = moment(&kept);
+    let is_finished = make_steps(&mut kept, MANY_STEPS)?;
+    moments[5] = moment(&kept);
+    let last = answered(alloc, &mut kept, &[&letters, MIGRATE])?;
+    moments[6] = moment(&kept);
+    let is_right = (first, second, within, last) == (2, 2, 1, 2) && (is_early, is_finished) == (false, true);
+    is_right.then_some(Ran { kept, moments })
 }
 
 /// The state as bytes after the calls.
@@ -124,10 +116,12 @@ pub fn states(alloc: Global) -> Option<[Vec<u8>; STEPS]> {
     let create = submit(alloc, CREATE_LOG, CREATE_PLAN).ok()?;
     let letters = submit(alloc, LETTERS_LOG, LETTERS_PLAN).ok()?;
     let mut desk = opened(alloc)?;
-    let begun = saved(alloc, &desk)?;
+    let kept = saved(alloc, &desk)?;
     let first = saved_after(alloc, &mut desk, &[LEASE_ROOT, &create])?;
-    let second = saved_after(alloc, &mut desk, &[&create, LEASE_FILE, TICK])?;
-    let same = saved(alloc, &desk)?;
-    let third = saved_after(alloc, &mut desk, &[&letters, MIGRATE])?;
-    Some([begun, first, second, same, third])
+    let second = saved_after(alloc, &mut desk, &[&create, LEASE_FILE])?;
+    let begun = saved(alloc, &desk)?;
+    let within = saved_after(alloc, &mut desk, &[TICK])?;
+    let finished = saved(alloc, &desk)?;
+    let last = saved_after(alloc, &mut desk, &[&letters, MIGRATE])?;
+    Some([kept, first, second, begun, within, finished, last])
 }
