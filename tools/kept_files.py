@@ -11,14 +11,14 @@ import threading
 import time
 
 from benchmarks import put_files
-from kept_parts import USES, exactly, in_steps, step_bytes
+from kept_parts import USES, calls_of, exactly, in_steps, step_bytes
 
 FILES_USE = f"{USES} kfs_journal_files hex"
 NAMES = ("first.kdjl", "second.kdjl")
 
 # `kept FOLDER STATE` opens the files of the folder, or makes them with this state, and writes `ready STATE`, or `nothing` where a
 # crash has left no journal. Then it reads steps to the end of its input. Each answer is a line `= ANSWER`, written once its group is
-# kept, each checkpoint a line `checkpoint`, and at the end it writes `end STATE`. `plain STATE` asks a desk that isn't kept.
+# kept, each checkpoint, the beginning of one in steps and each of its steps a line `checkpoint`, and at the end it writes `end STATE`. `plain STATE` asks a desk that isn't kept.
 PROGRAM = r"""//! A kept desk on the files of a folder: makes calls, and writes each answer once it is kept.
 #![tactic(auto)]
 
@@ -73,6 +73,14 @@ fn make(rt: &HostRuntime, keeper: &mut Keeper<RawDisk<Pair>>, step: &Step<'_>) -
     match step {
         Step::Checkpoint => {
             due(keeper.checkpoint())?;
+            println!(rt; "checkpoint")
+        }
+        Step::Begin => {
+            due(keeper.begin_checkpoint())?;
+            println!(rt; "checkpoint")
+        }
+        Step::Next(most) => {
+            due(keeper.step_checkpoint(*most))?;
             println!(rt; "checkpoint")
         }
         Step::Group(calls) => {
@@ -157,7 +165,7 @@ def ends_of(place, steps):
     """Returns after how many calls the desk stands at first, and after each step."""
     ends = [place]
     for step in steps:
-        ends.append(ends[-1] + len(step or ()))
+        ends.append(ends[-1] + len(calls_of(step)))
     return ends
 
 
@@ -179,8 +187,8 @@ class Lines:
     def step(self):
         """Returns the index of the step that was under way, their count where all were done."""
         done, left = 0, self.checkpoints
-        while done < len(self.steps) and self.ends[done + 1] <= self.place and (self.steps[done] is not None or left):
-            left -= self.steps[done] is None
+        while done < len(self.steps) and self.ends[done + 1] <= self.place and (isinstance(self.steps[done], list) or left):
+            left -= not isinstance(self.steps[done], list)
             done += 1
         return done
 
@@ -294,5 +302,5 @@ class FilesRun:
                 sys.exit(f"seed {self.seed}: the state at the end is another")
             return True
         at = wrote.step()
-        self.checkpoints += at < len(steps) and steps[at] is None
+        self.checkpoints += at < len(steps) and not isinstance(steps[at], list)
         return False

@@ -156,6 +156,16 @@ impl<D: Disk + Drop> Keeper<D> {
         self.kept.checkpoint(self.alloc).ok()
     }
 
+    /// Begins a checkpoint that is made in steps.
+    pub fn begin_checkpoint(&mut self) -> Option<()> {
+        self.kept.begin_checkpoint(self.alloc).ok()
+    }
+
+    /// Goes on with it: true where it is finished, or none is under way.
+    pub fn step_checkpoint(&mut self, most: usize) -> Option<bool> {
+        self.kept.step_checkpoint(most).ok()
+    }
+
     /// The state as bytes.
     pub fn saved(&self) -> Option<Vec<u8>> {
         saved(self.alloc, self.kept.desk()?)
@@ -168,7 +178,8 @@ impl<D: Disk + Drop> Keeper<D> {
 """
 
 # The steps of a run, as `step_bytes` writes them.
-STEPS = r"""//! The steps of a run, read from bytes: 0 is a checkpoint, and 1 a group with its count and each call behind its length.
+STEPS = r"""//! The steps of a run, read from bytes: 0 is a checkpoint, 1 a group with its count and each call behind its length, 2 begins a
+//! checkpoint in steps, and 3 makes a step of it of so many bytes.
 use std::alloc::Global;
 
 /// What is done next.
@@ -176,6 +187,8 @@ use std::alloc::Global;
 pub enum Step<'a> {
     Checkpoint,
     Group(Vec<&'a [u8]>),
+    Begin,
+    Next(usize),
 }
 
 fn number(bytes: &[u8]) -> Option<(usize, &[u8])> {
@@ -209,6 +222,11 @@ fn first(alloc: Global, bytes: &[u8]) -> Option<(Step<'_>, &[u8])> {
     match bytes {
         [0, rest @ ..] => Some((Step::Checkpoint, rest)),
         [1, rest @ ..] => group(alloc, rest),
+        [2, rest @ ..] => Some((Step::Begin, rest)),
+        [3, rest @ ..] => {
+            let (most, behind) = number(rest)?;
+            Some((Step::Next(most), behind))
+        }
         _ => None,
     }
 }
@@ -316,21 +334,47 @@ def exactly(seed, count):
         asked *= 2
 
 
+# Steps of a run that are no group: a checkpoint, and the beginning of one in steps. A number is a step of it, of so many bytes.
+CHECKPOINT, BEGIN = None, "begin"
+STEP_SIZES = (64, 256, 1_024, 4_096)
+ALL_BYTES = 1 << 24
+
+
+def calls_of(step):
+    return step if isinstance(step, list) else []
+
+
+def with_steps(chance, groups):
+    """Returns groups with a checkpoint in steps that begins before them, goes on behind each, and is finished behind the last."""
+    steps = [BEGIN]
+    for group in groups:
+        steps += [group, chance.choice(STEP_SIZES)]
+    # one for what is left of the state, and one for the records
+    return [*steps, ALL_BYTES, ALL_BYTES]
+
+
 def in_steps(seed, calls, checkpoints, most=6):
-    """Returns the calls in groups, as lists of them, and so many checkpoints between groups, each None."""
+    """Returns the calls in groups, as lists of them, and so many checkpoints between groups, every other one in steps."""
     chance, steps, at = random.Random(f"steps {seed}"), [], 0
     while at < len(calls):
         count = chance.randrange(1, most + 1)
         steps.append(calls[at : at + count])
         at += count
     between = range(1, len(steps))
-    for place in sorted(chance.sample(between, min(checkpoints, len(between))), reverse=True):
-        steps.insert(place, None)
-    return steps
+    places = [0, *sorted(chance.sample(between, min(checkpoints, len(between)))), len(steps)]
+    made = steps[: places[1]]
+    for index, place in enumerate(places[1:-1]):
+        groups = steps[place : places[index + 2]]
+        made += [CHECKPOINT, *groups] if index % 2 else with_steps(chance, groups)
+    return made
 
 
 def step_bytes(step):
-    """Returns a step as the programs read it: 0 is a checkpoint, and 1 a group, with its count and each call behind its length."""
-    if step is None:
+    """Returns a step as the programs read it: a group has its count, and each call behind its length."""
+    if step is CHECKPOINT:
         return b"\0"
+    if step is BEGIN:
+        return b"\x02"
+    if isinstance(step, int):
+        return b"\x03" + number_bytes(step, 4)
     return b"\x01" + number_bytes(len(step), 4) + b"".join(number_bytes(len(call), 4) + call for call in step)
