@@ -15,7 +15,9 @@ use Rattle.kfs_journal.specs.Journal.{IsOneOf}
 use Rattle.kfs_call_desk.specs.Restore.Restored.{RestoreAnswer}
 use Rattle.kfs_kept.specs.Calls.Leads.{GroupLeads, GroupsLead}
 use Rattle.kfs_kept.specs.Renewing.{IsUnderWay, KeepsAll, StaysOrEnds, reached, whole_of}
+use Rattle.kfs_kept.specs.Keeping.{Stands}
 use Rattle.kfs_kept.specs.Standing.{StandFor}
+use Rattle.kfs_kept.specs.declared.kept.Kept.{Kept}
 use Rattle.kfs_kept.specs.declared.renewal.Renewal.{Renewal}
 use Rattle.kfs_kept.proofs.Meant.{groups_more, same_stand, stand_for}
 
@@ -73,6 +75,10 @@ records_more groups group = sym (flat_map_more record_bytes [] groups group)
 fit_more : (groups : List (List ℕ)) (group : List ℕ) → AllByRecursion (λ g. length g < 2 ^ 32) groups → length group < 2 ^ 32 → AllByRecursion (λ g. length g < 2 ^ 32) (groups ++ group ∷ [])
 fit_more [] group fit fits = (fits, tt)
 fit_more (first ∷ groups) group fit fits = (fit.0, fit_more groups group fit.1 fits)
+
+-- the same lists are the same bytes
+pub same_whole : {A : Type 0} (old new : Renewal A) → new.state ≡ old.state → new.records ≡ old.records → whole_of new ≡ whole_of old
+same_whole old new state records = λ i. (state i).items ++ (records i).items
 
 module _ {A : Type 0} (files : Files) (journal : Journal) where
   pub begun : (draft : Draft) (state records : Vec ℕ A) (s : State) → RestoreAnswer state.items (Ok s) → records.items ≡ [] → HasDraft files journal draft [] → draft.state_len ≡ length state.items
@@ -153,8 +159,12 @@ module _ {A : Type 0} (files : Files) (journal : Journal) where
 
 -- ---- a checkpoint that may be under way
 
-pub at_some : {R : Type 0} (P : R → Type 0) (found : Option R) (r : R) → found ≡ Some r → IfSome found P → P r
+at_some : {R : Type 0} (P : R → Type 0) (found : Option R) (r : R) → found ≡ Some r → IfSome found P → P r
 at_some P found r is holds = subst (λ o. IfSome o P) is holds
+
+-- that of a kept desk
+pub of_kept : {A D : Type 0} (seen : D → Files) (may_leave : D → Files → Type 0) (kept : Kept A D) (r : Renewal A) → kept.renewal ≡ Some r → Stands seen may_leave kept → IsUnderWay (seen kept.disk) kept.journal r kept.desk.state
+of_kept seen may_leave kept r is stands = at_some (λ r. IsUnderWay (seen kept.disk) kept.journal r kept.desk.state) kept.renewal r is stands.renewal
 
 pub stays : {A : Type 0} (found : Option (Renewal A)) → StaysOrEnds found found
 stays None = tt
