@@ -159,7 +159,7 @@ module _ {A : Type 0} (files : Files) (journal : Journal) where
 
 -- ---- a checkpoint that may be under way
 
-at_some : {R : Type 0} (P : R → Type 0) (found : Option R) (r : R) → found ≡ Some r → IfSome found P → P r
+pub at_some : {R : Type 0} (P : R → Type 0) (found : Option R) (r : R) → found ≡ Some r → IfSome found P → P r
 at_some P found r is holds = subst (λ o. IfSome o P) is holds
 
 -- that of a kept desk

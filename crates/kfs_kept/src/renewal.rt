@@ -140,8 +140,10 @@ pub fn with_group<A: Allocator>(renewal: Option<Renewal<A>>, group: &[u8]) -> Op
     ensures stays { StaysOrEnds renewal result }
 {
     let mut renewal = renewal?;
-    push_record(&mut renewal.records, group).ok()?;
-    Some(renewal)
+    match push_record(&mut renewal.records, group) {
+        Ok(()) => Some(renewal),
+        Err(_) => None,
+    }
 }
 
 /// The bytes of a step, where so many of the state and of the records behind it are written: at most `most` of the state, or
