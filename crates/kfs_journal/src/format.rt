@@ -109,8 +109,7 @@ pub fn record_of<A: Allocator>(alloc: A, group: &[u8]) -> Result<Vec<u8, A>, All
     requires { length group.now < 2 ^ 32 }
     ensures { IfOk result (λ bytes. bytes.items ≡ to_be_bytes w32 (length group.now) ++ group.now ++ 0 ∷ []) }
 {
-    // All at once: a list that grows is copied.
-    let mut bytes = Vec::with_capacity(alloc, group.len() + 5)?;
+    let mut bytes = Vec::new(alloc);
     bytes.extend_from_slice(&(group.len() as u32).to_be_bytes())?;
     bytes.extend_from_slice(group)?;
     bytes.push(0)?;
@@ -132,7 +131,7 @@ pub fn head_front<A: Allocator>(alloc: A, number: u64) -> Result<Vec<u8, A>, All
 pub fn head_rest<A: Allocator>(alloc: A, state: &[u8]) -> Result<Vec<u8, A>, AllocError>
     ensures { IfOk result (λ bytes. bytes.items ≡ to_be_bytes w64 (length state.now) ++ state.now ++ 0 ∷ []) }
 {
-    let mut bytes = Vec::with_capacity(alloc, state.len() + 9)?;
+    let mut bytes = Vec::new(alloc);
     bytes.extend_from_slice(&(state.len() as u64).to_be_bytes())?;
     bytes.extend_from_slice(state)?;
     bytes.push(0)?;

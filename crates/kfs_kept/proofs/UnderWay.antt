@@ -81,9 +81,9 @@ pub same_whole : {A : Type 0} (old new : Renewal A) → new.state ≡ old.state 
 same_whole old new state records = λ i. (state i).items ++ (records i).items
 
 module _ {A : Type 0} (files : Files) (journal : Journal) where
-  pub begun : (draft : Draft) (state records : Vec ℕ A) (s : State) → RestoreAnswer state.items (Ok s) → records.items ≡ [] → HasDraft files journal draft [] → draft.state_len ≡ length state.items
-      → IsUnderWay files journal (record { draft = draft; state = state; records = records; done = 0; known = 0 }) s
-  begun draft state records s restored none written len = record {
+  pub begun : (draft : Draft) (state records : Vec ℕ A) (s : State) → RestoreAnswer state.items (Ok s) → records.items ≡ [] → HasDraft files journal draft [] → draft.state_len ≡ length state.items → length state.items < 2 ^ 64
+      → IsUnderWay {A = A} files journal (record { draft = draft; state = state; records = records; done = 0; known = 0 }) s
+  begun draft state records s restored none written len fits = record {
     first = s;
     restored = restored;
     groups = [];
@@ -93,10 +93,11 @@ module _ {A : Type 0} (files : Files) (journal : Journal) where
     written = written;
     within = omega arith;
     state_len = len;
+    state_fits = fits;
   }
 
   pub one_more : (r : Renewal A) (records : Vec ℕ A) (s t : State) (group : List ℕ) → IsUnderWay files journal r s → GroupLeads s group t → length group < 2 ^ 32 → records.items ≡ r.records.items ++ record_bytes group
-      → IsUnderWay files journal (record { draft = r.draft; state = r.state; records = records; done = r.done; known = r.known }) t
+      → IsUnderWay {A = A} files journal (record { draft = r.draft; state = r.state; records = records; done = r.done; known = r.known }) t
   one_more r records s t group u leads fits is =
       let more : r.state.items ++ records.items ≡ whole_of r ++ record_bytes group = ap (λ (l : List ℕ). r.state.items ++ l) is ∙ sym (append_assoc r.state.items r.records.items (record_bytes group)) in
       let front : take r.done (r.state.items ++ records.items) ≡ take r.done (whole_of r) = ap (λ (l : List ℕ). take r.done l) more ∙ take-append-le r.done (whole_of r) (record_bytes group) u.within in
@@ -110,6 +111,7 @@ module _ {A : Type 0} (files : Files) (journal : Journal) where
         written = subst (λ (bytes : List ℕ). HasDraft files journal r.draft bytes) (sym front) u.written;
         within = omega (arith, u.within, ap length more, length-append (whole_of r) (record_bytes group));
         state_len = u.state_len;
+        state_fits = u.state_fits;
       }
 
   -- ---- a step
@@ -117,7 +119,7 @@ module _ {A : Type 0} (files : Files) (journal : Journal) where
   pub step_more : (r : Renewal A) (draft : Draft) (known : ℕ) (s : State) (state records part : List ℕ) (new : Files) → state ≡ r.state.items → records ≡ r.records.items → IsUnderWay files journal r s
       → take (r.done + length part) (state ++ records) ≡ take r.done (state ++ records) ++ part → r.done + length part ≤ length state + length records
       → ((body : List ℕ) → HasDraft files journal r.draft body → HasDraft new journal draft (body ++ part)) → draft.state_len ≡ r.draft.state_len
-      → IsUnderWay new journal (record { draft = draft; state = r.state; records = r.records; done = r.done + length part; known = known }) s
+      → IsUnderWay {A = A} new journal (record { draft = draft; state = r.state; records = r.records; done = r.done + length part; known = known }) s
   step_more r draft known s state records part new state_is records_is u parts within longer len =
       let whole : state ++ records ≡ whole_of r = λ i. state_is i ++ records_is i in
       let next : take r.done (whole_of r) ++ part ≡ take (r.done + length part) (whole_of r) =
@@ -132,6 +134,7 @@ module _ {A : Type 0} (files : Files) (journal : Journal) where
         written = subst (λ (bytes : List ℕ). HasDraft new journal draft bytes) next (longer (take r.done (whole_of r)) u.written);
         within = omega (arith, within, ap length whole, length-append state records);
         state_len = len ∙ u.state_len;
+        state_fits = u.state_fits;
       }
 
   -- ---- all is written
@@ -140,7 +143,7 @@ module _ {A : Type 0} (files : Files) (journal : Journal) where
   is_whole r s u all = record {
     stands = subst (λ (bytes : List ℕ). HasDraft files journal r.draft bytes) (take_all r.done (whole_of r) (omega (arith, all)) ∙ ap (λ (l : List ℕ). r.state.items ++ l) u.records) u.written;
     state_len = u.state_len;
-    state_fits = omega (arith, r.state.ok, r.state.small);
+    state_fits = u.state_fits;
     groups_fit = u.fit;
   }
 
@@ -188,4 +191,5 @@ moved {A} files new journal new_journal s found other is keeps holds = subst (λ
       written = keeps r.draft (take r.done (whole_of r)) u.written;
       within = u.within;
       state_len = u.state_len;
+      state_fits = u.state_fits;
     }

@@ -26,6 +26,7 @@ pub record IsUnderWay {A : Type 0} (files : Files) (journal : Journal) (r : Rene
   pub written : HasDraft files journal r.draft (take r.done (whole_of r))
   pub within : r.done ≤ length (whole_of r)
   pub state_len : r.draft.state_len ≡ length r.state.items
+  pub state_fits : length r.state.items < 2 ^ 64
 
 -- how many bytes are written after one step more: at most so many of the state, or else of the records
 abbrev pub reached : (of_state of_records done state records : ℕ) → ℕ

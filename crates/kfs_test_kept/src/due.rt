@@ -24,10 +24,7 @@ fn cost(
     Some((answers.len(), moment(kept).saturating_sub(before)))
 }
 
-fn checkpoint_if_due(
-    alloc: Global,
-    kept: &mut Kept<Global, MemoryDisk>,
-) -> Result<bool, SaveFault>
+fn checkpoint_if_due(alloc: Global, kept: &mut Kept<Global, MemoryDisk>) -> Result<bool, SaveFault>
     requires { IsKept memory_seen memory_may_leave kept.old }
     ensures { IsKept memory_seen memory_may_leave kept.new }
 {

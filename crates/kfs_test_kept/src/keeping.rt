@@ -94,10 +94,7 @@ pub fn call_all<A: Allocator + Copy, B: Allocator + Copy>(
     kept.call_all(heap, calls)
 }
 
-fn checkpoint<A: Allocator + Copy>(
-    heap: A,
-    kept: &mut Kept<A, MemoryDisk>,
-) -> Result<(), SaveFault>
+fn checkpoint<A: Allocator + Copy>(heap: A, kept: &mut Kept<A, MemoryDisk>) -> Result<(), SaveFault>
     requires { IsKept memory_seen memory_may_leave kept.old }
     ensures { IsKept memory_seen memory_may_leave kept.new }
 {
@@ -138,10 +135,7 @@ fn step<A: Allocator + Copy>(kept: &mut Kept<A, MemoryDisk>) -> Result<bool, Sav
 }
 
 /// Makes up to so many steps of a checkpoint, and says whether it is finished then. None where one isn't made.
-pub fn make_steps<A: Allocator + Copy>(
-    kept: &mut Kept<A, MemoryDisk>,
-    count: usize,
-) -> Option<bool>
+pub fn make_steps<A: Allocator + Copy>(kept: &mut Kept<A, MemoryDisk>, count: usize) -> Option<bool>
     requires { IsKept memory_seen memory_may_leave kept.old }
     ensures { IsKept memory_seen memory_may_leave kept.new }
 {

@@ -6,7 +6,10 @@ ghost use Rattle.kfs_journal.specs.Memory.{memory_may_leave, memory_seen};
 ghost use Rattle.kfs_kept.specs.Keeping.{IsKept};
 
 use crate::files::is_found;
-use crate::keeping::{Answers, call_all, is_under_way, keep, kept_in, make_steps, moment, open_files, opened, save, saved, shown};
+use crate::keeping::{
+    Answers, call_all, is_under_way, keep, kept_in, make_steps, moment, open_files, opened, save,
+    saved, shown,
+};
 use crate::run::{LEASE_FILE, LEASE_ROOT, MIGRATE, submit};
 use kfs_call_desk::{CallFault, Called, call};
 use kfs_desk::Desk;
@@ -283,7 +286,11 @@ fn end_of_checkpoint<'a>(
     let is_right = stands(rt, kept, state)?;
     save(heap, kept, in_steps).ok()?;
     let is_right_at_end = stands_at_end(rt, kept, state)?;
-    let end = if has_refused { End::Unchanged } else { End::Ample };
+    let end = if has_refused {
+        End::Unchanged
+    } else {
+        End::Ample
+    };
     (is_right && is_right_at_end).then_some(end)
 }
 
@@ -524,10 +531,7 @@ fn are_calls_told(ends: Result<Ends, u64>, under_way: bool) -> bool {
     match ends {
         Ok(ends) => {
             let is_given_up = ends.given_up > 0;
-            ends.unchanged == 2
-                && ends.closed > 5
-                && ends.answered > 20
-                && is_given_up == under_way
+            ends.unchanged == 2 && ends.closed > 5 && ends.answered > 20 && is_given_up == under_way
         }
         Err(_) => false,
     }

@@ -99,7 +99,8 @@ pub fn run(alloc: Global) -> Option<Ran> {
     moments[5] = moment(&kept);
     let last = answered(alloc, &mut kept, &[&letters, MIGRATE])?;
     moments[6] = moment(&kept);
-    let is_right = (first, second, within, last) == (2, 2, 1, 2) && (is_early, is_finished) == (false, true);
+    let is_right = (first, second, within, last) == (2, 2, 1, 2)
+        && (is_early, is_finished) == (false, true);
     is_right.then_some(Ran { kept, moments })
 }
 

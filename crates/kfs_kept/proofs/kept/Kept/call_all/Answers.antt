@@ -14,12 +14,14 @@ pub returns-in-Ok-put-clause-kept : goal.returns-in-Ok-put-clause-kept
 returns-in-Ok-put-clause-kept g c =
     let is_open : IsTrue c.args.self.now.is_open = search rules in
     let was = c.requires.kept is_open in
+    let old = c.args.self.now in
+    let new = g.D.Disk.seen c.put.new.disk in
     let leads = put_leads _ _ _ _ _ _ _ was.stand c.in-Ok.ensures c.as_slice-group.ensures.value in
-    let still = moved _ _ _ c.put.new.self _ _ c.take.result c.take.ensures.value c.in-Ok-put.ensures.draft was.renewal in
+    let still = moved (g.D.Disk.seen old.disk) new old.journal c.put.new.self old.desk.state old.renewal c.take.result c.take.ensures.value c.in-Ok-put.ensures.draft was.renewal in
     λ _. record {
       settled = c.in-Ok-put.ensures.settled;
       stand = put_stand _ _ _ _ _ _ _ was.stand c.in-Ok.ensures c.as_slice-group.ensures.value _ c.in-Ok-put.ensures.acknowledged;
-      renewal = c.with_group.ensures.under_way _ _ _ _ still leads;
+      renewal = c.with_group.ensures.under_way new c.put.new.self old.desk.state c.make_all.new.desk.state still leads;
     }
 
 pub returns-in-Ok-put-clause-checkpoint : goal.returns-in-Ok-put-clause-checkpoint
