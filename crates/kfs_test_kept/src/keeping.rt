@@ -18,7 +18,7 @@ use std::thread::Threads;
 pub const LIMIT: u32 = 100;
 
 /// How many bytes a step of a checkpoint writes.
-const MOST: usize = 16;
+const MOST: usize = 32;
 
 /// What is answered to each call.
 pub type Answers<A> = Result<Vec<Result<Called, CallFault>, A>, CallsFault>;
