@@ -1,5 +1,10 @@
-/* States and calls as bytes: a desk is saved and restored, and goes on by bytes as the other one goes on by structs.
- * tools/hosts runs it: it says nothing and answers 0 where all is as it should be. */
+/* States and calls as bytes: a desk is saved and restored, and goes on by bytes as the other one goes on by structs. A
+ * run of calls is cut at each of its calls: the desk is saved and restored there.
+ *
+ *     states [CUT]
+ *
+ * With CUT the run is cut there, and nothing else is done. tools/hosts runs it: it says nothing and answers 0 where all is
+ * as it should be, and so it does where one allocation is refused of a run that is cut. */
 #include "kfs.h"
 #include <stdio.h>
 #include <stdlib.h>
@@ -7,6 +12,23 @@
 
 /* Client 7 creates the file 5, named `a`, in the root directory, with mode 0644. */
 static const uint8_t create[] = "KLOG\1\0\0\0\7\0\1\1\0\0\0\1\1a\0\0\0\5\0\1\244";
+
+/* It writes ten letters to it. */
+static const uint8_t letters[] = "KLOG\1\0\0\0\7\0\1\2\0\0\0\5\0\0\0\0\0\0\0\0\0\0\0\12ABCDEFGHIJ";
+
+/* It writes "xy" at 2 and "QRS" at 3, cuts the file to 4 bytes, lengthens it to 8, and writes "Z" at 12. */
+static const uint8_t edits[] = "KLOG\1\0\0\0\7\0\5"
+                               "\2\0\0\0\5\0\0\0\0\0\0\0\2\0\0\0\2xy"
+                               "\2\0\0\0\5\0\0\0\0\0\0\0\3\0\0\0\3QRS"
+                               "\3\0\0\0\5\0\0\0\0\0\0\0\4"
+                               "\3\0\0\0\5\0\0\0\0\0\0\0\10"
+                               "\2\0\0\0\5\0\0\0\0\0\0\0\14\0\0\0\1Z";
+
+/* A plan of no rows. */
+static const uint8_t no_rows[13] = "KPLN\1";
+
+/* A byte that is no log, and two that are no plan. */
+static const uint8_t no_log[1] = { 9 }, no_plan[2] = { 8, 7 };
 
 static int failed;
 
@@ -20,7 +42,7 @@ static void expect(uint64_t said, uint64_t due, const char *what)
 /* ---- bytes, by docs/FORMATS.md */
 
 struct bytes {
-    uint8_t at[256];
+    uint8_t at[512];
     size_t len;
 };
 
@@ -61,6 +83,62 @@ static void put_reply(struct bytes *out, const struct kfs_reply *reply)
     if (reply->kind == KFS_NO) put_fault(out, &reply->fault);
     else put(out, reply->need, 8);
     if (reply->kind == KFS_NO_ROOM) put(out, reply->free, 4);
+}
+
+/* ---- calls as bytes */
+
+static void put_submit(struct bytes *out, const uint8_t *log, size_t log_len, const uint8_t *plan, size_t plan_len)
+{
+    put(out, 1, 1);
+    put(out, 7, 4);
+    put(out, log_len, 4);
+    put_all(out, log, log_len);
+    put(out, plan_len, 4);
+    put_all(out, plan, plan_len);
+}
+
+static void put_lease(struct bytes *out, uint32_t client, const char *path, bool write, uint64_t end)
+{
+    put(out, 2, 1);
+    put(out, client, 4);
+    put(out, write, 1);
+    put(out, end, 8);
+    put(out, strlen(path), 2);
+    put_all(out, (const uint8_t *)path, strlen(path));
+}
+
+static void put_lease_at(struct bytes *out, uint32_t client, uint32_t number, bool write, uint64_t end)
+{
+    put(out, 6, 1);
+    put(out, client, 4);
+    put(out, write, 1);
+    put(out, end, 8);
+    put(out, number, 4);
+}
+
+static void put_drop(struct bytes *out, uint32_t client, uint32_t number)
+{
+    put(out, 3, 1);
+    put(out, client, 4);
+    put(out, number, 4);
+}
+
+static void put_tick(struct bytes *out, uint64_t moment)
+{
+    put(out, 4, 1);
+    put(out, moment, 8);
+}
+
+static void put_moves(struct bytes *out, const struct kfs_move *moves, size_t count)
+{
+    put(out, 5, 1);
+    put(out, count, 2);
+    for (const struct kfs_move *move = moves; move < moves + count; move++) {
+        put(out, move->number, 4);
+        put(out, move->block, 4);
+        put(out, move->tier, 1);
+        put(out, move->place, 4);
+    }
 }
 
 /* ---- states */
@@ -174,42 +252,44 @@ static void check_answer(struct kfs *desk, const struct bytes *call, const struc
     if (len == due->len) expect(memcmp(answer, due->at, len) != 0, 0, what);
 }
 
-/* One desk has calls by structs, and the other one the same calls as bytes. */
-static void check_calls(struct kfs *desk, struct kfs *other)
+/* One desk has submissions by structs, and the other one the same ones as bytes: a right one, one of a log that has landed
+ * already, with a plan of no rows, and bytes that are no log and no plan. */
+static void check_submissions(struct kfs *desk, struct kfs *other)
 {
-    static const uint8_t plan_of_no_rows[13] = { 75, 80, 76, 78, 1 };
-    static const struct kfs_move move = { .number = 5, .block = 0, .tier = 1, .place = 0 };
-    struct kfs_reply reply = { 0 };
-    struct kfs_act act = { 0 };
     uint8_t plan[128];
     size_t plan_len = 0;
-    for (int round = 0; round < 2; round++) {
-        /* a right plan, and then one with no rows, for a log that has landed already */
+    expect(kfs_plan(desk, 7, create, sizeof create - 1, plan, sizeof plan, &plan_len), KFS_DONE, "a plan");
+    const struct {
+        const uint8_t *log;
+        size_t log_len;
+        const uint8_t *plan;
+        size_t plan_len;
+    } rows[] = {
+        { create, sizeof create - 1, plan, plan_len },
+        { create, sizeof create - 1, no_rows, sizeof no_rows },
+        { no_log, sizeof no_log, no_plan, sizeof no_plan },
+    };
+    for (size_t row = 0; row < 3; row++) {
         struct bytes call = { .len = 0 }, due = { .len = 0 };
-        if (round == 0)
-            expect(kfs_plan(desk, 7, create, sizeof create - 1, plan, sizeof plan, &plan_len), KFS_DONE, "a plan");
-        else
-            memcpy(plan, plan_of_no_rows, plan_len = sizeof plan_of_no_rows);
-        expect(kfs_submit(desk, 7, create, sizeof create - 1, plan, plan_len, &reply), KFS_DONE, "a submission");
-        put(&call, 1, 1);
-        put(&call, 7, 4);
-        put(&call, sizeof create - 1, 4);
-        put_all(&call, create, sizeof create - 1);
-        put(&call, plan_len, 4);
-        put_all(&call, plan, plan_len);
+        struct kfs_reply reply = { 0 };
+        expect(kfs_submit(desk, 7, rows[row].log, rows[row].log_len, rows[row].plan, rows[row].plan_len, &reply), KFS_DONE,
+               "a submission");
+        put_submit(&call, rows[row].log, rows[row].log_len, rows[row].plan, rows[row].plan_len);
         put_reply(&due, &reply);
         check_answer(other, &call, &due, "a submission as bytes");
     }
+}
+
+/* The same with the other calls, each once where it is made and once where it is refused. */
+static void check_calls(struct kfs *desk, struct kfs *other)
+{
+    static const struct kfs_move move = { .number = 5, .block = 0, .tier = 1, .place = 0 };
+    struct kfs_act act = { 0 };
     for (uint32_t client = 7; client < 9; client++) {
         /* one lease that is given, and one of no client */
         struct bytes call = { .len = 0 }, due = { .len = 0 };
         expect(kfs_lease(desk, client, (const uint8_t *)"/a", 2, true, 200, &act), KFS_DONE, "a lease");
-        put(&call, 2, 1);
-        put(&call, client, 4);
-        put(&call, 1, 1);
-        put(&call, 200, 8);
-        put(&call, 2, 2);
-        put_all(&call, (const uint8_t *)"/a", 2);
+        put_lease(&call, client, "/a", true, 200);
         put_act(&due, &act, 4, 4, 8);
         check_answer(other, &call, &due, "a lease as bytes");
     }
@@ -217,28 +297,21 @@ static void check_calls(struct kfs *desk, struct kfs *other)
         /* one lease by number that is given, and one on no node */
         struct bytes call = { .len = 0 }, due = { .len = 0 };
         expect(kfs_lease_at(desk, 7, number, false, 300, &act), KFS_DONE, "a lease by number");
-        put(&call, 6, 1);
-        put(&call, 7, 4);
-        put(&call, 0, 1);
-        put(&call, 300, 8);
-        put(&call, number, 4);
+        put_lease_at(&call, 7, number, false, 300);
         put_act(&due, &act, 4, 4, 8);
         check_answer(other, &call, &due, "a lease by number as bytes");
     }
     for (int round = 0; round < 2; round++) {
         struct bytes call = { .len = 0 }, due = { .len = 0 };
         expect(kfs_drop(desk, 7, 5, &act), KFS_DONE, "a drop");
-        put(&call, 3, 1);
-        put(&call, 7, 4);
-        put(&call, 5, 4);
+        put_drop(&call, 7, 5);
         put_act(&due, &act, 5, 4, 8);
         check_answer(other, &call, &due, "a drop as bytes");
     }
     for (uint64_t moment = 60; moment > 58; moment--) {
         struct bytes call = { .len = 0 }, due = { .len = 0 };
         expect(kfs_tick(desk, moment, &act), KFS_DONE, "a tick");
-        put(&call, 4, 1);
-        put(&call, moment, 8);
+        put_tick(&call, moment);
         put_act(&due, &act, 6, 8, 8);
         check_answer(other, &call, &due, "a tick as bytes");
     }
@@ -246,14 +319,7 @@ static void check_calls(struct kfs *desk, struct kfs *other)
         /* no move, and one of a block that isn't mapped */
         struct bytes call = { .len = 0 }, due = { .len = 0 };
         expect(kfs_migrate(desk, &move, count, &act), KFS_DONE, "moves");
-        put(&call, 5, 1);
-        put(&call, count, 2);
-        if (count > 0) {
-            put(&call, move.number, 4);
-            put(&call, move.block, 4);
-            put(&call, move.tier, 1);
-            put(&call, move.place, 4);
-        }
+        put_moves(&call, &move, count);
         put_act(&due, &act, 7, 4, 9);
         check_answer(other, &call, &due, "moves as bytes");
     }
@@ -277,12 +343,192 @@ static void check_unanswered(struct kfs *desk)
     expect(fault.code == KFS_CALL_TRAILING && fault.index == 0, 1, "its fault");
     expect(kfs_call(&none, tick, 9, answer, sizeof answer, &len, &fault), KFS_CLOSED, "a call of nothing");
     expect(kfs_docket_len(desk, &rows), KFS_DONE, "the docket");
-    expect(rows, 12, "its rows");
+    expect(rows, 13, "its rows");
     expect(kfs_call(desk, tick, 9, answer, sizeof answer, &len, &fault), KFS_DONE, "the last row");
     expect(kfs_call(desk, tick, 8, answer, 0, &len, &fault), KFS_FULL, "a full docket");
 }
 
-int main(void)
+/* ---- a run of calls that is cut */
+
+enum { CALLS = 19, ROOM = 16384 };
+
+/* The calls of a run, and their answers. */
+static struct bytes calls[CALLS], answers[CALLS];
+static size_t count;
+
+/* The tag of each answer: 1 yes, 2 no, 4 leased, 5 dropped, 6 ticked, 7 moved, 8 a lease is refused, 9 moves are. */
+static const uint8_t due_tags[CALLS] = { 4, 1, 2, 4, 1, 8, 7, 8, 8, 9, 6, 8, 5, 4, 4, 6, 1, 8, 8 };
+
+/* How many blocks the submissions write. */
+static const uint8_t due_needs[CALLS] = { [4] = 1, [16] = 1 };
+
+/* Where memory is refused, a call is made once more: of a process at most one allocation is refused. */
+#define AGAIN(status, call)                                     \
+    do {                                                        \
+        (status) = (call);                                      \
+        if ((status) == KFS_NO_MEMORY) (status) = (call);       \
+    } while (0)
+
+/* A desk with client 7, and client 8, who is in two groups and privileged. */
+static void open_desk(struct kfs *desk)
+{
+    static const struct kfs_client clients[] = {
+        { .number = 7, .uid = 1000, .gid = 1000, .first = 2, .last = 99 },
+        { .number = 8, .uid = 1001, .gid = 1001, .first = 100, .last = 65536, .groups_count = 2, .privileged = true },
+    };
+    static const uint32_t groups[] = { 50, 51 };
+    struct kfs_fault fault = { 0 };
+    uint32_t status;
+    AGAIN(status, kfs_open(desk, 8, 8, 8, clients, 2, groups, 2, 100, &fault));
+    expect(status, KFS_DONE, "a desk for a run");
+}
+
+static void make(struct kfs *desk, const struct bytes *call, struct bytes *answer)
+{
+    struct kfs_fault fault = { 0 };
+    uint32_t status;
+    AGAIN(status, kfs_call(desk, call->at, call->len, answer->at, KFS_ANSWER_LIMIT, &answer->len, &fault));
+    expect(status, KFS_DONE, "a call of a run");
+}
+
+/* Makes the run's next call, and keeps its answer. */
+static void make_next(struct kfs *desk)
+{
+    const uint8_t *told = answers[count].at + 4;
+    make(desk, &calls[count], &answers[count]);
+    expect(told[0], due_tags[count], "how a call of a run is answered");
+    if (told[0] == 1) expect(told[9], due_needs[count], "what a submission needs");
+    count++;
+}
+
+/* Hands a log in with its plan; where it has none, with one of no rows. */
+static void submit_next(struct kfs *desk, const uint8_t *log, size_t len)
+{
+    uint8_t plan[256];
+    size_t plan_len = 0;
+    uint32_t status;
+    AGAIN(status, kfs_plan(desk, 7, log, len, plan, sizeof plan, &plan_len));
+    if (status == KFS_NOTHING) memcpy(plan, no_rows, plan_len = sizeof no_rows);
+    else expect(status, KFS_DONE, "a plan of a run");
+    put_submit(&calls[count], log, len, plan, plan_len);
+    make_next(desk);
+}
+
+static void lease_next(struct kfs *desk, uint32_t client, const char *path, bool write, uint64_t end)
+{
+    put_lease(&calls[count], client, path, write, end);
+    make_next(desk);
+}
+
+static void lease_at_next(struct kfs *desk, uint32_t client, uint32_t number, bool write, uint64_t end)
+{
+    put_lease_at(&calls[count], client, number, write, end);
+    make_next(desk);
+}
+
+static void drop_next(struct kfs *desk, uint32_t client, uint32_t number)
+{
+    put_drop(&calls[count], client, number);
+    make_next(desk);
+}
+
+static void tick_next(struct kfs *desk, uint64_t moment)
+{
+    put_tick(&calls[count], moment);
+    make_next(desk);
+}
+
+static void move_next(struct kfs *desk, uint8_t tier, uint32_t place)
+{
+    const struct kfs_move move = { .number = 5, .block = 0, .tier = tier, .place = place };
+    put_moves(&calls[count], &move, 1);
+    make_next(desk);
+}
+
+/* Calls of every kind, some of them refused: client 7 makes a file and writes to it twice, its first block moves, and
+ * leases come, end and are given up. */
+static void make_run(void)
+{
+    struct kfs desk = { 0 };
+    open_desk(&desk);
+    lease_next(&desk, 7, "/", true, 50);
+    submit_next(&desk, create, sizeof create - 1);
+    submit_next(&desk, create, sizeof create - 1);
+    lease_next(&desk, 7, "/a", true, 100);
+    submit_next(&desk, letters, sizeof letters - 1);
+    lease_next(&desk, 8, "/a", false, 100);
+    move_next(&desk, 1, 3);
+    lease_at_next(&desk, 8, 5, true, 100);
+    lease_at_next(&desk, 8, 9, false, 100);
+    move_next(&desk, 9, 0);
+    tick_next(&desk, 49);
+    tick_next(&desk, 48);
+    drop_next(&desk, 7, 1);
+    lease_next(&desk, 8, "/", false, 60);
+    lease_next(&desk, 7, "/", false, 70);
+    tick_next(&desk, 60);
+    submit_next(&desk, edits, sizeof edits - 1);
+    drop_next(&desk, 8, 5);
+    lease_at_next(&desk, 8, 5, false, 80);
+    kfs_close(&desk);
+}
+
+/* Makes a call of the run on a desk whose docket has this many rows. It has the answer of the run, in its own row. */
+static void make_again(struct kfs *desk, size_t call, size_t row)
+{
+    struct bytes answer = { .len = 0 }, due = { .len = 0 };
+    make(desk, &calls[call], &answer);
+    put(&due, row, 4);
+    put_all(&due, answers[call].at + 4, answers[call].len - 4);
+    expect(answer.len, due.len, "the length of an answer of a run");
+    expect(memcmp(answer.at, due.at, due.len) != 0, 0, "an answer of a run");
+}
+
+static size_t save(struct kfs *desk, uint8_t *state)
+{
+    size_t len = 0;
+    uint32_t status;
+    AGAIN(status, kfs_state(desk, state, ROOM, &len));
+    expect(status, KFS_DONE, "the state of a desk of a run");
+    return len;
+}
+
+static void check_saved_alike(struct kfs *one, struct kfs *other)
+{
+    static uint8_t state[ROOM], others[ROOM];
+    size_t len = save(one, state);
+    expect(save(other, others), len, "the length of the state of the other desk of a run");
+    expect(memcmp(state, others, len) != 0, 0, "the state of the other desk of a run");
+}
+
+/* A desk that is saved behind so many calls, and restored, shows the same state with an empty docket. It goes on as the
+ * other one does. */
+static void check_cut(size_t cut)
+{
+    static uint8_t state[ROOM];
+    struct kfs desk = { 0 }, other = { 0 };
+    struct kfs_fault fault = { 0 };
+    uint32_t rows = 99, status;
+    size_t len;
+    open_desk(&desk);
+    for (size_t call = 0; call < cut; call++) make_again(&desk, call, call);
+    len = save(&desk, state);
+    AGAIN(status, kfs_restore(&other, state, len, 100, &fault));
+    expect(status, KFS_DONE, "a desk of a run that is restored");
+    expect(kfs_docket_len(&other, &rows), KFS_DONE, "its docket");
+    expect(rows, 0, "the rows of its docket");
+    check_saved_alike(&desk, &other);
+    for (size_t call = cut; call < CALLS; call++) {
+        make_again(&desk, call, call);
+        make_again(&other, call, call - cut);
+    }
+    check_saved_alike(&desk, &other);
+    kfs_close(&desk);
+    kfs_close(&other);
+}
+
+/* A desk is saved, restored and resumed, and answers calls as bytes. */
+static void check_desks(void)
 {
     static const struct kfs_client client = { .number = 7, .uid = 1000, .gid = 1000, .first = 2, .last = 99 };
     static const uint32_t groups[1] = { 0 };
@@ -298,10 +544,11 @@ int main(void)
     expect(kfs_restore(&other, bytes, len, 9, &fault), KFS_DONE, "a desk to resume");
     check_resumed(&desk, &other, &client);
     /* both go on from the state, since the first desk's docket is full */
-    expect(kfs_restore(&again, bytes, len, 13, &fault), KFS_DONE, "a desk that goes on");
-    expect(kfs_restore(&other, bytes, len, 13, &fault), KFS_DONE, "another one");
+    expect(kfs_restore(&again, bytes, len, 14, &fault), KFS_DONE, "a desk that goes on");
+    expect(kfs_restore(&other, bytes, len, 14, &fault), KFS_DONE, "another one");
     check_same_state(&desk, &other);
     check_refusals(&other, bytes, len);
+    check_submissions(&again, &other);
     check_calls(&again, &other);
     check_same_state(&again, &other);
     check_unanswered(&other);
@@ -309,5 +556,17 @@ int main(void)
     kfs_close(&desk);
     kfs_close(&again);
     kfs_close(&other);
+}
+
+int main(int words, char **word)
+{
+    make_run();
+    if (failed) return failed;
+    if (words > 1) {
+        check_cut(strtoul(word[1], NULL, 10));
+        return failed;
+    }
+    for (size_t cut = 0; cut <= CALLS; cut++) check_cut(cut);
+    check_desks();
     return failed;
 }

@@ -48,9 +48,6 @@ pub const REGROUP_LOG: &[u8] = b"KLOG\x02\0\0\0\x07\0\x01\x08\0\0\0\x05\0\0\0\x3
 pub const REGROUP_PLAN: &[u8] = b"KPLN\x02\0\0\0\x01\0\0\0\0\0\0\0\x05\x01\x01\xa4\0\0\x03\
       \xe8\0\0\0\x32\0\x01\0\0\0\0\0\0\0\0";
 
-/// The log with its version 1, which has no such entry.
-pub const REGROUP_IN_VERSION_1: &[u8] = b"KLOG\x01\0\0\0\x07\0\x01\x08\0\0\0\x05\0\0\0\x32";
-
 /// Node 20 is gone.
 pub const GONE_PLAN: &[u8] = b"KPLN\x01\0\0\0\x01\0\0\0\0\0\0\0\x14\0";
 

@@ -1,8 +1,7 @@
 //! Small raw images, row by row.
 
 use kfs_shape::{
-    Extent, ExtentRow, Header, Kind, Name, NameRow, RawImage, RawNode, ShapeFault, TierSizes,
-    check_shape,
+    Extent, ExtentRow, Header, Kind, Name, NameRow, RawImage, RawNode, TierSizes,
 };
 use std::alloc::Allocator;
 
@@ -137,25 +136,4 @@ pub fn image<A: Allocator + Copy>(alloc: A, parts: &[SmallImage]) -> Option<RawI
         names: names_of(alloc, parts)?,
         extents: extents_of(alloc, parts)?,
     })
-}
-
-/// The rule and the number found in the image with the rows of all parts; an inner none where it is
-/// well formed.
-pub fn found<A: Allocator + Copy>(alloc: A, parts: &[SmallImage]) -> Option<Option<(u8, u32)>> {
-    found_in(alloc, 2, parts)
-}
-
-/// The same of an image of this version.
-pub fn found_in<A: Allocator + Copy>(
-    alloc: A,
-    version: u8,
-    parts: &[SmallImage],
-) -> Option<Option<(u8, u32)>> {
-    let mut raw = image(alloc, parts)?;
-    raw.version = version;
-    match check_shape(alloc, &raw) {
-        Ok(()) => Some(None),
-        Err(ShapeFault::Found(finding)) => Some(Some((finding.rule, finding.number))),
-        Err(ShapeFault::OutOfMemory) => None,
-    }
 }
