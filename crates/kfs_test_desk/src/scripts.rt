@@ -23,7 +23,31 @@ enum Does {
     Judge(usize),
     Land(usize),
     Act(Act<'static>),
-    Move(&'static [Move]),
+    /// Both files' blocks move to other tiers.
+    MoveBoth,
+    /// One block moves twice, which is refused.
+    MoveTwice,
+}
+
+/// The desk at which a script begins: client 7 holds the root, in row 0.
+#[derive(Clone, Copy)]
+enum Start {
+    Root,
+    /// It also made the files 5 and 6 of one block each, and holds file 5, in rows 1 and 2.
+    TwoFiles,
+}
+
+/// What is due to a ticket.
+#[derive(Clone, Copy)]
+enum Due {
+    /// A Yes in this row, which needs so many blocks and wasn't judged again.
+    Yes(u32, u64),
+    /// A Yes in this row, without a block, that was judged again.
+    YesAgain(u32),
+    /// A No in this row: no lease on the root is held.
+    NoLease(u32),
+    /// It is left.
+    Left,
 }
 
 /// A script, and what comes of it.
@@ -31,13 +55,12 @@ enum Does {
 struct Script {
     /// How many rows the docket takes.
     limit: u32,
-    /// The calls before it.
-    calls: &'static [Call<'static>],
+    start: Start,
     /// What is handed in under each ticket: a log of client 7 with its plan.
     handed_in: (&'static [u8], &'static [u8]),
     steps: &'static [Does],
-    /// The reply to each ticket. A ticket without one is left.
-    replies: &'static [Option<Reply>],
+    /// What is due to each ticket.
+    due: &'static [Due],
     /// How many rows the docket has then.
     rows: u32,
     /// What the image shows then.
@@ -69,10 +92,10 @@ const ROOT_LEASED_BY_NUMBER: Does = Does::Act(Act::LeaseAt {
 /// The submission is landed by its worker, and by no other one.
 const BY_ITS_WORKER: Script = Script {
     limit: 100,
-    calls: &[ROOT_LEASED],
+    start: Start::Root,
     handed_in: CREATE,
     steps: &[Land(0), Look(0, 0), Look(1, 0), Land(0), Judge(0), Land(0)],
-    replies: &[Some(Reply::Yes { position: 1, rejudged: false, need: 0 })],
+    due: &[Due::Yes(1, 0)],
     rows: 2,
     shown: &FILE,
     blocks: &[],
@@ -81,7 +104,7 @@ const BY_ITS_WORKER: Script = Script {
 /// Steps out of their place change nothing.
 const OUT_OF_PLACE: Script = Script {
     limit: 100,
-    calls: &[ROOT_LEASED],
+    start: Start::Root,
     handed_in: CREATE,
     steps: &[
         Look(8, 0),
@@ -99,7 +122,7 @@ const OUT_OF_PLACE: Script = Script {
         Judge(7),
         Land(7),
     ],
-    replies: &[Some(Reply::Yes { position: 1, rejudged: false, need: 0 }), None],
+    due: &[Due::Yes(1, 0), Due::Left],
     rows: 2,
     shown: &FILE,
     blocks: &[],
@@ -108,10 +131,10 @@ const OUT_OF_PLACE: Script = Script {
 /// A full docket leaves the submission.
 const FULL: Script = Script {
     limit: 1,
-    calls: &[ROOT_LEASED],
+    start: Start::Root,
     handed_in: CREATE,
     steps: &[Look(0, 0), Judge(0), Land(0), Look(1, 0), Judge(1), Land(1)],
-    replies: &[None],
+    due: &[Due::Left],
     rows: 1,
     shown: &NO_FILE,
     blocks: &[],
@@ -120,7 +143,7 @@ const FULL: Script = Script {
 /// Calls are made in their place.
 const BETWEEN_CALLS: Script = Script {
     limit: 100,
-    calls: &[ROOT_LEASED],
+    start: Start::Root,
     handed_in: CREATE,
     steps: &[
         ROOT_DROPPED,
@@ -132,21 +155,7 @@ const BETWEEN_CALLS: Script = Script {
         Judge(1),
         Land(1),
     ],
-    replies: &[
-        Some(
-            Reply::No {
-                position: 2,
-                rejudged: false,
-                fault: Fault::Entry(
-                    EntryFault {
-                        index: 0,
-                        reason: Reason::NoLease(1),
-                    },
-                ),
-            },
-        ),
-        Some(Reply::Yes { position: 4, rejudged: false, need: 0 }),
-    ],
+    due: &[Due::NoLease(2), Due::Yes(4, 0)],
     rows: 5,
     shown: &FILE,
     blocks: &[],
@@ -155,18 +164,10 @@ const BETWEEN_CALLS: Script = Script {
 /// What is judged without a lease is judged again after a lease by number.
 const BEFORE_A_LEASE: Script = Script {
     limit: 100,
-    calls: &[ROOT_LEASED],
+    start: Start::Root,
     handed_in: CREATE,
     steps: &[ROOT_DROPPED, Look(0, 0), Judge(0), ROOT_LEASED_BY_NUMBER, Land(0)],
-    replies: &[
-        Some(
-            Reply::Yes {
-                position: 3,
-                rejudged: true,
-                need: 0,
-            },
-        ),
-    ],
+    due: &[Due::YesAgain(3)],
     rows: 4,
     shown: &FILE,
     blocks: &[],
@@ -206,59 +207,33 @@ const FILES_CREATED: Call<'static> = Call::Submit(
     }),
 );
 
-/// Both blocks go to other tiers.
-const TO_OTHER_TIERS: Does = Does::Move(
-    &[
-        Move {
-            number: 5,
-            block: 0,
-            tier: 2,
-            place: 3,
-        },
-        Move {
-            number: 6,
-            block: 0,
-            tier: 1,
-            place: 0,
-        },
-    ],
-);
-
-/// One block moves twice, which is refused.
-const TWICE: Does = Does::Move(
-    &[
-        Move {
-            number: 5,
-            block: 0,
-            tier: 0,
-            place: 3,
-        },
-        Move {
-            number: 5,
-            block: 0,
-            tier: 0,
-            place: 4,
-        },
-    ],
-);
+/// Block 0 of the file goes to this place.
+fn to(number: u32, tier: u8, place: u32) -> Move {
+    Move {
+        number,
+        block: 0,
+        tier,
+        place,
+    }
+}
 
 /// Two workers look and judge before the moves; the first one lands after them, and the second one
 /// after it. Both are landed as they were judged.
 const BETWEEN_MOVES: Script = Script {
     limit: 100,
-    calls: &[ROOT_LEASED, FILES_CREATED, FILE_LEASED],
+    start: Start::TwoFiles,
     handed_in: (WRITE_LOG, WRITE_PLAN),
     steps: &[
         Look(0, 0),
         Look(1, 1),
         Judge(0),
-        TO_OTHER_TIERS,
+        Does::MoveBoth,
         Judge(1),
         Land(0),
-        TWICE,
+        Does::MoveTwice,
         Land(1),
     ],
-    replies: &[Some(Reply::Yes { position: 4, rejudged: false, need: 1 }), Some(Reply::Yes { position: 6, rejudged: false, need: 1 })],
+    due: &[Due::Yes(4, 1), Due::Yes(6, 1)],
     rows: 7,
     shown: &[],
     blocks: &[(5, None, b"ONE"), (6, Some((1, 0)), b"two")],
@@ -267,10 +242,10 @@ const BETWEEN_MOVES: Script = Script {
 /// The moves have the docket's last row, and the landing none.
 const MOVES_THAT_FILL: Script = Script {
     limit: 4,
-    calls: &[ROOT_LEASED, FILES_CREATED, FILE_LEASED],
+    start: Start::TwoFiles,
     handed_in: (WRITE_LOG, WRITE_PLAN),
-    steps: &[Look(0, 0), Judge(0), TO_OTHER_TIERS, Land(0), TWICE],
-    replies: &[None],
+    steps: &[Look(0, 0), Judge(0), Does::MoveBoth, Land(0), Does::MoveTwice],
+    due: &[Due::Left],
     rows: 4,
     shown: &[],
     blocks: &[(5, Some((2, 3)), b"one"), (6, Some((1, 0)), b"two")],
@@ -280,7 +255,7 @@ const MOVES_THAT_FILL: Script = Script {
 /// Another worker holds a view to the end, and the moment goes on meanwhile.
 const TRIED_AGAIN: Script = Script {
     limit: 100,
-    calls: &[ROOT_LEASED],
+    start: Start::Root,
     handed_in: CREATE,
     steps: &[
         Look(7, 1),
@@ -292,7 +267,7 @@ const TRIED_AGAIN: Script = Script {
         Judge(1),
         Land(1),
     ],
-    replies: &[Some(Reply::Yes { position: 2, rejudged: false, need: 0 }), None],
+    due: &[Due::Yes(2, 0), Due::Left],
     rows: 3,
     shown: &FILE,
     blocks: &[],
@@ -309,22 +284,40 @@ const SCRIPTS: [Script; 8] = [
     TRIED_AGAIN,
 ];
 
-fn step_of(does: Does) -> Step<'static> {
+/// The step, with the moves of both blocks and those of one.
+fn step_of<'a>(does: Does, both: &'a [Move], twice: &'a [Move]) -> Step<'a> {
     match does {
         Does::Look(worker, ticket) => Step::Look { worker, ticket },
         Does::Judge(worker) => Step::Judge { worker },
         Does::Land(worker) => Step::Land { worker },
         Does::Act(act) => Step::Act(act),
-        Does::Move(moves) => Step::Migrate { moves },
+        Does::MoveBoth => Step::Migrate { moves: both },
+        Does::MoveTwice => Step::Migrate { moves: twice },
     }
 }
 
-fn steps<A: Allocator + Copy>(alloc: A, script: &Script) -> Option<Vec<Step<'static>, A>> {
+fn steps<'a, A: Allocator + Copy>(
+    alloc: A,
+    script: &Script,
+    both: &'a [Move],
+    twice: &'a [Move],
+) -> Option<Vec<Step<'a>, A>> {
     let mut all = Vec::new(alloc);
     for step in script.steps {
-        all.push(step_of(*step)).ok()?;
+        all.push(step_of(*step, both, twice)).ok()?;
     }
     Some(all)
+}
+
+/// The desk at which it begins.
+fn desk_of<A: Allocator + Copy>(alloc: A, script: &Script) -> Option<Desk<A>> {
+    match script.start {
+        Start::Root => desk_after(alloc, script.limit, &[ROOT_LEASED]),
+        Start::TwoFiles => {
+            let calls = [ROOT_LEASED, FILES_CREATED, FILE_LEASED];
+            desk_after(alloc, script.limit, &calls)
+        }
+    }
 }
 
 /// What is handed in.
@@ -340,7 +333,7 @@ fn submission<A: Allocator + Copy>(alloc: A, script: &Script) -> Option<Submissi
 /// The same for each ticket.
 fn submissions<A: Allocator + Copy>(alloc: A, script: &Script) -> Option<Vec<Submission<A>, A>> {
     let mut all = Vec::new(alloc);
-    for _ in 0..script.replies.len() {
+    for _ in 0..script.due.len() {
         all.push(submission(alloc, script)?).ok()?;
     }
     Some(all)
@@ -354,77 +347,104 @@ fn is_handed_in<A: Allocator>(submission: &Submission<A>, script: &Script) -> bo
         && submission.plan.as_slice() == plan
 }
 
-/// Whether the submission is left as it was handed in.
-fn is_left<A: Allocator>(left: &Option<Submission<A>>, script: &Script) -> bool {
-    match left {
-        Some(submission) => is_handed_in(submission, script),
-        None => false,
-    }
+/// The reply that is due.
+fn reply_of(due: Due) -> Option<Reply> {
+    Some(match due {
+        Due::Yes(position, need) => Reply::Yes {
+            position,
+            rejudged: false,
+            need,
+        },
+        Due::YesAgain(position) => Reply::Yes {
+            position,
+            rejudged: true,
+            need: 0,
+        },
+        Due::NoLease(position) => Reply::No {
+            position,
+            rejudged: false,
+            fault: Fault::Entry(EntryFault {
+                index: 0,
+                reason: Reason::NoLease(1),
+            }),
+        },
+        Due::Left => return None,
+    })
 }
 
-/// Whether these are the replies, and what has none is left.
-fn are_settled<A: Allocator>(
-    end: &ScriptEnd<A>,
+/// Whether a ticket has the reply that is due, or is left if none is.
+fn is_settled<A: Allocator>(
+    reply: Option<Reply>,
+    left: &Option<Submission<A>>,
     script: &Script,
-    replies: &[Option<Reply>],
+    due: Due,
 ) -> bool {
-    if end.replies.as_slice() != replies || end.left.len() != replies.len() {
-        return false;
-    }
-    for (left, reply) in end.left.iter().zip(replies) {
-        if left.is_some() == reply.is_some() || left.is_some() != is_left(left, script) {
+    let is_right = match left {
+        Some(submission) => reply.is_none() && is_handed_in(submission, script),
+        None => reply.is_some(),
+    };
+    is_right && reply == reply_of(due)
+}
+
+/// Whether this is due to each ticket.
+fn are_settled<A: Allocator>(end: &ScriptEnd<A>, script: &Script, due: &[Due]) -> bool {
+    for (number, due) in due.iter().enumerate() {
+        let is_right = match (end.replies.get(number), end.left.get(number)) {
+            (Some(reply), Some(left)) => is_settled(*reply, left, script, *due),
+            _ => false,
+        };
+        if !is_right {
             return false;
         }
     }
-    true
+    end.replies.len() == due.len() && end.left.len() == due.len()
 }
 
 /// Whether the script has come to what is due.
 fn is_due<A: Allocator + Copy>(end: &ScriptEnd<A>, script: &Script) -> bool {
-    are_settled(end, script, script.replies)
+    are_settled(end, script, script.due)
         && end.desk.docket().len() == script.rows
         && shows(end.desk.image().shape(), script.shown)
         && has_blocks(end.desk.image(), script.blocks)
 }
 
-/// Whether the script comes to what is due.
-fn gives(alloc: Global, script: &Script) -> Option<bool> {
-    let steps = steps(alloc, script)?;
+/// Whether these steps come to what is due.
+fn gives(alloc: Global, script: &Script, steps: &[Step<'_>]) -> Option<bool> {
     let handed_in = submissions(alloc, script)?;
-    let desk = desk_after(alloc, script.limit, script.calls)?;
-    match run_script(alloc, desk, handed_in, &steps) {
+    let desk = desk_of(alloc, script)?;
+    match run_script(alloc, desk, handed_in, steps) {
         Ok(end) => Some(is_due(&end, script)),
         Err(_) => None,
+    }
+}
+
+/// Whether the script comes to what is due.
+fn is_given(alloc: Global, script: &Script) -> bool {
+    let both = [to(5, 2, 3), to(6, 1, 0)];
+    let twice = [to(5, 0, 3), to(5, 0, 4)];
+    match steps(alloc, script, &both, &twice) {
+        Some(steps) => gives(alloc, script, &steps) == Some(true),
+        None => false,
     }
 }
 
 #[test]
 fn scripts_of_workers(rt: HostRuntime) {
     for (number, script) in SCRIPTS.iter().enumerate() {
-        let given = gives(rt.alloc(), script);
-        assert!(rt; given == Some(true), "{number}");
+        assert!(rt; is_given(rt.alloc(), script), "{number}");
     }
 }
 
 // ---- with an allocation failing
 
-/// A Yes without a block, judged once.
-fn yes(position: u32) -> Option<Reply> {
-    Some(Reply::Yes {
-        position,
-        rejudged: false,
-        need: 0,
-    })
-}
-
 /// Whether the first ticket has a Yes in row 1 or 2 and the file is there, or else is left and there is none.
 fn is_lawful<A: Allocator + Copy>(end: &ScriptEnd<A>, script: &Script) -> bool {
     let shape = end.desk.image().shape();
-    if are_settled(end, script, &[None, None]) {
+    if are_settled(end, script, &[Due::Left, Due::Left]) {
         return shows(shape, &NO_FILE);
     }
-    let is_landed = are_settled(end, script, &[yes(1), None])
-        || are_settled(end, script, &[yes(2), None]);
+    let is_landed = are_settled(end, script, &[Due::Yes(1, 0), Due::Left])
+        || are_settled(end, script, &[Due::Yes(2, 0), Due::Left]);
     is_landed && shows(shape, &FILE)
 }
 
@@ -445,7 +465,7 @@ fn is_run<A: Allocator + Copy>(
     alloc: A,
     desk: Desk<A>,
     handed_in: Vec<Submission<A>, A>,
-    steps: &[Step<'static>],
+    steps: &[Step<'_>],
     script: &Script,
 ) -> bool {
     match run_script(alloc, desk, handed_in, steps) {
@@ -462,9 +482,9 @@ fn run_with_one_refused<A: Allocator + Copy>(
     script: &Script,
     growth: u64,
 ) -> Option<bool> {
-    let steps = steps(alloc, script)?;
+    let steps = steps(alloc, script, &[], &[])?;
     let handed_in = submissions(alloc, script)?;
-    let desk = desk_after(alloc, script.limit, script.calls)?;
+    let desk = desk_of(alloc, script)?;
     heap.refuse_after(growth);
     let is_right = is_run(alloc, desk, handed_in, &steps, script);
     is_right.then_some(heap.has_refused())

@@ -1,4 +1,4 @@
-//! A server in thirty lines: from a new image to a landing. docs/ARCHITECTURE.md shows the function `serve`.
+//! A server in thirty lines: from a new image to a landing. docs/ARCHITECTURE.md shows these functions.
 
 use kfs_desk::{Desk, Reply};
 use kfs_image::{Image, TierSizes};
