@@ -1,110 +1,64 @@
 //! Leases by number: who may have one, the refusals in their order, and one of a desk below a directory that
 //! the client can't search.
 
-use crate::desks::{AMPLE, is_accepted, opening, submission};
-use crate::leases::tree;
-use kfs_desk::{Act, ActFault, ActReply, Desk, Done, Unanswered};
-use kfs_image_nodes::Shape;
+use crate::desks::{AMPLE, Call, ROOT_LEASED, are_due, desk_after};
+use crate::leases::LeaseCall::{self, GrantAt};
+use crate::leases::expect_calls;
+use kfs_desk::{Act, ActFault, ActReply, Desk, Done, Reply, Unanswered};
+use kfs_lease::LeaseFault;
 use kfs_lease::LeaseKind::{Read, Write};
-use kfs_lease::{LeaseFault, LeaseKind, Leases};
-use kfs_mode::{Client, ClientFault};
-use kfs_plan::Submission;
 use kfs_test_support::refusing::Refusing;
 use std::alloc::{Allocator, Global};
 
-/// The client with this number, or client 7 where there is none. Client 7 owns all nodes but the root, client 8 is in
-/// their group, client 9 isn't, and client 10 is privileged.
-fn known(number: u32) -> Result<Client, ClientFault> {
-    match number {
-        8 => Client::new(8, 1001, 1001, &[50, 1000], false, 1, 0),
-        9 => Client::new(9, 1002, 1002, &[], false, 1, 0),
-        10 => Client::new(10, 1003, 1003, &[], true, 1, 0),
-        _ => Client::new(7, 1000, 1000, &[], false, 2, 99),
-    }
-}
-
-/// A client, a node's number, a kind, an end, and the answer that is due.
-type Asked = (u32, u32, LeaseKind, u64, Result<u32, LeaseFault>);
-
-/// Asks for a lease by number. A client that isn't known asks beside client 7.
-fn is_answered(leases: &mut Leases<Global>, shape: &Shape<Global>, asked: &Asked) -> bool {
-    let (client, number, kind, end, wanted) = *asked;
-    match known(client) {
-        Ok(row) => leases.grant_at(shape, &[row], client, number, kind, end) == wanted,
-        Err(_) => false,
-    }
-}
-
-/// Asks with no leases at first, and answers how many come before the first one with another answer.
-fn answered(alloc: Global, shape: &Shape<Global>, asked: &[Asked]) -> usize {
-    let mut leases = Leases::new(alloc);
-    let mut count = 0usize;
-    for each in asked {
-        if !is_answered(&mut leases, shape, each) {
-            return count;
-        }
-        count = count.saturating_add(1);
-    }
-    count
-}
-
-/// The same on the nodes of `leases`.
-fn answered_there(alloc: Global, asked: &[Asked]) -> Option<usize> {
-    let desk = tree(alloc)?;
-    Some(answered(alloc, desk.image().shape(), asked))
-}
-
 /// Node 5 has mode 0644, 20 0755, 30 0666, 31 0111, 120 0700, and 122, which lies in 20 and 121, mode 0. Each
 /// client asks for the other kind than the one before it only where it may have both.
-const BY_BITS: [Asked; 20] = [
-    (7, 122, Read, 9, Err(LeaseFault::NotAllowed)),
-    (7, 122, Write, 9, Ok(122)),
-    (7, 31, Read, 9, Err(LeaseFault::NotAllowed)),
-    (7, 31, Write, 9, Ok(31)),
-    (8, 5, Read, 9, Ok(5)),
-    (8, 5, Write, 9, Err(LeaseFault::NotAllowed)),
-    (8, 30, Write, 9, Ok(30)),
-    (8, 30, Read, 9, Ok(30)),
-    (8, 120, Read, 9, Err(LeaseFault::NotAllowed)),
-    (8, 120, Write, 9, Err(LeaseFault::NotAllowed)),
-    (9, 5, Read, 9, Ok(5)),
-    (9, 20, Read, 9, Ok(20)),
-    (9, 20, Write, 9, Err(LeaseFault::NotAllowed)),
-    (9, 1, Write, 9, Ok(1)),
-    (9, 1, Read, 9, Ok(1)),
-    (9, 122, Read, 9, Err(LeaseFault::NotAllowed)),
-    (10, 120, Read, 9, Ok(120)),
-    (10, 120, Write, 9, Ok(120)),
-    (10, 5, Read, 9, Ok(5)),
-    (10, 121, Write, 9, Ok(121)),
+const BY_BITS: [LeaseCall<'static>; 20] = [
+    GrantAt((7, 122, Read, 9, Err(LeaseFault::NotAllowed))),
+    GrantAt((7, 122, Write, 9, Ok(122))),
+    GrantAt((7, 31, Read, 9, Err(LeaseFault::NotAllowed))),
+    GrantAt((7, 31, Write, 9, Ok(31))),
+    GrantAt((8, 5, Read, 9, Ok(5))),
+    GrantAt((8, 5, Write, 9, Err(LeaseFault::NotAllowed))),
+    GrantAt((8, 30, Write, 9, Ok(30))),
+    GrantAt((8, 30, Read, 9, Ok(30))),
+    GrantAt((8, 120, Read, 9, Err(LeaseFault::NotAllowed))),
+    GrantAt((8, 120, Write, 9, Err(LeaseFault::NotAllowed))),
+    GrantAt((9, 5, Read, 9, Ok(5))),
+    GrantAt((9, 20, Read, 9, Ok(20))),
+    GrantAt((9, 20, Write, 9, Err(LeaseFault::NotAllowed))),
+    GrantAt((9, 1, Write, 9, Ok(1))),
+    GrantAt((9, 1, Read, 9, Ok(1))),
+    GrantAt((9, 122, Read, 9, Err(LeaseFault::NotAllowed))),
+    GrantAt((10, 120, Read, 9, Ok(120))),
+    GrantAt((10, 120, Write, 9, Ok(120))),
+    GrantAt((10, 5, Read, 9, Ok(5))),
+    GrantAt((10, 121, Write, 9, Ok(121))),
 ];
 
 /// Each call that is refused fails each later test, too.
-const IN_ORDER: [Asked; 12] = [
-    (7, 5, Write, 100, Ok(5)),
-    (11, 6, Write, 0, Err(LeaseFault::UnknownClient)),
-    (9, 6, Write, 0, Err(LeaseFault::NoSuchNode)),
-    (9, 0, Read, 0, Err(LeaseFault::NoSuchNode)),
-    (9, u32::MAX, Read, 0, Err(LeaseFault::NoSuchNode)),
-    (9, 5, Write, 0, Err(LeaseFault::NotAllowed)),
-    (9, 5, Read, 0, Err(LeaseFault::Past)),
-    (9, 5, Read, 1, Err(LeaseFault::LeaseHeld(7))),
-    (7, 5, Read, 100, Ok(5)),
-    (9, 5, Read, 1, Ok(5)),
-    (8, 5, Read, 1, Ok(5)),
-    (10, 5, Write, 1, Err(LeaseFault::LeaseHeld(7))),
+const IN_ORDER: [LeaseCall<'static>; 12] = [
+    GrantAt((7, 5, Write, 100, Ok(5))),
+    GrantAt((11, 6, Write, 0, Err(LeaseFault::UnknownClient))),
+    GrantAt((9, 6, Write, 0, Err(LeaseFault::NoSuchNode))),
+    GrantAt((9, 0, Read, 0, Err(LeaseFault::NoSuchNode))),
+    GrantAt((9, u32::MAX, Read, 0, Err(LeaseFault::NoSuchNode))),
+    GrantAt((9, 5, Write, 0, Err(LeaseFault::NotAllowed))),
+    GrantAt((9, 5, Read, 0, Err(LeaseFault::Past))),
+    GrantAt((9, 5, Read, 1, Err(LeaseFault::LeaseHeld(7)))),
+    GrantAt((7, 5, Read, 100, Ok(5))),
+    GrantAt((9, 5, Read, 1, Ok(5))),
+    GrantAt((8, 5, Read, 1, Ok(5))),
+    GrantAt((10, 5, Write, 1, Err(LeaseFault::LeaseHeld(7)))),
 ];
 
 #[test]
 fn bits_permit_a_lease(rt: HostRuntime) {
-    let count = answered_there(rt.alloc(), &BY_BITS);
-    assert!(rt; count == Some(BY_BITS.len()), "{count:?}");
+    expect_calls(&rt, &BY_BITS);
 }
 
 #[test]
 fn refusals_come_in_their_order(rt: HostRuntime) {
-    let count = answered_there(rt.alloc(), &IN_ORDER);
-    assert!(rt; count == Some(IN_ORDER.len()), "{count:?}");
+    expect_calls(&rt, &IN_ORDER);
 }
 
 /// Client 7 makes directory 20, named `d`, and in it file 5, named `a`. Then it takes all bits from the
@@ -140,101 +94,100 @@ const BY_NUMBER: Act<'static> = Act::LeaseAt {
     end: 100,
 };
 
-/// A desk with that directory. Its docket has two rows.
-fn closed<A: Allocator + Copy>(alloc: A) -> Option<Desk<A>> {
-    let submission = submission(alloc, CLOSED_LOG, CLOSED_PLAN).ok()?;
-    let mut desk = opening(alloc, 5)?;
-    is_accepted(&mut desk, submission, 1).then_some(desk)
-}
+const CLOSED: Call<'static> = Call::Submit(
+    CLOSED_LOG,
+    CLOSED_PLAN,
+    Ok(Reply::Yes {
+        position: 1,
+        rejudged: false,
+        need: 0,
+    }),
+);
 
-fn is_reply<A: Allocator + Copy>(
-    desk: &mut Desk<A>,
-    act: Act<'_>,
-    wanted: Result<ActReply, Unanswered>,
-) -> bool {
-    desk.act(act) == wanted
-}
+const CHANGED: Call<'static> = Call::Submit(
+    CHMOD_LOG,
+    CHMOD_PLAN,
+    Ok(Reply::Yes {
+        position: 4,
+        rejudged: false,
+        need: 0,
+    }),
+);
 
-/// Whether client 7, which can't search the directory, leases the file by its number and changes it. The docket is full then.
-fn changes_below(desk: &mut Desk<Global>, submission: Submission<Global>) -> bool {
-    let refused = ActReply {
-        position: 2,
-        answer: Err(ActFault::Lease(LeaseFault::NoSearch(1))),
-    };
-    let leased = ActReply {
-        position: 3,
-        answer: Ok(Done::Leased(5)),
-    };
-    is_reply(desk, BY_PATH, Ok(refused))
-        && is_reply(desk, BY_NUMBER, Ok(leased))
-        && is_accepted(desk, submission, 4)
-        && is_reply(desk, BY_NUMBER, Err(Unanswered::DocketFull))
-}
-
-/// The same on a desk of its own.
-fn is_changed_below(alloc: Global) -> Option<bool> {
-    let submission = submission(alloc, CHMOD_LOG, CHMOD_PLAN).ok()?;
-    let mut desk = closed(alloc)?;
-    Some(changes_below(&mut desk, submission))
-}
+/// Client 7, which can't search the directory, leases the file by its number and changes it. The docket is full then.
+const BELOW_A_CLOSED_DIRECTORY: [Call<'static>; 6] = [
+    ROOT_LEASED,
+    CLOSED,
+    Call::Act(
+        BY_PATH,
+        Ok(ActReply {
+            position: 2,
+            answer: Err(ActFault::Lease(LeaseFault::NoSearch(1))),
+        }),
+    ),
+    Call::Act(
+        BY_NUMBER,
+        Ok(ActReply {
+            position: 3,
+            answer: Ok(Done::Leased(5)),
+        }),
+    ),
+    CHANGED,
+    Call::Act(BY_NUMBER, Err(Unanswered::DocketFull)),
+];
 
 #[test]
 fn a_file_is_changed_below_a_directory_without_search(rt: HostRuntime) {
-    assert!(rt; is_changed_below(rt.alloc()) == Some(true));
+    assert!(rt; are_due(rt.alloc(), 5, &BELOW_A_CLOSED_DIRECTORY));
+}
+
+/// The lease by number, as row 2.
+const LEASED: Result<ActReply, Unanswered> = Ok(ActReply {
+    position: 2,
+    answer: Ok(Done::Leased(5)),
+});
+
+fn ask<A: Allocator + Copy>(desk: &mut Desk<A>) -> Result<ActReply, Unanswered> {
+    desk.act(BY_NUMBER)
 }
 
 /// Asks with only the allocation of this index failing, and once more where it was refused. Answers whether there was such
-/// an allocation; none where the outcome is wrong.
+/// an allocation; none where an answer is wrong.
 fn asked_beside<A: Allocator + Copy>(
     heap: &Refusing<Global>,
     desk: &mut Desk<A>,
     growth: u64,
 ) -> Option<bool> {
     heap.refuse_after(growth);
-    let first = desk.act(BY_NUMBER);
+    let first = ask(desk);
     let is_refused = heap.has_refused();
     heap.refuse_after(AMPLE);
-    let leased = ActReply {
-        position: 2,
-        answer: Ok(Done::Leased(5)),
-    };
-    let is_right = match first {
-        Ok(reply) => !is_refused && reply == leased,
-        Err(why) => {
-            is_refused && why == Unanswered::OutOfMemory && is_reply(desk, BY_NUMBER, Ok(leased))
-        }
+    let is_right = if is_refused {
+        first == Err(Unanswered::OutOfMemory) && ask(desk) == LEASED
+    } else {
+        first == LEASED
     };
     is_right.then_some(is_refused)
 }
 
-/// The same on a desk of its own, beside a view, which shows what it showed.
-fn asked_with_one_refused(heap: &Refusing<Global>, growth: u64) -> Option<bool> {
-    let mut desk = closed(heap)?;
+/// The same beside a view, which is taken with no memory left, and shows what it showed.
+fn asked_beside_a_view<A: Allocator + Copy>(
+    heap: &Refusing<Global>,
+    desk: &mut Desk<A>,
+    growth: u64,
+) -> Option<bool> {
+    heap.refuse_after(0);
     let view = desk.view().ok()?;
-    let is_refused = asked_beside(heap, &mut desk, growth);
+    let is_refused = asked_beside(heap, desk, growth);
     if view.holds(7, 5) { None } else { is_refused }
 }
 
-/// How many allocations the call asks for beside a view, each refused in turn; or as an error the index of one at
-/// which the outcome is wrong.
-fn growths(alloc: Global) -> Result<u64, u64> {
-    for growth in 0..100u64 {
-        let heap = Refusing::new(alloc, AMPLE);
-        match asked_with_one_refused(&heap, growth) {
-            Some(true) => {}
-            Some(false) => return Ok(growth),
-            None => return Err(growth),
-        }
-    }
-    Err(100)
-}
-
-#[test]
-fn each_growth_of_a_lease_by_number_refused(rt: HostRuntime) {
-    let count = growths(rt.alloc());
-    let is_right = match count {
-        Ok(count) => 0 < count,
-        Err(_) => false,
-    };
-    assert!(rt; is_right, "{count:?}");
+/// The same on a desk of its own.
+pub fn asked_with_one_refused<A: Allocator + Copy>(
+    alloc: A,
+    heap: &Refusing<Global>,
+    growth: u64,
+) -> Option<bool> {
+    let mut desk = desk_after(alloc, 5, &[ROOT_LEASED, CLOSED])?;
+    asked_beside_a_view(heap, &mut desk, growth)
 }

@@ -1,188 +1,158 @@
 //! Calls of the desk and of the image, each in a function without clauses.
 
-use kfs_desk::{Act, ActReply, Desk, Done, Reply};
-use kfs_image::{Answer, Cell, Header, Image, Kind, Name, Shape, TierSizes, look};
+use kfs_desk::{Act, ActReply, Desk, Done, Reply, Unanswered, Why};
+use kfs_image::{Answer, Cell, Header, Image, Kind, Name, Shape, TierSizes, look, read_file};
 use kfs_lease::LeaseKind;
 use kfs_mode::{Client, ClientFault};
-use kfs_plan::{Back, Submission, Why};
 use kfs_test_support::vectors::{CREATE_LOG, CREATE_PLAN};
-use std::alloc::{AllocError, Allocator};
+use std::alloc::Allocator;
 
 /// More allocations than anything here asks for.
 pub const AMPLE: u64 = 1 << 40;
 
-/// A client of uid and gid 1000 with the numbers 2 to `last`.
-pub fn client(number: u32, last: u32) -> Result<Client, ClientFault> {
-    Client::new(number, 1000, 1000, &[], false, 2, last)
+/// The client 7 of uid and gid 1000, which may give the numbers from 2 on.
+pub fn client() -> Result<Client, ClientFault> {
+    Client::new(7, 1000, 1000, &[], false, 2, 65_536)
 }
 
-/// A desk with a new image that has this many blocks on tier 0, and with client 7, whose numbers begin
-/// at 2.
-pub fn begun<A: Allocator + Copy>(alloc: A, blocks: u32, limit: u32) -> Option<Desk<A>> {
-    let clients = vec![in alloc; client(7, 65_536).ok()?].ok()?;
-    let image = Image::fresh(alloc, TierSizes::new(blocks, 8, 8)?).ok()?;
+/// A desk with a new image of three tiers of 8 blocks, with that client, and with a docket of at most `limit` rows.
+pub fn begun<A: Allocator + Copy>(alloc: A, limit: u32) -> Option<Desk<A>> {
+    let clients = vec![in alloc; client().ok()?].ok()?;
+    let image = Image::fresh(alloc, TierSizes::new(8, 8, 8)?).ok()?;
     Desk::begin(alloc, image, clients, limit).ok()
 }
 
-/// Whether both are the same.
-fn is_reply(reply: &ActReply, wanted: &ActReply) -> bool {
-    reply == wanted
+/// A call of the desk, and its answer that is due.
+#[derive(Clone, Copy)]
+pub enum Call<'a> {
+    Act(Act<'a>, Result<ActReply, Unanswered>),
+    /// A log of client 7 and its plan.
+    Submit(&'a [u8], &'a [u8], Result<Reply, Why>),
 }
 
-/// Whether client 7 is granted a write lease on the node with this number at the path, in this row of
-/// the docket.
-pub fn is_leased<A: Allocator + Copy>(
-    desk: &mut Desk<A>,
-    path: &[u8],
-    number: u32,
-    position: u32,
-) -> bool {
-    let act = Act::Lease {
+/// Client 7 is granted a write lease on the root, as row 0.
+pub const ROOT_LEASED: Call<'static> = Call::Act(
+    Act::Lease {
         client: 7,
-        path,
+        path: b"/",
         kind: LeaseKind::Write,
         end: 100,
-    };
-    let answer = Ok(Done::Leased(number));
-    match desk.act(act) {
-        Ok(reply) => is_reply(&reply, &ActReply { position, answer }),
-        Err(_) => false,
-    }
+    },
+    Ok(ActReply {
+        position: 0,
+        answer: Ok(Done::Leased(1)),
+    }),
+);
+
+/// Client 7 creates file 5, named `a`, in the root, as row 1.
+pub const CREATED: Call<'static> = Call::Submit(
+    CREATE_LOG,
+    CREATE_PLAN,
+    Ok(Reply::Yes {
+        position: 1,
+        rejudged: false,
+        need: 0,
+    }),
+);
+
+/// Client 7 is granted a write lease on the file `a`, as row 2.
+pub const FILE_LEASED: Call<'static> = Call::Act(
+    Act::Lease {
+        client: 7,
+        path: b"/a",
+        kind: LeaseKind::Write,
+        end: 100,
+    },
+    Ok(ActReply {
+        position: 2,
+        answer: Ok(Done::Leased(5)),
+    }),
+);
+
+fn is_acted<A: Allocator + Copy>(
+    desk: &mut Desk<A>,
+    act: Act<'_>,
+    due: Result<ActReply, Unanswered>,
+) -> bool {
+    desk.act(act) == due
 }
 
-/// Such a desk with 8 blocks and a docket of at most `limit` rows. Client 7 holds a write lease on the
-/// root, which is row 0.
-pub fn opening<A: Allocator + Copy>(alloc: A, limit: u32) -> Option<Desk<A>> {
-    opening_over(alloc, 8, limit)
-}
-
-/// The same with this many blocks on tier 0.
-pub fn opening_over<A: Allocator + Copy>(alloc: A, blocks: u32, limit: u32) -> Option<Desk<A>> {
-    let mut desk = begun(alloc, blocks, limit)?;
-    if is_leased(&mut desk, b"/", 1, 0) {
-        Some(desk)
-    } else {
-        None
-    }
-}
-
-/// Such a desk with at most 100 rows. It has answered Yes to this log and plan, in row 1.
-pub fn grown<A: Allocator + Copy>(alloc: A, log: &[u8], plan: &[u8]) -> Option<Desk<A>> {
-    let submission = submission(alloc, log, plan).ok()?;
-    let mut desk = opening(alloc, 100)?;
-    if is_accepted(&mut desk, submission, 1) {
-        Some(desk)
-    } else {
-        None
-    }
-}
-
-/// A submission of client 7.
-pub fn submission<A: Allocator + Copy>(
-    alloc: A,
+fn is_submitted<A: Allocator + Copy>(
+    desk: &mut Desk<A>,
     log: &[u8],
     plan: &[u8],
-) -> Result<Submission<A>, AllocError> {
-    Ok(Submission {
-        client: 7,
-        log: Vec::from_slice(alloc, log)?,
-        plan: Vec::from_slice(alloc, plan)?,
-    })
-}
-
-/// The Create of file 5, named `a`, in the root.
-pub fn create<A: Allocator + Copy>(alloc: A) -> Result<Submission<A>, AllocError> {
-    submission(alloc, CREATE_LOG, CREATE_PLAN)
-}
-
-/// Whether the submission was answered so, or came back for this reason.
-fn is_answer<A: Allocator>(given: &Result<Reply, Back<A>>, wanted: &Result<Reply, Why>) -> bool {
-    match (given, wanted) {
-        (Ok(reply), Ok(wanted)) => reply == wanted,
-        (Err(back), Err(why)) => back.why == *why,
-        _ => false,
-    }
-}
-
-/// Hands in the submission, and answers whether the reply is this.
-pub fn is_answered<A: Allocator + Copy>(
-    desk: &mut Desk<A>,
-    submission: Submission<A>,
-    wanted: &Result<Reply, Why>,
+    due: Result<Reply, Why>,
 ) -> bool {
-    is_answer(&desk.submit(submission), wanted)
+    desk.submit_bytes(7, log, plan) == due
 }
 
-pub fn yes(position: u32) -> Reply {
-    landed(position, 0)
-}
-
-/// A Yes to a log that writes this many blocks.
-pub fn landed(position: u32, need: u64) -> Reply {
-    Reply::Yes {
-        position,
-        rejudged: false,
-        need,
+/// Makes the call, and says whether it is answered as is due.
+pub fn is_answered<A: Allocator + Copy>(desk: &mut Desk<A>, call: Call<'_>) -> bool {
+    match call {
+        Call::Act(act, due) => is_acted(desk, act, due),
+        Call::Submit(log, plan, due) => is_submitted(desk, log, plan, due),
     }
 }
 
-/// Hands in the submission, and answers whether it is accepted, in this row of the docket.
-pub fn is_accepted<A: Allocator + Copy>(
-    desk: &mut Desk<A>,
-    submission: Submission<A>,
-    position: u32,
-) -> bool {
-    is_answered(desk, submission, &Ok(yes(position)))
+/// Makes these calls in order, up to the first with another answer. Whether there is none.
+pub fn are_answered<A: Allocator + Copy>(desk: &mut Desk<A>, calls: &[Call<'_>]) -> bool {
+    for call in calls {
+        if !is_answered(desk, *call) {
+            return false;
+        }
+    }
+    true
 }
 
-/// A desk with this many blocks on tier 0, and with the empty file 5, on which client 7 holds a write
-/// lease. The docket's next row is row 3.
-pub fn desk_with_file<A: Allocator + Copy>(alloc: A, blocks: u32) -> Option<Desk<A>> {
-    let create = create(alloc).ok()?;
-    let mut desk = opening_over(alloc, blocks, 100)?;
-    if is_accepted(&mut desk, create, 1) && is_leased(&mut desk, b"/a", 5, 2) {
-        Some(desk)
-    } else {
-        None
+/// Such a desk after these calls, if they are answered as is due.
+pub fn desk_after<A: Allocator + Copy>(
+    alloc: A,
+    limit: u32,
+    calls: &[Call<'_>],
+) -> Option<Desk<A>> {
+    let mut desk = begun(alloc, limit)?;
+    let is_right = are_answered(&mut desk, calls);
+    is_right.then_some(desk)
+}
+
+/// Whether these calls of such a desk are answered as is due.
+pub fn are_due(alloc: impl Allocator + Copy, limit: u32, calls: &[Call<'_>]) -> bool {
+    match begun(alloc, limit) {
+        Some(mut desk) => are_answered(&mut desk, calls),
+        None => false,
     }
 }
 
-/// What an image shows.
+/// What an image shows of its nodes.
 #[derive(Clone, Copy)]
 pub enum Shown<'a> {
-    /// A node of uid and gid 1000, of this kind and mode, with one name and no bytes.
-    Node(u32, Kind, u16),
+    /// A file of uid and gid 1000 and of mode 0o644, with one name and no bytes.
+    File(u32),
     /// There is no node with this number.
     NoNode(u32),
     /// A name of a directory leads to this number, or nowhere.
     Name(u32, &'a [u8], Option<u32>),
     /// How many names a directory has.
     Count(u32, u64),
-    /// The parent of a directory.
-    Parent(u32, Option<u32>),
 }
 
-/// The cell of a header, and the header of uid and gid 1000 with one name and no bytes.
-fn header_cell(number: u32, kind: Kind, mode: u16) -> (Cell, Answer) {
-    let header = Header {
-        kind,
-        mode,
-        uid: 1000,
-        gid: 1000,
-        links: 1,
-        size: 0,
-    };
-    (Cell::Header(number), Answer::Header(Some(header)))
-}
+/// The header of such a file.
+const FILE_HEADER: Header = Header {
+    kind: Kind::File,
+    mode: 0o644,
+    uid: 1000,
+    gid: 1000,
+    links: 1,
+    size: 0,
+};
 
 /// The cell, and what it shows.
 fn cell_of(shown: Shown<'_>) -> Option<(Cell, Answer)> {
     Some(match shown {
-        Shown::Node(number, kind, mode) => header_cell(number, kind, mode),
+        Shown::File(number) => (Cell::Header(number), Answer::Header(Some(FILE_HEADER))),
         Shown::NoNode(number) => (Cell::Header(number), Answer::Header(None)),
         Shown::Name(dir, name, number) => (Cell::Name(dir, Name::new(name)?), Answer::Name(number)),
         Shown::Count(number, count) => (Cell::Count(number), Answer::Count(count)),
-        Shown::Parent(number, parent) => (Cell::Parent(number), Answer::Parent(parent)),
     })
 }
 
@@ -212,7 +182,29 @@ pub const NO_FILE: [Shown<'static>; 3] = [
 
 /// File 5 of the Create, with the only name of the root.
 pub const FILE: [Shown<'static>; 3] = [
-    Shown::Node(5, Kind::File, 0o644),
+    Shown::File(5),
     Shown::Name(1, b"a", Some(5)),
     Shown::Count(1, 1),
 ];
+
+/// A file's number, where its first block lies, if that is asked for, and its three bytes.
+pub type Block<'a> = (u32, Option<(u8, u32)>, &'a [u8]);
+
+/// Whether a read of the file gives these three bytes and no more.
+fn reads<A: Allocator>(image: &Image<A>, number: u32, bytes: &[u8]) -> bool {
+    let mut buffer = [0u8; 4];
+    let count = read_file(image, number, 0, &mut buffer);
+    count == Ok(3) && buffer.get(..3) == Some(bytes)
+}
+
+/// Whether the image has these blocks.
+pub fn has_blocks<A: Allocator>(image: &Image<A>, blocks: &[Block<'_>]) -> bool {
+    for block in blocks {
+        let (number, place, bytes) = *block;
+        let is_placed = place.is_none() || image.place_of(number, 0) == place;
+        if !is_placed || !reads(image, number, bytes) {
+            return false;
+        }
+    }
+    true
+}

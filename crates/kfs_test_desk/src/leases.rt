@@ -1,11 +1,12 @@
 //! Leases through calls: paths that no command line can hold, nodes that are removed, and copies. All
-//! clients here, and all nodes below the root, have uid and gid 1000.
+//! nodes below the root have uid and gid 1000.
 
-use crate::desks::{AMPLE, client, grown};
-use kfs_desk::Desk;
+use crate::desks::{AMPLE, Call, ROOT_LEASED, desk_after};
+use kfs_desk::{Desk, Reply};
 use kfs_image_nodes::Shape;
 use kfs_lease::LeaseKind::{Read, Write};
 use kfs_lease::{LeaseFault, LeaseKind, Leases};
+use kfs_mode::{Client, ClientFault};
 use kfs_test_support::refusing::Refusing;
 use kfs_types::Nothing;
 use std::alloc::{Allocator, Global};
@@ -31,12 +32,33 @@ const TREE_PLAN: &[u8] =
       \x03\xe8\0\x01\0\0\0\0\0\0\0\0\0\0\0z\x01\0\0\0\0\x03\xe8\0\0\x03\xe8\0\x01\0\0\
       \0\0\0\0\0\0";
 
+const TREE_MADE: Call<'static> = Call::Submit(
+    TREE_LOG,
+    TREE_PLAN,
+    Ok(Reply::Yes {
+        position: 1,
+        rejudged: false,
+        need: 0,
+    }),
+);
+
 /// A desk with these nodes, if there is memory.
 pub fn tree<A: Allocator + Copy>(alloc: A) -> Option<Desk<A>> {
-    grown(alloc, TREE_LOG, TREE_PLAN)
+    desk_after(alloc, 100, &[ROOT_LEASED, TREE_MADE])
 }
 
-/// Asks for a lease; the client is a known one.
+/// The client with this number, or client 7 where there is none. Client 7 owns all nodes but the root, client 8 is in
+/// their group, client 9 isn't, and client 10 is privileged.
+fn known(number: u32) -> Result<Client, ClientFault> {
+    match number {
+        8 => Client::new(8, 1001, 1001, &[50, 1000], false, 1, 0),
+        9 => Client::new(9, 1002, 1002, &[], false, 1, 0),
+        10 => Client::new(10, 1003, 1003, &[], true, 1, 0),
+        _ => Client::new(7, 1000, 1000, &[], false, 2, 99),
+    }
+}
+
+/// Asks for a lease by path.
 fn grant<A: Allocator + Copy>(
     leases: &mut Leases<A>,
     shape: &Shape<A>,
@@ -45,19 +67,35 @@ fn grant<A: Allocator + Copy>(
     kind: LeaseKind,
     end: u64,
 ) -> Result<u32, LeaseFault> {
-    let Ok(client) = client(number, 1) else {
+    let Ok(client) = known(number) else {
         return Err(LeaseFault::UnknownClient);
     };
     leases.grant(shape, &[client], number, path.as_bytes(), kind, end)
 }
 
-/// Gives up a lease; the client is a known one.
+/// A client, a node's number, a kind, an end, and the answer that is due.
+pub type Asked = (u32, u32, LeaseKind, u64, Result<u32, LeaseFault>);
+
+/// Asks for a lease by number. A client that isn't known asks beside client 7.
+fn is_granted_at<A: Allocator + Copy>(
+    leases: &mut Leases<A>,
+    shape: &Shape<A>,
+    asked: Asked,
+) -> bool {
+    let (number, node, kind, end, due) = asked;
+    match known(number) {
+        Ok(client) => leases.grant_at(shape, &[client], number, node, kind, end) == due,
+        Err(_) => false,
+    }
+}
+
+/// Gives up a lease.
 fn drop_lease<A: Allocator + Copy>(
     leases: &mut Leases<A>,
     number: u32,
     node: u32,
 ) -> Result<(), LeaseFault> {
-    let Ok(client) = client(number, 1) else {
+    let Ok(client) = known(number) else {
         return Err(LeaseFault::UnknownClient);
     };
     leases.drop_lease(&[client], number, node)
@@ -65,13 +103,15 @@ fn drop_lease<A: Allocator + Copy>(
 
 /// A call for leases, with the answer that is expected.
 #[derive(Clone, Copy)]
-enum LeaseCall<'a> {
+pub enum LeaseCall<'a> {
     Grant(u32, &'a str, LeaseKind, u64, Result<u32, LeaseFault>),
     Drop(u32, u32, Result<(), LeaseFault>),
     Tick(u64, Result<(), LeaseFault>),
     Holds(u32, u32, bool),
     Moment(u64),
     RemoveNodes(&'a [u32]),
+    /// By number.
+    GrantAt(Asked),
 }
 
 /// Makes the call, and says whether the answer is the expected one.
@@ -81,14 +121,15 @@ fn is_answered<A: Allocator + Copy>(
     call: LeaseCall<'_>,
 ) -> bool {
     match call {
-        LeaseCall::Grant(client, path, kind, end, wanted) => {
-            grant(leases, shape, client, path, kind, end) == wanted
+        LeaseCall::Grant(client, path, kind, end, due) => {
+            grant(leases, shape, client, path, kind, end) == due
         }
-        LeaseCall::Drop(client, number, wanted) => drop_lease(leases, client, number) == wanted,
-        LeaseCall::Tick(moment, wanted) => leases.tick(moment) == wanted,
-        LeaseCall::Holds(client, number, wanted) => leases.holds(client, number) == wanted,
-        LeaseCall::Moment(wanted) => leases.moment() == wanted,
+        LeaseCall::Drop(client, number, due) => drop_lease(leases, client, number) == due,
+        LeaseCall::Tick(moment, due) => leases.tick(moment) == due,
+        LeaseCall::Holds(client, number, due) => leases.holds(client, number) == due,
+        LeaseCall::Moment(due) => leases.moment() == due,
         LeaseCall::RemoveNodes(numbers) => leases.remove_nodes(numbers, &mut Nothing).is_ok(),
+        LeaseCall::GrantAt(asked) => is_granted_at(leases, shape, asked),
     }
 }
 
@@ -108,16 +149,20 @@ fn make_calls<A: Allocator + Copy>(
     count
 }
 
-/// Makes the calls on the tree of this module, with no leases at first. Answers how many are answered
-/// as expected.
+/// Makes the calls with no leases at first.
+fn answered_on(alloc: Global, shape: &Shape<Global>, calls: &[LeaseCall<'_>]) -> usize {
+    let mut leases = Leases::new(alloc);
+    make_calls(&mut leases, shape, calls)
+}
+
+/// The same on the tree of this module.
 fn answered(alloc: Global, calls: &[LeaseCall<'_>]) -> Option<usize> {
     let desk = tree(alloc)?;
-    let mut leases = Leases::new(alloc);
-    Some(make_calls(&mut leases, desk.image().shape(), calls))
+    Some(answered_on(alloc, desk.image().shape(), calls))
 }
 
 /// Expects that all calls are answered as expected.
-fn expect_calls(rt: &(impl Abort + AllocGlobal), calls: &[LeaseCall<'_>]) {
+pub fn expect_calls(rt: &(impl Abort + AllocGlobal), calls: &[LeaseCall<'_>]) {
     let count = answered(rt.alloc(), calls);
     assert!(rt; count == Some(calls.len()), "{count:?}");
 }
@@ -153,9 +198,6 @@ fn paths_that_no_line_can_say(rt: HostRuntime) {
 fn calls_and_nodes_that_go(rt: HostRuntime) {
     expect_calls(&rt, &CALLS_AND_NODES_THAT_GO);
 }
-
-/// More allocations than the calls of this module ask for.
-const MANY: u64 = 400;
 
 const BEFORE_THE_GROWTHS: [LeaseCall<'static>; 8] = [
     LeaseCall::Grant(7, "/a", Read, 10, Ok(5)),
@@ -210,10 +252,10 @@ const ON_THE_TABLE_THEN: [LeaseCall<'static>; 6] = [
 ];
 
 /// Makes the call, and once more where it was the one for which memory ran out.
-fn is_answered_at_last<'a>(
-    heap: &'a Refusing<Global>,
-    leases: &mut Leases<&'a Refusing<Global>>,
-    shape: &Shape<&'a Refusing<Global>>,
+fn is_answered_at_last<A: Allocator + Copy>(
+    heap: &Refusing<Global>,
+    leases: &mut Leases<A>,
+    shape: &Shape<A>,
     call: LeaseCall<'_>,
 ) -> bool {
     let was_refused = heap.has_refused();
@@ -222,10 +264,10 @@ fn is_answered_at_last<'a>(
 }
 
 /// A copy of the table, asked for once more where memory ran out for it.
-fn copied_at_last<'a>(
-    heap: &'a Refusing<Global>,
-    leases: &Leases<&'a Refusing<Global>>,
-) -> Option<Leases<&'a Refusing<Global>>> {
+fn copied_at_last<A: Allocator + Copy>(
+    heap: &Refusing<Global>,
+    leases: &Leases<A>,
+) -> Option<Leases<A>> {
     match leases.copy() {
         Ok(copied) => Some(copied),
         Err(_) if heap.has_refused() => leases.copy().ok(),
@@ -235,10 +277,10 @@ fn copied_at_last<'a>(
 
 /// Makes these calls in order, each once more where it was the one for which memory ran out. Whether they are answered as
 /// expected.
-fn are_answered_at_last<'a>(
-    heap: &'a Refusing<Global>,
-    leases: &mut Leases<&'a Refusing<Global>>,
-    shape: &Shape<&'a Refusing<Global>>,
+fn are_answered_at_last<A: Allocator + Copy>(
+    heap: &Refusing<Global>,
+    leases: &mut Leases<A>,
+    shape: &Shape<A>,
     calls: &[LeaseCall<'_>],
 ) -> bool {
     for call in calls {
@@ -251,10 +293,10 @@ fn are_answered_at_last<'a>(
 
 /// Copies the table and makes the calls beside the copy, with only the allocation of this index failing; then goes on with
 /// the copy, and with the table. Answers whether there was such an allocation; none where the outcome is wrong.
-fn calls_beside_a_copy<'a>(
-    heap: &'a Refusing<Global>,
-    leases: &mut Leases<&'a Refusing<Global>>,
-    shape: &Shape<&'a Refusing<Global>>,
+fn calls_beside_a_copy<A: Allocator + Copy>(
+    heap: &Refusing<Global>,
+    leases: &mut Leases<A>,
+    shape: &Shape<A>,
     growth: u64,
 ) -> Option<bool> {
     heap.refuse_after(growth);
@@ -267,11 +309,14 @@ fn calls_beside_a_copy<'a>(
     (is_right && on_the_copy == 12 && on_the_table == 6).then_some(is_refused)
 }
 
-/// The same on the tree of this module.
-fn calls_with_one_refused(heap: &Refusing<Global>, growth: u64) -> Option<bool> {
-    let desk = tree(heap)?;
-    let shape = desk.image().shape();
-    let mut leases = Leases::new(heap);
+/// The same on nodes of the tree of this module, with a table of its own.
+fn calls_on<A: Allocator + Copy>(
+    alloc: A,
+    heap: &Refusing<Global>,
+    shape: &Shape<A>,
+    growth: u64,
+) -> Option<bool> {
+    let mut leases = Leases::new(alloc);
     if make_calls(&mut leases, shape, &BEFORE_THE_GROWTHS) == 8 {
         calls_beside_a_copy(heap, &mut leases, shape, growth)
     } else {
@@ -279,26 +324,12 @@ fn calls_with_one_refused(heap: &Refusing<Global>, growth: u64) -> Option<bool> 
     }
 }
 
-/// How many allocations the calls ask for, each refused in turn; or as an error the index of one at which
-/// the outcome is wrong.
-fn growths(alloc: Global) -> Result<u64, u64> {
-    for growth in 0..MANY {
-        let heap = Refusing::new(alloc, AMPLE);
-        match calls_with_one_refused(&heap, growth) {
-            Some(true) => {}
-            Some(false) => return Ok(growth),
-            None => return Err(growth),
-        }
-    }
-    Err(MANY)
-}
-
-#[test]
-fn each_growth_of_calls_beside_a_copy_refused(rt: HostRuntime) {
-    let count = growths(rt.alloc());
-    let is_right = match count {
-        Ok(count) => 10 < count,
-        Err(_) => false,
-    };
-    assert!(rt; is_right, "{count:?}");
+/// The same on a desk of its own.
+pub fn calls_with_one_refused<A: Allocator + Copy>(
+    alloc: A,
+    heap: &Refusing<Global>,
+    growth: u64,
+) -> Option<bool> {
+    let desk = tree(alloc)?;
+    calls_on(alloc, heap, desk.image().shape(), growth)
 }

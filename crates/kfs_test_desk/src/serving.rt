@@ -1,5 +1,5 @@
 //! The desk as a server uses it: a server in thirty lines, and examples of public types.
 
 mod examples;
-mod planned;
+pub mod planned;
 mod serving;

@@ -1,17 +1,19 @@
 //! Who may look names up, list them, and read files, through a view. The expected values are those of
 //! POSIX.1-2017, XBD 4.5: owner, else group, else others, and the bits of that class alone.
-ghost use Rattle.std.specs.Prelude.{IfSome};
+ghost use Rattle.std.specs.Prelude.{IfSome, IsTrue};
 ghost use Rattle.kfs_mode.specs.Clients.{ClientsAreDistinct};
+ghost use Rattle.kfs_model.specs.Device.Finding.{IsWellFormed};
+ghost use Rattle.kfs_image.specs.Codec.RawImages.{raw_of};
 
-use crate::migrate::images::is_right;
 use NodeLine::{Directory, Empty};
-use kfs_image::{Image, Kind};
+use kfs_image::{Image, Kind, RawImage, Shape};
 use kfs_judge::AccessFault::{
     IsDirectory, NoRead, NoSearch, NoSuchNode, NotDirectory, UnknownClient,
 };
 use kfs_judge::{Access, AccessFault, View};
 use kfs_lease::Leases;
 use kfs_mode::Client;
+use kfs_shape::check_shape;
 use kfs_test_support::images::small::{NodeLine, SmallImage, image};
 use std::alloc::{Allocator, Global};
 use std::process::Abort;
@@ -107,8 +109,18 @@ const IN_ORDER: [(Access, u32, u32, Answer); 15] = [
     (Access::ReadBytes, 0, 5, Err(UnknownClient)),
 ];
 
-/// An image in which both nodes have these bits.
-fn image_with<A: Allocator + Copy>(alloc: A, bits: Bits) -> Option<Image<A>> {
+/// Whether the ten rules hold.
+fn is_right<A: Allocator + Copy>(alloc: A, raw: &RawImage<A>) -> bool
+    ensures { IsTrue result → IsWellFormed (raw_of raw.now) }
+{
+    match check_shape(alloc, raw) {
+        Ok(()) => true,
+        Err(_fault) => false,
+    }
+}
+
+/// The nodes and names of an image in which both nodes have these bits.
+fn shape_with<A: Allocator + Copy>(alloc: A, bits: Bits) -> Option<Shape<A>> {
     let mut raw = image(alloc, &[ROOT_AND_FILE])?;
     for node in raw.nodes.as_mut_slice() {
         node.header.uid = bits.0;
@@ -118,7 +130,8 @@ fn image_with<A: Allocator + Copy>(alloc: A, bits: Bits) -> Option<Image<A>> {
     if !is_right(alloc, &raw) {
         return None;
     }
-    Image::from_raw(alloc, raw).ok()
+    let image = Image::from_raw(alloc, raw).ok()?;
+    image.shape().clone().ok()
 }
 
 /// Client 7 alone.
@@ -131,10 +144,9 @@ fn clients<A: Allocator>(alloc: A, privileged: bool) -> Option<Vec<Client, A>>
 
 /// What client 7 sees of such an image.
 fn view_of<A: Allocator + Copy>(alloc: A, bits: Bits, privileged: bool) -> Option<View<A>> {
-    let image = image_with(alloc, bits)?;
-    let shape = image.shape().clone().ok()?;
-    let leases = Arc::new(alloc, Leases::new(alloc)).ok()?;
     let clients = Arc::new(alloc, clients(alloc, privileged)?).ok()?;
+    let leases = Arc::new(alloc, Leases::new(alloc)).ok()?;
+    let shape = shape_with(alloc, bits)?;
     Some(View::of(shape, leases, clients))
 }
 

@@ -82,12 +82,12 @@ fn right_net<A: Allocator + Copy>(
 pub fn net_of<A: Allocator + Copy>(alloc: A, image: &Image<A>, made: Made<'_>) -> Option<Net<A>>
     ensures { IfSome result (λ net. IsLawful (after_net net image.now)) }
 {
-    let view = view_of(alloc, image, clients(alloc)?)?;
     let submission = Submission {
         client: 7,
         log: Vec::from_slice(alloc, made.log).ok()?,
         plan: Vec::from_slice(alloc, made.plan).ok()?,
     };
+    let view = view_of(alloc, image, clients(alloc)?)?;
     right_net(alloc, image, &view, submission)
 }
 
@@ -104,10 +104,17 @@ pub fn apply_alone<A: Allocator + Clone>(
     net_apply(alloc.clone()?, image, net, &fill)
 }
 
+/// Makes what client 7 hands in at the image, without writing blocks. Whether it can be made.
+fn is_made<A: Allocator + Copy>(alloc: A, image: &mut Image<A>, made: Made<'_>) -> bool {
+    match net_of(alloc, image, made) {
+        Some(net) => apply_alone(&alloc, image, &net).is_ok(),
+        None => false,
+    }
+}
+
 /// A new image with this many blocks on tier 0, and with the nodes that the log makes.
 pub fn image_with<A: Allocator + Copy>(alloc: A, blocks: u32, made: Made<'_>) -> Option<Image<A>> {
     let mut image = Image::fresh(alloc, TierSizes::new(blocks, 0, 0)?).ok()?;
-    let net = net_of(alloc, &image, made)?;
-    apply_alone(&alloc, &mut image, &net).ok()?;
-    Some(image)
+    let is_made = is_made(alloc, &mut image, made);
+    is_made.then_some(image)
 }

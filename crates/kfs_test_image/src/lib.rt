@@ -23,8 +23,6 @@ mod fits;
 #[cfg(test)]
 mod landed;
 #[cfg(test)]
-mod migrate;
-#[cfg(test)]
 mod refused;
 #[cfg(test)]
 mod spares;

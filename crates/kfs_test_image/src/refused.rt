@@ -1,7 +1,9 @@
 //! Edits, and the change of a landing, with each allocation failing in turn: the image shows what it
 //! showed, and then the same is done.
+ghost use Rattle.std.specs.Prelude.{◌≡◌, IsFalse};
 ghost use Rattle.kfs_image.specs.Edit.{CanEdit};
-ghost use Rattle.kfs_image.specs.Net.{CanApply};
+ghost use Rattle.kfs_image.specs.Net.{CanApply, after_net};
+ghost use Rattle.kfs_model.specs.Device.ShownTree.{IsLawful};
 
 use crate::edits::{edits_of_each_kind, lay};
 use crate::filled::fill_of_two;
@@ -86,72 +88,108 @@ fn is_kept<A: Allocator>(heap: &Refusing<Global>, image: &Image<A>) -> bool {
     has_refused && shows(image, &BEFORE)
 }
 
-/// Whether an allocation failed in these edits; none where the answer is wrong.
-fn is_edit_refused<A: Allocator + Clone>(
+/// Whether there is a node with this number.
+fn has_node<A: Allocator>(shape: &Shape<A>, number: u32) -> bool {
+    matches!(look(shape, &Cell::Header(number)), Answer::Header(Some(_)))
+}
+
+/// Makes the edits, if there is memory.
+fn is_edited<A: Allocator + Clone>(image: &mut Image<A>, edits: &[Edit<A>]) -> bool
+    requires { CanEdit edits.now image.old }
+    ensures { IsFalse result → image.new ≡ image.old }
+{
+    match image.edit(edits) {
+        Ok(()) => true,
+        Err(_) => false,
+    }
+}
+
+/// Makes the edits, and once more where an allocation failed. Whether one did; none where the image shows anything wrong.
+fn edited<A: Allocator + Clone>(
     heap: &Refusing<Global>,
     image: &mut Image<A>,
     edits: &[Edit<A>],
 ) -> Option<bool>
     requires { CanEdit edits.now image.old }
 {
-    match image.edit(edits) {
-        Ok(()) => return (!heap.has_refused() && shows(image, &EDITED)).then_some(false),
-        Err(_) => {}
+    if is_edited(image, edits) {
+        return (!heap.has_refused() && shows(image, &EDITED)).then_some(false);
     }
-    if !is_kept(heap, image) {
+    if !is_kept(heap, image) || !is_edited(image, edits) {
         return None;
     }
-    image.edit(edits).ok()?;
     shows(image, &EDITED).then_some(true)
 }
 
 /// The same for the edits of each kind, with the allocation of this index failing.
-fn are_edits_refused<'a>(
-    heap: &'a Refusing<Global>,
-    image: &mut Image<&'a Refusing<Global>>,
+fn each_kind_edited<A: Allocator + Copy>(
+    alloc: A,
+    heap: &Refusing<Global>,
+    image: &mut Image<A>,
     growth: u64,
 ) -> Option<bool> {
-    let edits = edits_of_each_kind(heap, image)?;
+    let edits = edits_of_each_kind(alloc, image)?;
     heap.refuse_after(growth);
-    is_edit_refused(heap, image, edits.as_slice())
+    edited(heap, image, edits.as_slice())
 }
 
-/// Whether there is a node with this number.
-fn has_node<A: Allocator>(shape: &Shape<A>, number: u32) -> bool {
-    matches!(look(shape, &Cell::Header(number)), Answer::Header(Some(_)))
-}
-
-/// The same, while a view may share the nodes and names, and shows what it showed.
-fn are_refused(alloc: Global, is_shared: bool, growth: u64) -> Option<bool> {
-    let heap = Refusing::new(alloc, AMPLE);
-    let mut image = image_with(&heap, 3, TWO_BLOCKS)?;
-    lay(&heap, &mut image, 0, 0)?;
+/// The same, while a view shares the nodes and names, and shows what it showed.
+fn edited_beside_a_view<A: Allocator + Copy>(
+    alloc: A,
+    heap: &Refusing<Global>,
+    image: &mut Image<A>,
+    growth: u64,
+) -> Option<bool> {
     let view = image.shape().clone().ok()?;
-    if !is_shared {
-        drop(view);
-        return are_edits_refused(&heap, &mut image, growth);
-    }
-    let has_refused = are_edits_refused(&heap, &mut image, growth)?;
-    has_node(&view, 5).then_some(has_refused)
+    let has_refused = each_kind_edited(alloc, heap, image, growth);
+    if has_node(&view, 5) { has_refused } else { None }
 }
 
-/// Whether an allocation failed in the change of a landing, the one with this index; none where the answer
-/// is wrong.
-fn is_change_refused(alloc: Global, growth: u64) -> Option<bool> {
-    let heap = Refusing::new(alloc, AMPLE);
-    let mut image = Image::fresh(&heap, TierSizes::new(3, 0, 0)?).ok()?;
-    let net = net_of(&heap, &image, TWO_BLOCKS)?;
+/// Makes the change of the net, if there is memory.
+fn is_applied<A: Allocator + Copy>(alloc: A, image: &mut Image<A>, net: &Net<A>) -> bool
+    requires { IsLawful (after_net net.now image.old) }
+    ensures { IsFalse result → image.new ≡ image.old }
+{
+    match apply_alone(&alloc, image, net) {
+        Ok(()) => true,
+        Err(_) => false,
+    }
+}
+
+/// The change of a landing without blocks.
+fn landed<A: Allocator + Copy>(
+    alloc: A,
+    heap: &Refusing<Global>,
+    image: &mut Image<A>,
+    growth: u64,
+) -> Option<bool> {
+    let net = net_of(alloc, image, TWO_BLOCKS)?;
     heap.refuse_after(growth);
-    match apply_alone(&&heap, &mut image, &net) {
-        Ok(()) => return (!heap.has_refused() && has_node(image.shape(), 5)).then_some(false),
-        Err(_) => {}
+    if is_applied(alloc, image, &net) {
+        return (!heap.has_refused() && has_node(image.shape(), 5)).then_some(false);
     }
     if !heap.has_refused() || has_node(image.shape(), 5) {
         return None;
     }
     heap.refuse_after(AMPLE);
-    apply_alone(&&heap, &mut image, &net).ok()?;
-    has_node(image.shape(), 5).then_some(true)
+    let is_made = is_applied(alloc, image, &net);
+    (is_made && has_node(image.shape(), 5)).then_some(true)
+}
+
+/// Makes the change of the net with these blocks, if there is memory.
+fn is_filled_with<A: Allocator + Copy>(
+    alloc: A,
+    image: &mut Image<A>,
+    net: &Net<A>,
+    fill: &Fill<A>,
+) -> bool
+    requires { CanApply net.now fill.now image.old }
+    ensures { IsFalse result → image.new ≡ image.old }
+{
+    match net_apply(alloc, image, net, fill) {
+        Ok(()) => true,
+        Err(_) => false,
+    }
 }
 
 /// Whether both blocks are written, and file 6 is there.
@@ -159,36 +197,38 @@ fn is_filled<A: Allocator>(image: &Image<A>) -> bool {
     has_node(image.shape(), 6) && shows(image, &FILLED)
 }
 
-/// Whether an allocation failed in a landing with blocks; none where the answer is wrong.
-fn is_fill_refused<'a>(
-    heap: &'a Refusing<Global>,
-    image: &mut Image<&'a Refusing<Global>>,
-    net: &Net<&'a Refusing<Global>>,
-    fill: &Fill<&'a Refusing<Global>>,
+/// A landing with blocks, and once more where an allocation failed.
+fn filled<A: Allocator + Copy>(
+    alloc: A,
+    heap: &Refusing<Global>,
+    image: &mut Image<A>,
+    net: &Net<A>,
+    fill: &Fill<A>,
 ) -> Option<bool>
     requires { CanApply net.now fill.now image.old }
 {
-    match net_apply(heap, image, net, fill) {
-        Ok(()) => return (!heap.has_refused() && is_filled(image)).then_some(false),
-        Err(_) => {}
+    if is_filled_with(alloc, image, net, fill) {
+        return (!heap.has_refused() && is_filled(image)).then_some(false);
     }
     if !is_kept(heap, image) || has_node(image.shape(), 6) {
         return None;
     }
-    net_apply(heap, image, net, fill).ok()?;
-    is_filled(image).then_some(true)
+    let is_made = is_filled_with(alloc, image, net, fill);
+    (is_made && is_filled(image)).then_some(true)
 }
 
 /// The same for the name `b` and two blocks of file 5, one of which has a place already, with the allocation
 /// of this index refused.
-fn is_landing_refused(alloc: Global, growth: u64) -> Option<bool> {
-    let heap = Refusing::new(alloc, AMPLE);
-    let mut image = image_with(&heap, 3, TWO_BLOCKS)?;
-    lay(&heap, &mut image, 0, 0)?;
-    let net = net_of(&heap, &image, SECOND_NAME)?;
-    let fill = fill_of_two(&heap, &image, &net)?;
+fn landed_with_blocks<A: Allocator + Copy>(
+    alloc: A,
+    heap: &Refusing<Global>,
+    image: &mut Image<A>,
+    growth: u64,
+) -> Option<bool> {
+    let net = net_of(alloc, image, SECOND_NAME)?;
+    let fill = fill_of_two(alloc, image, &net)?;
     heap.refuse_after(growth);
-    is_fill_refused(&heap, &mut image, &net, &fill)
+    filled(alloc, heap, image, &net, &fill)
 }
 
 /// What is done with each allocation failing in turn.
@@ -200,21 +240,54 @@ enum Change {
     LandingWithBlocks,
 }
 
-/// Whether an allocation failed in the change, the one with this index; none where the answer is wrong.
-fn is_refused(alloc: Global, change: Change, growth: u64) -> Option<bool> {
+/// An image with file 5, whose block 0 lies at place 0.
+fn image_with_a_block<A: Allocator + Copy>(alloc: A) -> Option<Image<A>> {
+    let mut image = image_with(alloc, 3, TWO_BLOCKS)?;
+    let place = lay(alloc, &mut image, 0, 0);
+    (place == Some(0)).then_some(image)
+}
+
+/// The image of which the change is made.
+fn image_before<A: Allocator + Copy>(alloc: A, change: Change) -> Option<Image<A>> {
     match change {
-        Change::Edits => are_refused(alloc, false, growth),
-        Change::EditsBesideAView => are_refused(alloc, true, growth),
-        Change::Landing => is_change_refused(alloc, growth),
-        Change::LandingWithBlocks => is_landing_refused(alloc, growth),
+        Change::Landing => Image::fresh(alloc, TierSizes::new(3, 0, 0)?).ok(),
+        _ => image_with_a_block(alloc),
     }
+}
+
+/// Makes the change with the allocation of this index failing. Whether that was asked for; none where the answer is wrong.
+fn changed<A: Allocator + Copy>(
+    alloc: A,
+    heap: &Refusing<Global>,
+    image: &mut Image<A>,
+    change: Change,
+    growth: u64,
+) -> Option<bool> {
+    match change {
+        Change::Edits => each_kind_edited(alloc, heap, image, growth),
+        Change::EditsBesideAView => edited_beside_a_view(alloc, heap, image, growth),
+        Change::Landing => landed(alloc, heap, image, growth),
+        Change::LandingWithBlocks => landed_with_blocks(alloc, heap, image, growth),
+    }
+}
+
+/// The same on an image of its own.
+fn changed_there<A: Allocator + Copy>(
+    alloc: A,
+    heap: &Refusing<Global>,
+    change: Change,
+    growth: u64,
+) -> Option<bool> {
+    let mut image = image_before(alloc, change)?;
+    changed(alloc, heap, &mut image, change, growth)
 }
 
 /// How many allocations the change asks for, each refused in turn; or as an error the index of one at which
 /// the answer is wrong.
 fn growths(alloc: Global, change: Change) -> Result<u64, u64> {
     for growth in 0..MANY {
-        match is_refused(alloc, change, growth) {
+        let heap = Refusing::new(alloc, AMPLE);
+        match changed_there(&heap, &heap, change, growth) {
             Some(true) => {}
             Some(false) => return Ok(growth),
             None => return Err(growth),

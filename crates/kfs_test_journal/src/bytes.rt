@@ -3,7 +3,7 @@ ghost use Rattle.kfs_journal.specs.Disk.{Only};
 ghost use Rattle.kfs_journal.specs.Journal.{AreEmpty};
 ghost use Rattle.kfs_journal.specs.Memory.{memory_seen, memory_may_leave};
 
-use crate::run::{are_groups, disk_of};
+use crate::run::{are_groups, change, disk_of, put as put_group};
 use kfs_journal::{Journal, JournalFault, MemoryDisk, Opened};
 use std::alloc::Global;
 use std::process::Abort;
@@ -31,9 +31,9 @@ fn put(alloc: Global, disk: &mut MemoryDisk, changes: bool) -> Result<(), Journa
     requires durable { Only (memory_seen disk.old) (memory_may_leave disk.old) }
 {
     let mut journal = Journal::create(alloc, disk, b"ab")?;
-    journal.put(alloc, disk, b"c")?;
+    put_group(alloc, disk, &mut journal, b"c")?;
     if changes {
-        journal.change(alloc, disk, b"")?;
+        change(alloc, disk, &mut journal, b"")?;
     }
     Ok(())
 }

@@ -1,6 +1,8 @@
 //! A run of seventeen calls, the last eight around a draft of the next file, what the files stand for after each of them, and what an opening finds.
-ghost use Rattle.std.specs.Prelude.{◌≡◌, IfSome};
+ghost use Rattle.std.specs.Prelude.{◌≡◌, ◌++◌, ℕ, List, [], IfOk, IfSome, OnOk};
 ghost use Rattle.kfs_journal.specs.Disk.{Only};
+ghost use Rattle.kfs_journal.specs.Draft.{HasDraft, IsDrafted};
+ghost use Rattle.kfs_journal.specs.declared.journal.draft.Draft.{Draft};
 ghost use Rattle.kfs_journal.specs.Journal.{AreEmpty, IsSettled};
 ghost use Rattle.kfs_journal.specs.Memory.{memory_seen, memory_may_leave};
 
@@ -34,6 +36,63 @@ pub const STATES: [&[u8]; 18] = [
 /// state also a cut and the beginning of its head. A draft is begun by a cut and two writes, and finished by two writes.
 pub const DISK_CALLS: [usize; 17] = [8, 4, 4, 4, 8, 4, 8, 4, 8, 6, 4, 2, 4, 2, 2, 4, 4];
 
+// ---- calls of a journal, with the clauses that the next call asks for alone
+
+pub fn put<D: Disk>(
+    alloc: Global,
+    disk: &mut D,
+    journal: &mut Journal,
+    group: &[u8],
+) -> Result<(), JournalFault>
+    requires { IsSettled (D.seen disk.old) (D.may_leave disk.old) journal.old }
+    ensures settled { OnOk result (IsSettled (D.seen disk.new) (D.may_leave disk.new) journal.new) }
+    ensures draft { (draft : Draft) (bytes : List ℕ) → HasDraft (D.seen disk.old) journal.old draft bytes → OnOk result (HasDraft (D.seen disk.new) journal.new draft bytes) }
+{
+    journal.put(alloc, disk, group)
+}
+
+pub fn change<D: Disk>(
+    alloc: Global,
+    disk: &mut D,
+    journal: &mut Journal,
+    state: &[u8],
+) -> Result<(), JournalFault>
+    requires { IsSettled (D.seen disk.old) (D.may_leave disk.old) journal.old }
+    ensures { OnOk result (IsSettled (D.seen disk.new) (D.may_leave disk.new) journal.new) }
+{
+    journal.change(alloc, disk, state)
+}
+
+fn begin<D: Disk>(
+    alloc: Global,
+    disk: &mut D,
+    journal: &Journal,
+    state_len: usize,
+) -> Result<Draft, JournalFault>
+    requires { IsSettled (D.seen disk.old) (D.may_leave disk.old) journal.now }
+    ensures settled { OnOk result (IsSettled (D.seen disk.new) (D.may_leave disk.new) journal.now) }
+    ensures draft { IfOk result (λ draft. HasDraft (D.seen disk.new) journal.now draft [] × (draft.state_len ≡ state_len)) }
+{
+    Draft::begin(alloc, journal, disk, state_len)
+}
+
+fn extend<D: Disk>(
+    disk: &mut D,
+    journal: &Journal,
+    draft: &mut Draft,
+    bytes: &[u8],
+) -> Result<(), JournalFault>
+    requires settled { IsSettled (D.seen disk.old) (D.may_leave disk.old) journal.now }
+    requires draft { IsDrafted (D.seen disk.old) journal.now draft.old }
+    ensures settled { OnOk result (IsSettled (D.seen disk.new) (D.may_leave disk.new) journal.now) }
+    ensures draft { (body : List ℕ) → HasDraft (D.seen disk.old) journal.now draft.old body → OnOk result (HasDraft (D.seen disk.new) journal.now draft.new (body ++ bytes.now)) }
+    ensures len { draft.new.state_len ≡ draft.old.state_len }
+{
+    draft.extend(journal, disk, bytes)
+}
+
+// ---- the run
+
 /// Makes the run on empty files, and counts the calls that were answered.
 pub fn run<D: Disk>(alloc: Global, disk: &mut D, answered: &mut usize) -> Result<(), JournalFault>
     requires empty { AreEmpty (D.seen disk.old) }
@@ -41,21 +100,21 @@ pub fn run<D: Disk>(alloc: Global, disk: &mut D, answered: &mut usize) -> Result
 {
     let mut journal = Journal::create(alloc, disk, b"first")?;
     *answered = 1;
-    journal.put(alloc, disk, b"a")?;
+    put(alloc, disk, &mut journal, b"a")?;
     *answered = 2;
-    journal.put(alloc, disk, b"")?;
+    put(alloc, disk, &mut journal, b"")?;
     *answered = 3;
-    journal.put(alloc, disk, b"bcd")?;
+    put(alloc, disk, &mut journal, b"bcd")?;
     *answered = 4;
-    journal.change(alloc, disk, b"second")?;
+    change(alloc, disk, &mut journal, b"second")?;
     *answered = 5;
-    journal.put(alloc, disk, b"efghij")?;
+    put(alloc, disk, &mut journal, b"efghij")?;
     *answered = 6;
-    journal.change(alloc, disk, b"")?;
+    change(alloc, disk, &mut journal, b"")?;
     *answered = 7;
-    journal.put(alloc, disk, b"k")?;
+    put(alloc, disk, &mut journal, b"k")?;
     *answered = 8;
-    journal.change(alloc, disk, b"third")?;
+    change(alloc, disk, &mut journal, b"third")?;
     *answered = 9;
     run_drafted(alloc, disk, journal, answered)
 }
@@ -70,23 +129,23 @@ fn run_drafted<D: Disk>(
     requires { IsSettled (D.seen disk.old) (D.may_leave disk.old) journal }
 {
     let mut records = Vec::new(alloc);
-    let mut draft = Draft::begin(alloc, &journal, disk, 6)?;
+    let mut draft = begin(alloc, disk, &journal, 6)?;
     *answered = 10;
-    journal.put(alloc, disk, b"l")?;
+    put(alloc, disk, &mut journal, b"l")?;
     push_record(&mut records, b"l")?;
     *answered = 11;
-    draft.extend(&journal, disk, b"fou")?;
+    extend(disk, &journal, &mut draft, b"fou")?;
     *answered = 12;
-    journal.put(alloc, disk, b"mn")?;
+    put(alloc, disk, &mut journal, b"mn")?;
     push_record(&mut records, b"mn")?;
     *answered = 13;
-    draft.extend(&journal, disk, b"rth")?;
+    extend(disk, &journal, &mut draft, b"rth")?;
     *answered = 14;
-    draft.extend(&journal, disk, &records)?;
+    extend(disk, &journal, &mut draft, &records)?;
     *answered = 15;
     draft.finish(&mut journal, disk)?;
     *answered = 16;
-    journal.put(alloc, disk, b"o")?;
+    put(alloc, disk, &mut journal, b"o")?;
     *answered = 17;
     Ok(())
 }

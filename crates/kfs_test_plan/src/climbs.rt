@@ -1,12 +1,10 @@
 //! Renames of directories below a long chain: what climbs find, and what they read.
 
+use crate::desks::{is_leased, lands, opened};
 use kfs_desk::Desk;
-use kfs_image::{Cell, Image, TierSizes};
-use kfs_judge::{EntryFault, Read, Reason};
-use kfs_lease::LeaseKind;
-use kfs_mode::Client;
+use kfs_image::Cell;
+use kfs_judge::{EntryFault, Read, Reason, View};
 use kfs_plan::{Fault, Judged, Outcome, Submission, judge};
-use kfs_plan_maker::make_plan;
 use kfs_test_support::vectors::EMPTY_PLAN;
 use std::alloc::{AllocError, Global};
 
@@ -71,61 +69,52 @@ fn path_to(alloc: Global, number: u16) -> Result<Vec<u8, Global>, AllocError> {
     Ok(path)
 }
 
-fn client() -> Option<Client> {
-    Client::new(7, 1_000, 1_000, &[], false, 2, 4_096).ok()
-}
-
-fn new_desk(alloc: Global) -> Option<Desk<Global>> {
-    let image = Image::fresh(alloc, TierSizes::new(8, 8, 8)?).ok()?;
-    let clients = vec![in alloc; client()?].ok()?;
-    Desk::begin(alloc, image, clients, 100).ok()
-}
-
-fn lease(desk: &mut Desk<Global>, path: &[u8]) -> Option<()> {
-    let leased = desk.lease(7, path, LeaseKind::Write, 100).ok()?;
-    leased.answer.ok()?;
-    Some(())
-}
-
-fn lease_in_chain(alloc: Global, desk: &mut Desk<Global>, number: u16) -> Option<()> {
-    let path = path_to(alloc, number).ok()?;
-    lease(desk, path.as_slice())
-}
-
-fn plan(alloc: Global, desk: &Desk<Global>, log: &[u8]) -> Option<Vec<u8, Global>> {
-    make_plan(alloc, desk.image(), &client()?, log).ok()?
-}
-
-fn hand_in(desk: &mut Desk<Global>, log: Vec<u8, Global>, plan: Vec<u8, Global>) -> Option<()> {
-    let submission = Submission {
-        client: 7,
-        log,
-        plan,
-    };
-    desk.submit(submission).ok()?;
-    Some(())
-}
-
-/// A desk whose image has the chain, and of which client 7 holds what `moves` moves.
-fn desk_with_chain(alloc: Global) -> Option<Desk<Global>> {
-    let mut desk = new_desk(alloc)?;
-    lease(&mut desk, b"/")?;
-    let log = chain(alloc).ok()?;
-    let plan = plan(alloc, &desk, log.as_slice())?;
-    hand_in(&mut desk, log, plan)?;
-    for number in [49, 50, 100, 199, 200, 299, 300, LAST] {
-        lease_in_chain(alloc, &mut desk, number)?;
+/// Whether client 7 is given a lease on this directory of the chain.
+fn is_leased_in_chain(alloc: Global, desk: &mut Desk<Global>, number: u16) -> bool {
+    match path_to(alloc, number) {
+        Ok(path) => is_leased(desk, &path),
+        Err(_) => false,
     }
-    Some(desk)
+}
+
+/// Whether the chain is made.
+fn is_chained(alloc: Global, desk: &mut Desk<Global>) -> bool {
+    match chain(alloc) {
+        Ok(log) => is_leased(desk, b"/") && lands(alloc, desk, &log, 0),
+        Err(_) => false,
+    }
+}
+
+/// Whether the chain is made, and client 7 holds what `moves` moves.
+fn is_prepared(alloc: Global, desk: &mut Desk<Global>) -> bool {
+    if !is_chained(alloc, desk) {
+        return false;
+    }
+    for number in [49, 50, 100, 199, 200, 299, 300, LAST] {
+        if !is_leased_in_chain(alloc, desk, number) {
+            return false;
+        }
+    }
+    true
+}
+
+/// What is seen of a desk that is prepared so.
+fn view(alloc: Global) -> Option<View<Global>> {
+    let mut desk = opened(alloc)?;
+    if is_prepared(alloc, &mut desk) {
+        desk.view().ok()
+    } else {
+        None
+    }
 }
 
 fn judged(alloc: Global) -> Option<Judged<Global>> {
-    let view = desk_with_chain(alloc)?.view().ok()?;
     let submission = Submission {
         client: 7,
         log: moves(alloc).ok()?,
         plan: Vec::from_slice(alloc, EMPTY_PLAN).ok()?,
     };
+    let view = view(alloc)?;
     judge(alloc, &view, submission).ok()
 }
 

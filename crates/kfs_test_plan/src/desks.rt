@@ -8,15 +8,15 @@ use kfs_plan::Submission;
 use kfs_plan_maker::make_plan;
 use std::alloc::{AllocError, Allocator};
 
-/// Client 7, of uid and gid 1000 and the further group 50. It may give the numbers 2 to 99 to new nodes.
+/// Client 7, of uid and gid 1000 and the further group 50. It may give the numbers 2 to 4,096 to new nodes.
 pub fn client() -> Option<Client> {
-    Client::new(7, 1_000, 1_000, &[50], false, 2, 99).ok()
+    Client::new(7, 1_000, 1_000, &[50], false, 2, 4_096).ok()
 }
 
 /// A desk on a new image, with eight blocks on each tier.
 pub fn opened<A: Allocator + Copy>(alloc: A) -> Option<Desk<A>> {
-    let image = Image::fresh(alloc, TierSizes::new(8, 8, 8)?).ok()?;
     let clients = vec![in alloc; client()?].ok()?;
+    let image = Image::fresh(alloc, TierSizes::new(8, 8, 8)?).ok()?;
     Desk::begin(alloc, image, clients, 100).ok()
 }
 
@@ -39,7 +39,8 @@ pub enum Step<'a> {
     Land(&'a [u8], u64),
 }
 
-fn is_leased<A: Allocator + Copy>(desk: &mut Desk<A>, path: &[u8]) -> bool {
+/// Whether client 7 is given a write lease on the node at the path.
+pub fn is_leased<A: Allocator + Copy>(desk: &mut Desk<A>, path: &[u8]) -> bool {
     match desk.lease(7, path, LeaseKind::Write, 100) {
         Ok(reply) => reply.answer.is_ok(),
         Err(_) => false,
@@ -62,7 +63,7 @@ fn reply<A: Allocator + Copy>(
 }
 
 /// Whether a plan of the log's version is made, and is accepted with this need.
-fn lands<A: Allocator + Copy>(alloc: A, desk: &mut Desk<A>, log: &[u8], wanted: u64) -> bool {
+pub fn lands<A: Allocator + Copy>(alloc: A, desk: &mut Desk<A>, log: &[u8], wanted: u64) -> bool {
     let Some(client) = client() else {
         return false;
     };
@@ -85,13 +86,12 @@ fn is_done<A: Allocator + Copy>(alloc: A, desk: &mut Desk<A>, step: Step<'_>) ->
     }
 }
 
-/// A desk after these steps; none where one isn't as expected.
-pub fn stepped<A: Allocator + Copy>(alloc: A, steps: &[Step<'_>]) -> Option<Desk<A>> {
-    let mut desk = opened(alloc)?;
+/// Whether these steps are as expected.
+pub fn are_done<A: Allocator + Copy>(alloc: A, desk: &mut Desk<A>, steps: &[Step<'_>]) -> bool {
     for step in steps {
-        if !is_done(alloc, &mut desk, *step) {
-            return None;
+        if !is_done(alloc, desk, *step) {
+            return false;
         }
     }
-    Some(desk)
+    true
 }

@@ -66,18 +66,20 @@ fn push_write(log: &mut Vec<u8, Global>, offset: u64) -> Result<(), AllocError> 
     log.extend_from_slice(b"\0\0\0\x01x")
 }
 
-fn push_writes(log: &mut Vec<u8, Global>) -> Result<(), AllocError> {
+/// Adds Writes at every second byte, from the first one on or from the last one back.
+fn push_writes(log: &mut Vec<u8, Global>, is_backward: bool) -> Result<(), AllocError> {
     for entry in 0..COUNT {
-        push_write(log, u64::from(entry) * 2)?;
+        let place = if is_backward { COUNT - 1 - entry } else { entry };
+        push_write(log, u64::from(place) * 2)?;
     }
     Ok(())
 }
 
-/// 4,096 Writes of "x" at every second byte of file 5.
-pub fn interleaved(alloc: Global) -> Option<Vec<u8, Global>> {
+/// 4,096 Writes of "x" at every second byte of file 5, in this order or in the reverse one.
+pub fn interleaved(alloc: Global, is_backward: bool) -> Option<Vec<u8, Global>> {
     let mut log = Vec::new(alloc);
     log.extend_from_slice(b"KLOG\x01\0\0\0\x07").ok()?;
     log.extend_from_slice(&COUNT.to_be_bytes()).ok()?;
-    push_writes(&mut log).ok()?;
+    push_writes(&mut log, is_backward).ok()?;
     Some(log)
 }

@@ -1,11 +1,12 @@
 //! Where no plan is made: no log, another client's log, an entry's fault, and no memory.
 
-use crate::desks::{Step, client, opened, planned, stepped};
+use crate::desks::{Step, are_done, client, opened, planned};
 use crate::logs::{NO_NODE, RENAMES};
+use kfs_desk::Desk;
 use kfs_mode::Client;
 use kfs_test_support::refusing::Refusing;
 use kfs_test_support::vectors::{CREATE_LOG, CREATE_PLAN, LETTERS_LOG};
-use std::alloc::Global;
+use std::alloc::{Allocator, Global};
 
 /// More allocations than anything here asks for.
 const AMPLE: u64 = 1 << 40;
@@ -29,10 +30,10 @@ fn has_no_plan(alloc: Global, client: Option<Client>, log: &[u8]) -> bool {
 }
 
 #[test]
-fn no_log(rt: HostRuntime) {
-    assert!(rt; has_no_plan(rt.alloc(), client(), b""));
-    assert!(rt; has_no_plan(rt.alloc(), client(), &CREATE_LOG[..24]));
-    assert!(rt; has_no_plan(rt.alloc(), client(), CREATE_PLAN));
+fn no_log_and_an_entry_with_a_fault(rt: HostRuntime) {
+    for log in [b"".as_slice(), &CREATE_LOG[..24], CREATE_PLAN, NO_NODE, LETTERS_LOG] {
+        assert!(rt; has_no_plan(rt.alloc(), client(), log), "{log:?}");
+    }
 }
 
 #[test]
@@ -40,31 +41,41 @@ fn the_log_of_another_client(rt: HostRuntime) {
     assert!(rt; has_no_plan(rt.alloc(), client_8(), CREATE_LOG));
 }
 
-#[test]
-fn an_entry_with_a_fault(rt: HostRuntime) {
-    assert!(rt; has_no_plan(rt.alloc(), client(), NO_NODE));
-    assert!(rt; has_no_plan(rt.alloc(), client(), LETTERS_LOG));
-}
+/// The length of a plan and whether an allocation failed.
+type Made = (Option<usize>, bool);
 
 /// The length of the plan that is made where the allocation with this index is refused; none where memory is lacking. The
 /// second part says whether that allocation was asked for.
-fn made_without(alloc: Global, growth: u64) -> Option<(Option<usize>, bool)> {
-    let heap = Refusing::new(alloc, AMPLE);
-    let steps = [
-        Step::Lease(b"/"),
-        Step::Land(CREATE_LOG, 0),
-        Step::Lease(b"/a"),
-    ];
-    let desk = stepped(&heap, &steps)?;
-    heap.refuse_after(growth);
+fn made_on<A: Allocator + Copy>(
+    alloc: A,
+    heap: &Refusing<Global>,
+    desk: &Desk<A>,
+    growth: u64,
+) -> Option<Made> {
     let client = client()?;
-    let made = planned(&heap, &desk, &client, RENAMES);
-    let was_refused = heap.has_refused();
-    match made {
-        Ok(Some(plan)) => Some((Some(plan.len()), was_refused)),
-        Ok(None) => None,
-        Err(_) => Some((None, was_refused)),
+    heap.refuse_after(growth);
+    let len = match planned(alloc, desk, &client, RENAMES) {
+        Ok(Some(plan)) => Some(plan.len()),
+        Ok(None) => return None,
+        Err(_) => None,
+    };
+    Some((len, heap.has_refused()))
+}
+
+/// The same with a desk of its own.
+fn made_there<A: Allocator + Copy>(alloc: A, heap: &Refusing<Global>, growth: u64) -> Option<Made> {
+    let mut desk = opened(alloc)?;
+    if are_done(alloc, &mut desk, &[Step::Lease(b"/"), Step::Land(CREATE_LOG, 0), Step::Lease(b"/a")]) {
+        made_on(alloc, heap, &desk, growth)
+    } else {
+        None
     }
+}
+
+/// The same with a heap of its own.
+fn made_without(alloc: Global, growth: u64) -> Option<Made> {
+    let heap = Refusing::new(alloc, AMPLE);
+    made_there(&heap, &heap, growth)
 }
 
 /// How many allocations the call asks for, each refused in turn; none where an answer is wrong.

@@ -1,7 +1,6 @@
-//! The checker that lets images in, and images made of raw ones.
+//! The checker that lets images in, and images made of raw ones. What it finds in small images, and what an image shows that
+//! was let in, is in the scripts of `kfs_rows`.
 
-mod contents;
 mod many;
 mod refused;
-mod rules;
 mod shown;

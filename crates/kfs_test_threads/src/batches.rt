@@ -73,36 +73,26 @@ fn are_all(positions: &[u32; 4]) -> bool {
     true
 }
 
-/// Whether the first worker of two has its rows in order, and the second one, too.
-fn do_ascend(positions: &[u32; 4]) -> bool {
-    positions[0] < positions[2] && positions[1] < positions[3]
-}
-
-/// Whether two workers create four files, each its own in their order.
-fn is_created_by_two<R: Threads + Wait + Sync>(rt: &R, alloc: Global) -> Option<bool> {
-    let positions = created_by(rt, alloc, 2)?;
-    Some(are_all(&positions) && do_ascend(&positions))
-}
-
-#[test]
-fn two_workers_create_four_files(rt: HostRuntime) {
-    assert!(rt; is_created_by_two(&rt, rt.alloc()) == Some(true));
+/// Whether each of so many workers has its rows in order. More than two have one row each here, or none.
+fn do_ascend(positions: &[u32; 4], workers: usize) -> bool {
+    let [first, second, third, fourth] = *positions;
+    match workers {
+        1 => first < second && second < third && third < fourth,
+        2 => first < third && second < fourth,
+        _ => true,
+    }
 }
 
 #[test]
-fn one_worker_goes_in_order(rt: HostRuntime) {
-    assert!(rt; created_by(&rt, rt.alloc(), 1) == Some([1, 2, 3, 4]));
-}
-
-/// Whether eight workers create four files.
-fn is_created_by_eight<R: Threads + Wait + Sync>(rt: &R, alloc: Global) -> Option<bool> {
-    let positions = created_by(rt, alloc, 8)?;
-    Some(are_all(&positions))
-}
-
-#[test]
-fn more_workers_than_submissions(rt: HostRuntime) {
-    assert!(rt; is_created_by_eight(&rt, rt.alloc()) == Some(true));
+fn one_two_and_eight_workers_create_four_files(rt: HostRuntime) {
+    for workers in [1, 2, 8] {
+        let positions = created_by(&rt, rt.alloc(), workers);
+        let is_right = match positions {
+            Some(positions) => are_all(&positions) && do_ascend(&positions, workers),
+            None => false,
+        };
+        assert!(rt; is_right, "{workers} {positions:?}");
+    }
 }
 
 // ---- wrong numbers of workers
@@ -125,8 +115,9 @@ fn is_refused<R: Threads + Wait + Sync>(rt: &R, alloc: Global, workers: usize) -
 
 #[test]
 fn no_worker_and_nine_are_refused(rt: HostRuntime) {
-    assert!(rt; is_refused(&rt, rt.alloc(), 0) == Some(true));
-    assert!(rt; is_refused(&rt, rt.alloc(), 9) == Some(true));
+    for workers in [0, 9] {
+        assert!(rt; is_refused(&rt, rt.alloc(), workers) == Some(true), "{workers}");
+    }
 }
 
 // ---- a full docket, and no submission

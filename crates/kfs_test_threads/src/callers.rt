@@ -9,30 +9,17 @@ use kfs_shared::{Pass, Shared, SharedWant};
 use std::alloc::Global;
 use std::sync::Wait;
 
-/// Makes no call.
-#[derive(Drop)]
-pub struct Resting;
-
-impl Caller<Desk<Global>, Global> for Resting {
-    fn call<R: Wait>(
-        &mut self,
-        _rt: &R,
-        _shared: &Shared<Desk<Global>, Global>,
-        _pass: &mut Pass<Desk<Global>>,
-    ) {}
-}
-
-/// Creates four files, each after a view and a judgement of its own, and looks for each with a view.
+/// Creates up to four files, each after a view and a judgement of its own, and looks for each with a view.
 #[derive(Drop)]
 pub struct Creating {
     pub alloc: Global,
-    pub files: [File; 4],
+    pub files: [Option<File>; 4],
     /// The position of each Yes that needed no block, was judged once, and left the file to be found.
     pub positions: [Option<u32>; 4],
 }
 
 impl Creating {
-    pub fn new(alloc: Global, files: [File; 4]) -> Creating {
+    pub fn new(alloc: Global, files: [Option<File>; 4]) -> Creating {
         Creating {
             alloc,
             files,
@@ -85,17 +72,18 @@ fn position_of(reply: Reply) -> Option<u32> {
     }
 }
 
-/// Creates the file and looks for it. The position of its row, where all is right.
+/// Creates the file, if there is one, and looks for it. The position of its row, where all is right.
 fn created_and_found<R: Wait>(
     rt: &R,
     alloc: Global,
     shared: &Shared<Desk<Global>, Global>,
     pass: &mut Pass<Desk<Global>>,
-    file: File,
+    file: Option<File>,
 ) -> Option<u32>
     requires { IsPassOf shared.now pass.old }
     ensures { IsPassOf shared.now pass.new }
 {
+    let file = file?;
     let reply = created(rt, alloc, shared, pass, file)?;
     if finds(rt, shared, pass, file.number) {
         position_of(reply)
@@ -121,67 +109,58 @@ impl Caller<Desk<Global>, Global> for Creating {
     }
 }
 
-/// Creates one file, in the same way.
+/// Makes a call for the leases, or asks for a view where there is none to make.
 #[derive(Drop)]
-pub struct CreatingOne {
-    pub alloc: Global,
-    pub file: File,
-    pub position: Option<u32>,
-}
-
-impl Caller<Desk<Global>, Global> for CreatingOne {
-    fn call<R: Wait>(
-        &mut self,
-        rt: &R,
-        shared: &Shared<Desk<Global>, Global>,
-        pass: &mut Pass<Desk<Global>>,
-    ) {
-        self.position = created_and_found(rt, self.alloc, shared, pass, self.file);
-    }
-}
-
-/// Makes a call for the leases.
-#[derive(Drop)]
-pub struct Acting {
-    pub act: Act<'static>,
-    pub answer: Option<Result<ActReply, SharedWant>>,
-}
-
-impl Acting {
-    pub fn new(act: Act<'static>) -> Acting {
-        Acting { act, answer: None }
-    }
-}
-
-impl Caller<Desk<Global>, Global> for Acting {
-    fn call<R: Wait>(
-        &mut self,
-        rt: &R,
-        shared: &Shared<Desk<Global>, Global>,
-        pass: &mut Pass<Desk<Global>>,
-    ) {
-        let answer = act(rt, shared, pass, self.act);
-        self.answer = Some(answer);
-    }
-}
-
-/// Asks for a view.
-#[derive(Drop)]
-pub struct Viewing {
-    /// Why there was none.
+pub struct Asking {
+    pub act: Option<Act<'static>>,
+    /// The answer to the call.
+    pub answer: Option<ActReply>,
+    /// Why there was no answer or no view.
     pub why: Option<SharedWant>,
 }
 
-impl Caller<Desk<Global>, Global> for Viewing {
+impl Asking {
+    pub fn new(act: Option<Act<'static>>) -> Asking {
+        Asking {
+            act,
+            answer: None,
+            why: None,
+        }
+    }
+}
+
+/// The answer to the call, or none to a view.
+fn asked<R: Wait>(
+    rt: &R,
+    shared: &Shared<Desk<Global>, Global>,
+    pass: &mut Pass<Desk<Global>>,
+    asked: Option<Act<'static>>,
+) -> Result<Option<ActReply>, SharedWant>
+    requires { IsPassOf shared.now pass.old }
+    ensures { IsPassOf shared.now pass.new }
+{
+    match asked {
+        Some(asked) => match act(rt, shared, pass, asked) {
+            Ok(reply) => Ok(Some(reply)),
+            Err(why) => Err(why),
+        },
+        None => match view(rt, shared, pass) {
+            Ok(_) => Ok(None),
+            Err(why) => Err(why),
+        },
+    }
+}
+
+impl Caller<Desk<Global>, Global> for Asking {
     fn call<R: Wait>(
         &mut self,
         rt: &R,
         shared: &Shared<Desk<Global>, Global>,
         pass: &mut Pass<Desk<Global>>,
     ) {
-        self.why = match view(rt, shared, pass) {
-            Ok(_) => None,
-            Err(why) => Some(why),
-        };
+        match asked(rt, shared, pass, self.act) {
+            Ok(answer) => self.answer = answer,
+            Err(why) => self.why = Some(why),
+        }
     }
 }

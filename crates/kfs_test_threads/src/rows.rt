@@ -3,7 +3,7 @@
 ghost use Rattle.std.specs.Prelude.{IfSome};
 ghost use Rattle.kfs_shared.specs.Passes.{IsPassOf};
 
-use crate::callers::{Acting, Creating, CreatingOne, Resting, Viewing};
+use crate::callers::{Asking, Creating};
 use crate::calls::{Sharing, closed, judged, land, meet, shared, shared_from, split, view};
 use crate::files::{FILE_A, FILES_P, FILES_Q, File, WRITE_LOG, WRITE_PLAN};
 use crate::setting::{opened, with_file};
@@ -37,13 +37,18 @@ fn are_parted(one: &[Option<u32>; 4], other: &[Option<u32>; 4]) -> bool {
     true
 }
 
+fn all(files: [File; 4]) -> [Option<File>; 4] {
+    let [a, b, c, d] = files;
+    [Some(a), Some(b), Some(c), Some(d)]
+}
+
 /// Whether all files of both threads are made, in rows 1 to 8 of the docket, each thread's in its order.
 fn created_by_two<R: Threads + Wait + Sync>(rt: &R, alloc: Global) -> Option<bool> {
     let desk = opened(alloc)?;
     let (shared, p) = shared(alloc, desk)?;
     let (p, q) = split(&shared, p);
-    let one = Creating::new(alloc, FILES_P);
-    let other = Creating::new(alloc, FILES_Q);
+    let one = Creating::new(alloc, all(FILES_P));
+    let other = Creating::new(alloc, all(FILES_Q));
     let ((one, p), (other, _)) = both(rt, &shared, one, p, other, q);
     let rows = closed(shared, p)?;
     let do_ascend = do_ascend(&one.positions) && do_ascend(&other.positions);
@@ -67,19 +72,16 @@ fn seen_by_two<R: Threads + Wait + Sync>(
     let desk = opened(alloc)?;
     let (shared, p) = shared(alloc, desk)?;
     let (p, q) = split(&shared, p);
-    let creating = CreatingOne {
-        alloc,
-        file: FILE_A,
-        position: None,
-    };
-    let ((created, p), (_, q)) = both(rt, &shared, creating, p, Resting, q);
+    let creating = Creating::new(alloc, [Some(FILE_A), None, None, None]);
+    let resting = Creating::new(alloc, [None; 4]);
+    let ((created, p), (_, q)) = both(rt, &shared, creating, p, resting, q);
     let (p, copy) = split(&shared, p);
     let mut q = q;
     let seen = [p.seen(), q.seen(), copy.seen()];
     let answer = meet(&shared, &mut q, copy);
     let met = [answer, q.seen()];
     let rows = closed(shared, p)?;
-    Some((seen, met, created.position, rows))
+    Some((seen, met, created.positions[0], rows))
 }
 
 #[test]
@@ -136,20 +138,17 @@ fn spent<R: Threads + Wait + Sync>(
 ) -> Option<([Option<SharedWant>; 3], u64, u32)> {
     let (shared, p) = shared_at_the_end(alloc)?;
     let (p, q) = split(&shared, p);
-    let acting = Acting::new(Act::Tick { moment: 1 });
-    let ((viewing, p), (acting, _)) = both(rt, &shared, Viewing { why: None }, p, acting, q);
+    let viewing = Asking::new(None);
+    let acting = Asking::new(Some(Act::Tick { moment: 1 }));
+    let ((viewing, p), (acting, _)) = both(rt, &shared, viewing, p, acting, q);
     let mut p = p;
     let landing = match creation_judged(alloc) {
         Some(verdict) => reason_of(rt, &shared, &mut p, verdict, FILE_A),
         None => None,
     };
-    let acting = match acting.answer {
-        Some(Err(why)) => Some(why),
-        _ => None,
-    };
     let seen = p.seen();
     let rows = closed(shared, p)?;
-    Some(([viewing.why, acting, landing], seen, rows))
+    Some(([viewing.why, acting.why, landing], seen, rows))
 }
 
 #[test]
@@ -165,10 +164,10 @@ const DROPPED: Act<'static> = Act::Drop {
     number: 5,
 };
 
-const LEASED: Act<'static> = Act::Lease {
+const LEASED: Act<'static> = Act::LeaseAt {
     client: 8,
-    path: b"/a",
-    kind: LeaseKind::Write,
+    number: 5,
+    kind: LeaseKind::Read,
     end: 100,
 };
 
@@ -199,16 +198,8 @@ fn landed<R: Wait>(
     land(rt, shared, pass, verdict?).ok()
 }
 
-/// What a caller was answered.
-fn answer_of(caller: &Acting) -> Option<ActReply> {
-    match caller.answer {
-        Some(Ok(reply)) => Some(reply),
-        _ => None,
-    }
-}
-
 /// The answers to the drop of the lease, to the Write that was judged before, and to a lease of another
-/// client; what the second pass has seen; and how many rows the docket has.
+/// client, by number; what the second pass has seen; and how many rows the docket has.
 fn judged_before_a_drop<R: Threads + Wait + Sync>(
     rt: &R,
     alloc: Global,
@@ -218,14 +209,15 @@ fn judged_before_a_drop<R: Threads + Wait + Sync>(
     let (p, q) = split(&shared, p);
     let mut p = p;
     let verdict = write_judged(rt, alloc, &shared, &mut p);
-    let ((_, p), (dropping, q)) = both(rt, &shared, Resting, p, Acting::new(DROPPED), q);
+    let dropping = Asking::new(Some(DROPPED));
+    let ((_, p), (dropped, q)) = both(rt, &shared, Asking::new(None), p, dropping, q);
     let mut p = p;
     let reply = landed(rt, &shared, &mut p, verdict);
-    let ((_, p), (leasing, q)) = both(rt, &shared, Resting, p, Acting::new(LEASED), q);
+    let leasing = Asking::new(Some(LEASED));
+    let ((_, p), (leased, q)) = both(rt, &shared, Asking::new(None), p, leasing, q);
     let seen = q.seen();
     let rows = closed(shared, p)?;
-    let acted = [answer_of(&dropping), answer_of(&leasing)];
-    Some((acted, reply, seen, rows))
+    Some(([dropped.answer, leased.answer], reply, seen, rows))
 }
 
 #[test]
@@ -249,32 +241,4 @@ fn a_verdict_is_judged_again_after_a_drop(rt: HostRuntime) {
     let answers = judged_before_a_drop(&rt, rt.alloc());
     let acted = [Some(dropped), Some(leased)];
     assert!(rt; answers == Some((acted, Some(no), 6, 6)));
-}
-
-// ---- a lease by number
-
-const LEASED_AT: Act<'static> = Act::LeaseAt {
-    client: 7,
-    number: 5,
-    kind: LeaseKind::Read,
-    end: 200,
-};
-
-/// The answer to a lease by number through a second pass, and how many rows the docket has.
-fn leased_at<R: Threads + Wait + Sync>(rt: &R, alloc: Global) -> Option<(ActReply, u32)> {
-    let desk = with_file(alloc)?;
-    let (shared, p) = shared(alloc, desk)?;
-    let (p, q) = split(&shared, p);
-    let ((_, p), (leasing, _)) = both(rt, &shared, Resting, p, Acting::new(LEASED_AT), q);
-    let rows = closed(shared, p)?;
-    Some((answer_of(&leasing)?, rows))
-}
-
-#[test]
-fn a_lease_by_number_is_a_row(rt: HostRuntime) {
-    let leased = ActReply {
-        position: 3,
-        answer: Ok(Done::Leased(5)),
-    };
-    assert!(rt; leased_at(&rt, rt.alloc()) == Some((leased, 4)));
 }

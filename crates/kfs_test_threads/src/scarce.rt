@@ -149,16 +149,32 @@ fn all_five<A: Allocator + Copy>(alloc: A) -> Option<Vec<Submission<A>, A>> {
     Some(submissions)
 }
 
+/// How a batch of these ends.
+fn run<'a, R: Threads + Wait + Sync>(
+    rt: &R,
+    heap: &'a Refusing<Global>,
+    rest: Rest<&'a Refusing<Global>>,
+) -> Option<Ending<&'a Refusing<Global>>> {
+    let (desk, submissions) = rest;
+    batch(rt, heap, &Open, desk, submissions, 1)
+}
+
+/// A desk, and the five submissions.
+fn begun<A: Allocator + Copy>(alloc: A) -> Option<Rest<A>> {
+    let submissions = all_five(alloc)?;
+    let desk = opened_with(alloc, 100)?;
+    Some((desk, submissions))
+}
+
 /// How a batch of the five ends, with the allocation of this index failing.
 fn ended<'a, R: Threads + Wait + Sync>(
     rt: &R,
     heap: &'a Refusing<Global>,
     growth: u64,
 ) -> Option<Ending<&'a Refusing<Global>>> {
-    let submissions = all_five(heap)?;
-    let desk = opened_with(heap, 100)?;
+    let rest = begun(heap)?;
     heap.refuse_after(growth);
-    batch(rt, heap, &Open, desk, submissions, 1)
+    run(rt, heap, rest)
 }
 
 /// Whether nothing is left, and the docket has six rows.
@@ -172,8 +188,7 @@ fn is_finished<'a, R: Threads + Wait + Sync>(
     heap: &'a Refusing<Global>,
     rest: Rest<&'a Refusing<Global>>,
 ) -> bool {
-    let (desk, submissions) = rest;
-    match batch(rt, heap, &Open, desk, submissions, 1) {
+    match run(rt, heap, rest) {
         Some(Ok(end)) => is_done(&end),
         _ => false,
     }

@@ -15,10 +15,10 @@ fn client(number: u32, id: u32, first: u32, last: u32) -> Result<Client, ClientF
 
 /// A desk whose docket takes so many rows.
 fn begun<A: Allocator + Copy>(alloc: A, limit: u32) -> Option<Desk<A>> {
-    let image = Image::fresh(alloc, TierSizes::new(8, 8, 8)?).ok()?;
     let seven = client(7, 1_000, 2, 99).ok()?;
     let eight = client(8, 1_001, 100, 199).ok()?;
     let clients = vec![in alloc; seven, eight].ok()?;
+    let image = Image::fresh(alloc, TierSizes::new(8, 8, 8)?).ok()?;
     Desk::begin(alloc, image, clients, limit).ok()
 }
 

@@ -1,6 +1,6 @@
 //! An example of each public type of `kfs_judge`, `kfs_plan` and `kfs_desk`: how it comes about, and what it holds.
 
-use crate::desks::{AMPLE, begun, client, create, opening, submission};
+use crate::desks::{AMPLE, Call, ROOT_LEASED, are_due, begun, client, desk_after};
 use kfs_desk::{
     Act, ActFault, ActReply, Back, BeginBack, BeginFault, Desk, Done, Reply, SubmissionsBack,
     Unanswered, Why,
@@ -10,26 +10,20 @@ use kfs_image::{Answer, Cell, Image, TierSizes};
 use kfs_judge::{
     EntryFault, FileSize, Keeping, Net, Read, ReadAnswer, Reason, View, Walk, judge_entries_keeping,
 };
-use kfs_lease::{LeaseFault, LeaseKind};
+use kfs_lease::LeaseFault;
 use kfs_mode::Client;
-use kfs_plan::{Fault, Judged, Outcome, RowFault, Submission, judge, judge_bytes};
+use kfs_plan::{Fault, Outcome, RowFault, Submission, judge, judge_bytes};
 use kfs_test_support::refusing::Refusing;
 use kfs_test_support::vectors::{CREATE_LOG, CREATE_PLAN, EMPTY_PLAN};
 use std::alloc::{Allocator, Global};
-
-/// What the desk answers where client 7 asks for a write lease on the root.
-fn lease<A: Allocator + Copy>(desk: &mut Desk<A>) -> Result<ActReply, Unanswered> {
-    desk.lease(7, b"/", LeaseKind::Write, 100)
-}
+use std::process::Abort;
 
 // ---- views, and what a walk over a log's entries finds
 
-fn view(desk: &Desk<Global>) -> Option<View<Global>> {
+/// A view of a new desk after these calls.
+fn view(alloc: Global, calls: &[Call<'_>]) -> Option<View<Global>> {
+    let desk = desk_after(alloc, 9, calls)?;
     desk.view().ok()
-}
-
-fn log(alloc: Global, bytes: &[u8]) -> Option<Log<Global>> {
-    decode_log(alloc, bytes).ok()
 }
 
 /// The walk over the entries of a log, or none where its client is unknown.
@@ -46,90 +40,90 @@ fn walk(
     judge_entries_keeping(alloc, view, log, keeping).ok()
 }
 
-fn walked(alloc: Global, desk: &Desk<Global>, bytes: &[u8]) -> Option<Walk<Global>> {
-    let log = log(alloc, bytes)?;
-    walk(alloc, &view(desk)?, &log, Keeping::Reads)
-}
-
-fn walked_unread(alloc: Global, desk: &Desk<Global>, bytes: &[u8]) -> Option<Walk<Global>> {
-    let log = log(alloc, bytes)?;
-    walk(alloc, &view(desk)?, &log, Keeping::Nothing)
-}
-
-/// What was read of the cell, or none where it wasn't looked at.
-fn read(walk: &Walk<Global>, read: Read) -> Option<ReadAnswer> {
-    walk.reads.get(&read)
-}
-
 /// How many names and headers differ after the log.
 fn differing(net: &Net<Global>) -> (usize, usize) {
     (net.names.len(), net.nodes.len())
 }
 
-fn outcome(walk: &Walk<Global>) -> Result<(usize, usize), EntryFault> {
+/// How many names and headers differ after a log, or its first fault.
+type Differing = Result<(usize, usize), EntryFault>;
+
+fn outcome(walk: &Walk<Global>) -> Differing {
     match &walk.outcome {
         Ok(net) => Ok(differing(net)),
         Err(fault) => Err(*fault),
     }
 }
 
-fn size(walk: &Walk<Global>) -> Option<FileSize> {
-    walk.sizes.first().copied()
+/// What was read of the lease on the root, of the header of file 5, and of the root's number of names. None where it wasn't
+/// looked at.
+fn reads(walk: &Walk<Global>) -> [Option<ReadAnswer>; 3] {
+    [
+        walk.reads.get(&Read::Lease(1)),
+        walk.reads.get(&Read::Look(Cell::Header(5))),
+        walk.reads.get(&Read::Look(Cell::Count(1))),
+    ]
 }
 
-#[test]
-fn a_walk_and_what_it_read(rt: HostRuntime) {
-    let walk = opening(rt.alloc(), 9).and_then(|desk| walked(rt.alloc(), &desk, CREATE_LOG));
-    assert!(rt; walk.is_some());
-    if let Some(walk) = walk {
-        assert!(rt; outcome(&walk) == Ok((1, 1)));
-        assert!(rt; read(&walk, Read::Lease(1)) == Some(ReadAnswer::Lease(true)));
-        let free = ReadAnswer::Look(Answer::Header(None));
-        assert!(rt; read(&walk, Read::Look(Cell::Header(5))) == Some(free));
-        assert!(rt; read(&walk, Read::Look(Cell::Count(1))).is_none());
-        let created = FileSize {
-            number: 5,
-            before: 0,
-            after: 0,
-        };
-        assert!(rt; size(&walk) == Some(created));
-    }
+/// What a walk has found and read, the size of the first file, and whether reads were kept.
+type Told = (Differing, [Option<ReadAnswer>; 3], Option<FileSize>, bool);
+
+fn told(walk: Walk<Global>) -> Told {
+    let found = outcome(&walk);
+    let reads = reads(&walk);
+    let size = walk.sizes.first().copied();
+    (found, reads, size, walk.reads.into_map().is_some())
 }
 
+/// What is told of the walk over the Create of file 5.
+fn walked(alloc: Global, calls: &[Call<'_>], keeping: Keeping) -> Option<Told> {
+    let log = decode_log(alloc, CREATE_LOG).ok()?;
+    let view = view(alloc, calls)?;
+    let walk = walk(alloc, &view, &log, keeping)?;
+    Some(told(walk))
+}
+
+const READ: [Option<ReadAnswer>; 3] = [
+    Some(ReadAnswer::Lease(true)),
+    Some(ReadAnswer::Look(Answer::Header(None))),
+    None,
+];
+
+const CREATED_EMPTY: FileSize = FileSize {
+    number: 5,
+    before: 0,
+    after: 0,
+};
+
 #[test]
-fn a_walk_that_keeps_no_read(rt: HostRuntime) {
-    let walk = opening(rt.alloc(), 9).and_then(|desk| walked_unread(rt.alloc(), &desk, CREATE_LOG));
-    assert!(rt; walk.is_some());
-    if let Some(walk) = walk {
-        assert!(rt; outcome(&walk) == Ok((1, 1)));
-        assert!(rt; read(&walk, Read::Lease(1)).is_none());
-        assert!(rt; walk.reads.into_map().is_none());
-    }
+fn walks_and_what_they_read(rt: HostRuntime) {
+    let kept = walked(rt.alloc(), &[ROOT_LEASED], Keeping::Reads);
+    assert!(rt; kept == Some((Ok((1, 1)), READ, Some(CREATED_EMPTY), true)));
+    let unkept = walked(rt.alloc(), &[ROOT_LEASED], Keeping::Nothing);
+    assert!(rt; unkept == Some((Ok((1, 1)), [None, None, None], Some(CREATED_EMPTY), false)));
+}
+
+/// The first fault where no lease is held.
+fn fault_without_a_lease(alloc: Global) -> Option<EntryFault> {
+    let (found, _reads, _size, _is_kept) = walked(alloc, &[], Keeping::Reads)?;
+    found.err()
 }
 
 #[test]
 fn a_walk_that_stops_at_an_entry(rt: HostRuntime) {
-    let walk = begun(rt.alloc(), 8, 9).and_then(|desk| walked(rt.alloc(), &desk, CREATE_LOG));
     let fault = EntryFault {
         index: 0,
         reason: Reason::NoLease(1),
     };
-    let found = match walk {
-        Some(walk) => outcome(&walk),
-        None => Ok((0, 0)),
-    };
-    assert!(rt; found == Err(fault));
+    assert!(rt; fault_without_a_lease(rt.alloc()) == Some(fault));
 }
 
 // ---- verdicts
 
-/// The verdict on a submission in the state of now.
-fn judged(alloc: Global, desk: &Desk<Global>, log: &[u8], plan: &[u8]) -> Option<Judged<Global>> {
-    judge(alloc, &view(desk)?, submission(alloc, log, plan).ok()?).ok()
-}
-
 /// How many names and headers a Yes changes and how many blocks it writes, or why the verdict is a No.
-fn verdict(outcome: &Outcome<Global>) -> Result<(usize, usize, u64), Fault> {
+type Verdict = Result<(usize, usize, u64), Fault>;
+
+fn verdict(outcome: &Outcome<Global>) -> Verdict {
     match outcome {
         Outcome::Yes { net, need, .. } => {
             let (names, nodes) = differing(net);
@@ -139,125 +133,68 @@ fn verdict(outcome: &Outcome<Global>) -> Result<(usize, usize, u64), Fault> {
     }
 }
 
-/// The verdict on a log and a plan where client 7 holds the root.
-fn verdict_on(
-    alloc: Global,
-    log: &[u8],
-    plan: &[u8],
-) -> Option<Result<(usize, usize, u64), Fault>> {
-    let desk = opening(alloc, 9)?;
-    let judged = judged(alloc, &desk, log, plan)?;
+fn submission<A: Allocator + Copy>(alloc: A, log: &[u8], plan: &[u8]) -> Option<Submission<A>> {
+    Some(Submission {
+        client: 7,
+        log: Vec::from_slice(alloc, log).ok()?,
+        plan: Vec::from_slice(alloc, plan).ok()?,
+    })
+}
+
+/// The verdict on a submission.
+fn judged(alloc: Global, view: &View<Global>, log: &[u8], plan: &[u8]) -> Option<Verdict> {
+    let judged = judge(alloc, view, submission(alloc, log, plan)?).ok()?;
     Some(verdict(judged.outcome()))
 }
 
 /// The same by a call that leaves the bytes where they are.
-fn verdict_on_bytes(
-    alloc: Global,
-    log: &[u8],
-    plan: &[u8],
-) -> Option<Result<(usize, usize, u64), Fault>> {
-    let view = view(&opening(alloc, 9)?)?;
-    let outcome = judge_bytes(alloc, &view, 7, log, plan).ok()?;
+fn judged_bytes(alloc: Global, view: &View<Global>, log: &[u8], plan: &[u8]) -> Option<Verdict> {
+    let outcome = judge_bytes(alloc, view, 7, log, plan).ok()?;
     Some(verdict(&outcome))
+}
+
+/// Whether both verdicts are this one, where client 7 holds the root.
+fn is_judged(alloc: Global, log: &[u8], plan: &[u8], due: Verdict) -> bool {
+    match view(alloc, &[ROOT_LEASED]) {
+        Some(view) => {
+            judged(alloc, &view, log, plan) == Some(due)
+                && judged_bytes(alloc, &view, log, plan) == Some(due)
+        }
+        None => false,
+    }
 }
 
 #[test]
 fn a_verdict_of_yes_and_two_of_no(rt: HostRuntime) {
-    let yes = verdict_on(rt.alloc(), CREATE_LOG, CREATE_PLAN);
-    assert!(rt; yes == Some(Ok((1, 1, 0))));
-    let row = verdict_on(rt.alloc(), CREATE_LOG, EMPTY_PLAN);
-    assert!(rt; row == Some(Err(Fault::Row(RowFault::Names(0)))));
-    let cut = verdict_on(rt.alloc(), &CREATE_LOG[..24], CREATE_PLAN);
-    assert!(rt; cut == Some(Err(Fault::BadLog(SpellFault::BadEntry(0)))));
-}
-
-#[test]
-fn verdicts_on_bytes(rt: HostRuntime) {
-    let yes = verdict_on_bytes(rt.alloc(), CREATE_LOG, CREATE_PLAN);
-    assert!(rt; yes == Some(Ok((1, 1, 0))));
-    let row = verdict_on_bytes(rt.alloc(), CREATE_LOG, EMPTY_PLAN);
-    assert!(rt; row == Some(Err(Fault::Row(RowFault::Names(0)))));
+    assert!(rt; is_judged(rt.alloc(), CREATE_LOG, CREATE_PLAN, Ok((1, 1, 0))));
+    let row = Fault::Row(RowFault::Names(0));
+    assert!(rt; is_judged(rt.alloc(), CREATE_LOG, EMPTY_PLAN, Err(row)));
+    let cut = Fault::BadLog(SpellFault::BadEntry(0));
+    assert!(rt; is_judged(rt.alloc(), &CREATE_LOG[..24], CREATE_PLAN, Err(cut)));
 }
 
 // ---- the desk's answers
 
-pub fn submit<A: Allocator + Copy>(
-    desk: &mut Desk<A>,
-    submission: Submission<A>,
-) -> Result<Reply, Back<A>> {
-    desk.submit(submission)
-}
-
-/// What a desk with a docket of `limit` rows answers to the Create of file 5, or why it comes back.
-fn created(alloc: Global, limit: u32) -> Option<Result<Reply, Why>> {
-    let submission = create(alloc).ok()?;
-    let mut desk = opening(alloc, limit)?;
-    match submit(&mut desk, submission) {
-        Ok(reply) => Some(Ok(reply)),
-        // the submission is as it was handed in
-        Err(back) if back.submission.log.as_slice() == CREATE_LOG => Some(Err(back.why)),
-        Err(_) => None,
-    }
-}
-
-#[test]
-fn a_reply_and_a_submission_that_comes_back(rt: HostRuntime) {
-    let yes = Reply::Yes {
-        position: 1,
-        rejudged: false,
-        need: 0,
-    };
-    assert!(rt; created(rt.alloc(), 2) == Some(Ok(yes)));
-    assert!(rt; created(rt.alloc(), 1) == Some(Err(Why::DocketFull)));
-}
-
-/// What such a desk answers to the same bytes, where they lie.
-fn created_of_bytes(alloc: Global, limit: u32) -> Option<Result<Reply, Why>> {
-    let mut desk = opening(alloc, limit)?;
-    Some(desk.submit_bytes(7, CREATE_LOG, CREATE_PLAN))
-}
-
-#[test]
-fn replies_to_bytes(rt: HostRuntime) {
-    let yes = Reply::Yes {
-        position: 1,
-        rejudged: false,
-        need: 0,
-    };
-    assert!(rt; created_of_bytes(rt.alloc(), 2) == Some(Ok(yes)));
-    assert!(rt; created_of_bytes(rt.alloc(), 1) == Some(Err(Why::DocketFull)));
-}
-
-fn act(desk: &mut Desk<Global>, act: Act<'_>) -> Result<ActReply, Unanswered> {
-    desk.act(act)
-}
-
-fn docket_len(desk: &Desk<Global>) -> u32 {
-    desk.docket().len()
-}
-
-#[test]
-fn answers_to_calls_for_leases(rt: HostRuntime) {
-    let desk = begun(rt.alloc(), 8, 2);
-    assert!(rt; desk.is_some());
-    if let Some(mut desk) = desk {
-        let leased = ActReply {
-            position: 0,
-            answer: Ok(Done::Leased(1)),
-        };
-        assert!(rt; lease(&mut desk) == Ok(leased));
-        let refused = ActReply {
-            position: 1,
-            answer: Err(ActFault::Lease(LeaseFault::NoLeaseHeld)),
-        };
-        let drop = Act::Drop {
+/// Calls at a desk whose docket takes two rows.
+const TWO_ROWS: [Call<'static>; 4] = [
+    ROOT_LEASED,
+    Call::Act(
+        Act::Drop {
             client: 7,
             number: 5,
-        };
-        assert!(rt; act(&mut desk, drop) == Ok(refused));
-        assert!(rt; act(&mut desk, Act::Tick { moment: 5 }) == Err(Unanswered::DocketFull));
-        assert!(rt; docket_len(&desk) == 2);
-    }
+        },
+        Ok(ActReply {
+            position: 1,
+            answer: Err(ActFault::Lease(LeaseFault::NoLeaseHeld)),
+        }),
+    ),
+    Call::Act(Act::Tick { moment: 5 }, Err(Unanswered::DocketFull)),
+    Call::Submit(CREATE_LOG, CREATE_PLAN, Err(Why::DocketFull)),
+];
+
+#[test]
+fn answers_to_calls(rt: HostRuntime) {
+    assert!(rt; are_due(rt.alloc(), 2, &TWO_ROWS));
 }
 
 fn begin(
@@ -268,11 +205,16 @@ fn begin(
     Desk::begin(alloc, image, clients, 9)
 }
 
+/// Two clients of one number.
+fn twins(alloc: Global) -> Option<Vec<Client, Global>> {
+    let other = Client::new(7, 1_000, 1_000, &[], false, 100, 199).ok()?;
+    vec![in alloc; client().ok()?, other].ok()
+}
+
 /// Why no desk is begun with two clients of one number, and how many clients come back with the image.
 fn begun_with_a_client_twice(alloc: Global) -> Option<(BeginFault, usize)> {
+    let clients = twins(alloc)?;
     let image = Image::fresh(alloc, TierSizes::new(8, 8, 8)?).ok()?;
-    let other = Client::new(7, 1_000, 1_000, &[], false, 100, 199).ok()?;
-    let clients = vec![in alloc; client(7, 99).ok()?, other].ok()?;
     match begin(alloc, image, clients) {
         Ok(_) => None,
         Err(back) => Some((back.why, back.clients.len())),
@@ -284,6 +226,17 @@ fn a_desk_that_is_not_begun(rt: HostRuntime) {
     assert!(rt; begun_with_a_client_twice(rt.alloc()) == Some((BeginFault::ClientTwice(1), 2)));
 }
 
+// ---- submissions at once
+
+/// The Create of file 5, three times.
+fn creates<A: Allocator + Copy>(alloc: A) -> Option<Vec<Submission<A>, A>> {
+    let mut all = Vec::new(alloc);
+    for _ in 0..3 {
+        all.push(submission(alloc, CREATE_LOG, CREATE_PLAN)?).ok()?;
+    }
+    Some(all)
+}
+
 fn submit_all<A: Allocator + Copy>(
     desk: &mut Desk<A>,
     submissions: Vec<Submission<A>, A>,
@@ -291,25 +244,30 @@ fn submit_all<A: Allocator + Copy>(
     desk.submit_all(submissions)
 }
 
-/// The reply, or why the submission came back.
-fn reply(answer: &Result<Reply, Back<Global>>) -> Result<Reply, Why> {
+/// The reply, or why the submission came back as it was handed in.
+fn reply(answer: &Result<Reply, Back<Global>>) -> Option<Result<Reply, Why>> {
     match answer {
-        Ok(reply) => Ok(*reply),
-        Err(back) => Err(back.why),
+        Ok(reply) => Some(Ok(*reply)),
+        Err(back) if back.submission.log.as_slice() == CREATE_LOG => Some(Err(back.why)),
+        Err(_) => None,
+    }
+}
+
+/// What these were answered.
+fn replies(answers: &[Result<Reply, Back<Global>>]) -> Option<[Result<Reply, Why>; 3]> {
+    match answers {
+        [first, second, third] => Some([reply(first)?, reply(second)?, reply(third)?]),
+        _ => None,
     }
 }
 
 /// What a desk with a docket of three rows answers to the Create of file 5, handed in three times at once.
 fn created_three_times(alloc: Global) -> Option<[Result<Reply, Why>; 3]> {
-    let mut submissions = Vec::new(alloc);
-    for _ in 0..3 {
-        submissions.push(create(alloc).ok()?).ok()?;
-    }
-    let mut desk = opening(alloc, 3)?;
-    let answers = submit_all(&mut desk, submissions).ok()?;
-    match answers.as_slice() {
-        [first, second, third] => Some([reply(first), reply(second), reply(third)]),
-        _ => None,
+    let submissions = creates(alloc)?;
+    let mut desk = desk_after(alloc, 3, &[ROOT_LEASED])?;
+    match submit_all(&mut desk, submissions) {
+        Ok(answers) => replies(answers.as_slice()),
+        Err(_) => None,
     }
 }
 
@@ -333,10 +291,9 @@ fn submissions_one_after_another(rt: HostRuntime) {
 }
 
 /// How many submissions come back where the desk finds no room for their answers.
-fn sent_back(alloc: Global) -> Option<usize> {
-    let heap = Refusing::new(alloc, AMPLE);
-    let submissions = vec![in &heap; create(&heap).ok()?].ok()?;
-    let mut desk = opening(&heap, 9)?;
+fn sent_back<A: Allocator + Copy>(alloc: A, heap: &Refusing<Global>) -> Option<usize> {
+    let submissions = creates(alloc)?;
+    let mut desk = begun(alloc, 9)?;
     heap.refuse_after(0);
     match submit_all(&mut desk, submissions) {
         Ok(_) => None,
@@ -346,5 +303,6 @@ fn sent_back(alloc: Global) -> Option<usize> {
 
 #[test]
 fn submissions_that_come_back(rt: HostRuntime) {
-    assert!(rt; sent_back(rt.alloc()) == Some(1));
+    let heap = Refusing::new(rt.alloc(), AMPLE);
+    assert!(rt; sent_back(&heap, &heap) == Some(3));
 }

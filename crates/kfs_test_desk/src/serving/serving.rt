@@ -1,4 +1,4 @@
-//! A server in thirty lines: from a new image to a landing. docs/ARCHITECTURE.md shows the function `serve`.
+//! A server in thirty lines: from a new image to a landing. docs/ARCHITECTURE.md shows these functions.
 
 use kfs_desk::{Desk, Reply};
 use kfs_image::{Image, TierSizes};
@@ -14,18 +14,19 @@ const LOG: &[u8] = b"KLOG\x01\0\0\0\x07\0\x01\x01\0\0\0\x01\x01a\0\0\0\x05\0\x01
 const PLAN: &[u8] = b"KPLN\x01\0\x01\0\x01\0\0\0\0\0\0\0\x01\x01a\0\0\0\x05\0\0\0\x05\
       \x01\x01\xa4\0\0\x03\xe8\0\0\x03\xe8\0\x01\0\0\0\0\0\0\0\0";
 
-/// Opens a desk on a new image, lets client 7 lease the root directory, and answers its submission.
-fn serve(alloc: Global, log: &[u8], plan: &[u8]) -> Option<Reply> {
-    // three tiers, of 4, 16 and 64 MiB
-    let image = Image::fresh(alloc, TierSizes::new(1_024, 4_096, 16_384)?).ok()?;
+/// Opens a desk on a new image.
+fn opened(alloc: Global) -> Option<Desk<Global>> {
     // client 7, of uid and gid 1000, may give the numbers 2 to 99 to new nodes
     let client = Client::new(7, 1_000, 1_000, &[], false, 2, 99).ok()?;
-    let mut clients = Vec::new(alloc);
-    clients.push(client).ok()?;
+    let clients = vec![in alloc; client].ok()?;
+    // three tiers, of 4, 16 and 64 MiB
+    let image = Image::fresh(alloc, TierSizes::new(1_024, 4_096, 16_384)?).ok()?;
     // at most 1,000 calls are answered
-    let mut desk = Desk::begin(alloc, image, clients, 1_000).ok()?;
-    let leased = desk.lease(7, b"/", LeaseKind::Write, 100).ok()?;
-    leased.answer.ok()?;
+    Desk::begin(alloc, image, clients, 1_000).ok()
+}
+
+/// Judges what client 7 hands in, and lands it.
+fn answered(alloc: Global, desk: &mut Desk<Global>, log: &[u8], plan: &[u8]) -> Option<Reply> {
     let submission = Submission {
         client: 7,
         log: Vec::from_slice(alloc, log).ok()?,
@@ -37,6 +38,16 @@ fn serve(alloc: Global, log: &[u8], plan: &[u8]) -> Option<Reply> {
     drop(view);
     // landing judges again only where what the verdict rests on has changed
     desk.land(judged).ok()
+}
+
+/// Opens a desk, lets client 7 lease the root directory, and answers its submission.
+fn serve(alloc: Global, log: &[u8], plan: &[u8]) -> Option<Reply> {
+    let mut desk = opened(alloc)?;
+    let leased = desk.lease(7, b"/", LeaseKind::Write, 100);
+    match leased {
+        Ok(reply) if reply.answer.is_ok() => answered(alloc, &mut desk, log, plan),
+        _ => None,
+    }
 }
 
 #[test]

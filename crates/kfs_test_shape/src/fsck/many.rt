@@ -1,10 +1,23 @@
 //! Images with so many nodes that their rules are tested in several threads.
 
-use crate::fsck::rules::found_in;
+use kfs_fsck::{FsckFault, RawImage, fsck};
 use kfs_test_support::images::many::{GREATEST, chain};
 use std::alloc::Allocator;
 use std::process::Abort;
 use std::thread::Threads;
+
+/// The rule and the number found in the image; an inner none where it is accepted.
+fn found_in<A: Allocator + Copy>(
+    rt: &(impl Threads + Sync),
+    alloc: A,
+    raw: RawImage<A>,
+) -> Option<Option<(u8, u32)>> {
+    match fsck(rt, alloc, raw) {
+        Ok(_image) => Some(None),
+        Err(FsckFault::Found(finding)) => Some(Some((finding.rule, finding.number))),
+        Err(FsckFault::OutOfMemory(_raw)) => None,
+    }
+}
 
 /// The finding where each directory from `first` on leads to the next one, and the last one to `last`.
 fn found<A: Allocator + Copy>(

@@ -31,102 +31,106 @@ fn is_right<A: Allocator + Copy>(alloc: A, raw: &RawImage<A>) -> bool
 }
 
 /// Whether an allocation failed, and the raw image is as it was. No further allocation fails then.
-fn is_kept<'a>(heap: &'a Refusing<Global>, raw: &RawImage<&'a Refusing<Global>>) -> bool {
+fn is_kept<A: Allocator + Copy>(alloc: A, heap: &Refusing<Global>, raw: &RawImage<A>) -> bool {
     let has_refused = heap.has_refused();
     heap.refuse_after(AMPLE);
-    match image(heap, &[RIGHT]) {
+    match image(alloc, &[RIGHT]) {
         Some(other) => has_refused && is_same(raw, &other),
         None => false,
     }
 }
 
-/// Whether an allocation failed, where the image is to be this; none where the answer is wrong.
-fn made_with<A: Allocator>(heap: &Refusing<Global>, made: &Image<A>) -> Option<bool> {
-    (!heap.has_refused() && shows_right(made)).then_some(false)
+/// Whether an image is made of rows that break no rule, and shows them.
+fn is_shown_of<A: Allocator + Copy>(alloc: A, raw: RawImage<A>) -> bool {
+    if !is_right(alloc, &raw) {
+        return false;
+    }
+    match Image::from_raw(alloc, raw) {
+        Ok(made) => shows_right(&made),
+        Err(_back) => false,
+    }
 }
 
-/// Whether the rows, which came back, are as they were, and are then made an image; none where not.
-fn is_made_again<'a>(
-    heap: &'a Refusing<Global>,
-    raw: RawImage<&'a Refusing<Global>>,
-) -> Option<bool> {
-    if !is_kept(heap, &raw) {
-        return None;
-    }
-    if !is_right(heap, &raw) {
-        return None;
-    }
-    let made = Image::from_raw(heap, raw).ok()?;
-    shows_right(&made).then_some(true)
-}
-
-/// Whether an allocation failed as an image was made of the rows; none where the answer is wrong.
-fn is_made_refused<'a>(
-    heap: &'a Refusing<Global>,
-    raw: RawImage<&'a Refusing<Global>>,
+/// Makes an image of the rows with the allocation of this index failing, and once more of what came back. Whether that
+/// allocation was asked for; none where the answer is wrong.
+fn made<A: Allocator + Copy>(
+    alloc: A,
+    heap: &Refusing<Global>,
+    raw: RawImage<A>,
+    growth: u64,
 ) -> Option<bool>
     requires { IsWellFormed (raw_of raw) }
 {
-    match Image::from_raw(heap, raw) {
-        Ok(made) => made_with(heap, &made),
-        Err(back) => is_made_again(heap, back),
-    }
-}
-
-/// The same, with the allocation of this index failing.
-fn is_making_refused(alloc: Global, growth: u64) -> Option<bool> {
-    let heap = Refusing::new(alloc, AMPLE);
-    let raw = image(&heap, &[RIGHT])?;
-    if !is_right(&heap, &raw) {
-        return None;
-    }
     heap.refuse_after(growth);
-    is_made_refused(&heap, raw)
+    match Image::from_raw(alloc, raw) {
+        Ok(made) => (!heap.has_refused() && shows_right(&made)).then_some(false),
+        Err(back) => {
+            if !is_kept(alloc, heap, &back) {
+                return None;
+            }
+            is_shown_of(alloc, back).then_some(true)
+        }
+    }
 }
 
-/// Whether the rows, which came back, are as they were, and are then let in; none where not.
-fn is_let_in_again<'a>(
-    rt: &(impl Threads + Sync),
-    heap: &'a Refusing<Global>,
-    raw: RawImage<&'a Refusing<Global>>,
+/// The same of the right rows.
+fn made_with_one_refused<A: Allocator + Copy>(
+    alloc: A,
+    heap: &Refusing<Global>,
+    growth: u64,
 ) -> Option<bool> {
-    if !is_kept(heap, &raw) {
+    let raw = image(alloc, &[RIGHT])?;
+    if !is_right(alloc, &raw) {
         return None;
     }
-    let made = fsck(rt, heap, raw).ok()?;
-    shows_right(&made).then_some(true)
+    made(alloc, heap, raw, growth)
 }
 
-/// Whether an allocation failed as the rows were checked and accepted, with the allocation of this index
-/// refused; none where the answer is wrong.
-fn is_check_refused(rt: &(impl Threads + AllocGlobal + Sync), growth: u64) -> Option<bool> {
-    let heap = Refusing::new(rt.alloc(), AMPLE);
-    let raw = image(&heap, &[RIGHT])?;
+/// Whether the rows are let in, and shown.
+fn is_let_in<A: Allocator + Copy>(
+    rt: &(impl Threads + Sync),
+    alloc: A,
+    raw: RawImage<A>,
+) -> bool {
+    match fsck(rt, alloc, raw) {
+        Ok(made) => shows_right(&made),
+        Err(_fault) => false,
+    }
+}
+
+/// Checks the rows and lets them in with the allocation of this index failing, and once more what came back. Whether that
+/// allocation was asked for; none where the answer is wrong.
+fn checked_with_one_refused<A: Allocator + Copy>(
+    rt: &(impl Threads + Sync),
+    alloc: A,
+    heap: &Refusing<Global>,
+    growth: u64,
+) -> Option<bool> {
+    let raw = image(alloc, &[RIGHT])?;
     heap.refuse_after(growth);
-    match fsck(rt, &heap, raw) {
-        Ok(made) => made_with(&heap, &made),
+    match fsck(rt, alloc, raw) {
+        Ok(made) => (!heap.has_refused() && shows_right(&made)).then_some(false),
         Err(FsckFault::Found(_finding)) => None,
-        Err(FsckFault::OutOfMemory(back)) => is_let_in_again(rt, &heap, back),
+        Err(FsckFault::OutOfMemory(back)) => {
+            if !is_kept(alloc, heap, &back) {
+                return None;
+            }
+            is_let_in(rt, alloc, back).then_some(true)
+        }
     }
 }
 
-/// How many allocations an image of the rows asks for, each refused in turn; or as an error the index of one
+/// How many allocations an image of the rows asks for, checked or not, each refused in turn; or as an error the index of one
 /// at which the answer is wrong.
-fn growths_of_making(alloc: Global) -> Result<u64, u64> {
+fn growths(rt: &(impl Threads + AllocGlobal + Sync), is_checked: bool) -> Result<u64, u64> {
     for growth in 0..MANY {
-        match is_making_refused(alloc, growth) {
-            Some(true) => {}
-            Some(false) => return Ok(growth),
-            None => return Err(growth),
-        }
-    }
-    Err(MANY)
-}
-
-/// The same for the check and the image.
-fn growths_of_check(rt: &(impl Threads + AllocGlobal + Sync)) -> Result<u64, u64> {
-    for growth in 0..MANY {
-        match is_check_refused(rt, growth) {
+        let heap = Refusing::new(rt.alloc(), AMPLE);
+        let is_refused = if is_checked {
+            checked_with_one_refused(rt, &heap, &heap, growth)
+        } else {
+            made_with_one_refused(&heap, &heap, growth)
+        };
+        match is_refused {
             Some(true) => {}
             Some(false) => return Ok(growth),
             None => return Err(growth),
@@ -136,13 +140,9 @@ fn growths_of_check(rt: &(impl Threads + AllocGlobal + Sync)) -> Result<u64, u64
 }
 
 #[test]
-fn each_growth_of_an_image_refused(rt: HostRuntime) {
-    let count = growths_of_making(rt.alloc());
+fn each_growth_refused(rt: HostRuntime) {
+    let count = growths(&rt, false);
     assert!(&rt; matches!(count, Ok(20..)), "{count:?}");
-}
-
-#[test]
-fn each_growth_of_the_check_refused(rt: HostRuntime) {
-    let count = growths_of_check(&rt);
+    let count = growths(&rt, true);
     assert!(&rt; matches!(count, Ok(30..)), "{count:?}");
 }

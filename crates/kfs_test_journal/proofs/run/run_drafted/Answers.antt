@@ -19,18 +19,18 @@ extend-requires-clause-draft g c =
 pub extend-requires-2-clause-draft : goal.extend-requires-2-clause-draft
 extend-requires-2-clause-draft g c =
     let begun = c.in_ok-put.ensures.draft c.in_ok-draft.draft [] c.in_ok-draft.ensures.draft.0 in
-    (_, c.in_ok-put-2.ensures.draft c.extend.new.self _ (c.in_ok-extend.ensures.draft [] begun))
+    (_, c.in_ok-put-2.ensures.draft c.extend.new.draft _ (c.in_ok-extend.ensures.draft [] begun))
 
 pub extend-requires-3-clause-draft : goal.extend-requires-3-clause-draft
 extend-requires-3-clause-draft g c =
     let begun = c.in_ok-put.ensures.draft c.in_ok-draft.draft [] c.in_ok-draft.ensures.draft.0 in
-    let half = c.in_ok-put-2.ensures.draft c.extend.new.self _ (c.in_ok-extend.ensures.draft [] begun) in
+    let half = c.in_ok-put-2.ensures.draft c.extend.new.draft _ (c.in_ok-extend.ensures.draft [] begun) in
     (_, c.in_ok-extend-2.ensures.draft _ half)
 
 pub finish-requires-clause-whole : goal.finish-requires-clause-whole
 finish-requires-clause-whole g c =
     let begun = c.in_ok-put.ensures.draft c.in_ok-draft.draft [] c.in_ok-draft.ensures.draft.0 in
-    let half = c.in_ok-put-2.ensures.draft c.extend.new.self _ (c.in_ok-extend.ensures.draft [] begun) in
+    let half = c.in_ok-put-2.ensures.draft c.extend.new.draft _ (c.in_ok-extend.ensures.draft [] begun) in
     let all = c.in_ok-extend-3.ensures.draft _ (c.in_ok-extend-2.ensures.draft _ half) in
     let first = c.in_ok-push_record.ensures ∙ ap (λ (l : List ℕ). l ++ record_bytes one) c.new-records.ensures.items in
     let records : c.deref.result.now ≡ records_bytes (one ∷ two ∷ []) =
@@ -38,7 +38,7 @@ finish-requires-clause-whole g c =
       state,
       one ∷ two ∷ [],
       record {
-        stands = subst (λ (r : List ℕ). HasDraft (g.D.Disk.seen c.extend-3.new.disk) c.put-2.new.self c.extend-3.new.self (state ++ r)) records all;
+        stands = subst (λ (r : List ℕ). HasDraft (g.D.Disk.seen c.extend-3.new.disk) c.put-2.new.journal c.extend-3.new.draft (state ++ r)) records all;
         state_len = c.extend-3.ensures.len ∙ c.extend-2.ensures.len ∙ c.extend.ensures.len ∙ c.in_ok-draft.ensures.draft.1;
         state_fits = omega arith;
         groups_fit = (omega arith, (omega arith, tt));
