@@ -66,14 +66,37 @@ impl<A: Allocator + Copy> Shared<Desk<A>, A> {
         ensures err { IfErr result (λ why. ShowsNone self.now pass.old pass.new why) }
         ensures not_full { IfErr result (λ why. why ≢ SharedWant.DocketFull) }
     {
+        let mut replaced = None;
+        self.land_each_keeping(rt, pass, landings, &mut replaced)
+    }
+
+    /// The same. A view of the state before the landings takes the place of `replaced`, if there was
+    /// another one in this turn. So the parts of the state that they replace are kept with it. What it
+    /// takes the place of goes once the turn has ended.
+    pub(crate) fn land_each_keeping<L: Landing<Judged<A>, SharedBack<A>>, R: Wait>(
+        &self,
+        rt: &R,
+        pass: &mut Pass<Desk<A>>,
+        landings: &mut [L],
+        replaced: &mut Option<View<A>>,
+    ) -> Result<View<A>, SharedWant>
+        requires { IsPassOf self.now pass.old }
+        ensures pass { IsPassOf self.now pass.new }
+        ensures landed { LandsEach L.number L.verdict L.keeps self.now pass.old pass.new landings.old landings.new }
+        ensures ok { IfOk result (λ view. ShowsSeen self.now pass.old pass.new view) }
+        ensures err { IfErr result (λ why. ShowsNone self.now pass.old pass.new why) }
+        ensures not_full { IfErr result (λ why. why ≢ SharedWant.DocketFull) }
+    {
         let mut spent = room_for(self.alloc, landings.len());
         let Some(turn) = self.begin_turn(rt, pass) else {
             hand_back(landings);
             return Err(SharedWant::TurnsSpent);
         };
+        let before = turn.view_beside_another(self);
         let turn = land_in(self, turn, landings, &mut spent);
         let view = turn.view(self);
         self.end_turn(pass, turn);
+        *replaced = before;
         view
     }
 }

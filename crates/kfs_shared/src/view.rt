@@ -11,7 +11,7 @@ use crate::want::SharedWant;
 use kfs_desk::Desk;
 use kfs_judge::View;
 use std::alloc::Allocator;
-use std::sync::Wait;
+use std::sync::{Arc, Wait};
 
 impl<A: Allocator + Copy> Shared<Desk<A>, A> {
     /// A view of the desk's state, to be judged against with no turn held. It is the state to which the
@@ -51,5 +51,17 @@ impl<A: Allocator + Copy> Turn<Desk<A>> {
             Ok(view) => Ok(view),
             Err(_) => Err(SharedWant::OutOfMemory),
         }
+    }
+
+    /// One more view, if another one has all nodes and names of the desk's state. Landings copy what they
+    /// change then anyway, so this view makes them copy no more. While it is kept, nothing that they
+    /// replace of this state is given back. Condition: the turn is one of this desk.
+    pub(crate) fn view_beside_another(&self, shared: &Shared<Desk<A>, A>) -> Option<View<A>>
+        requires { IsTurnOf shared.now self.now }
+    {
+        if Arc::strong_count(self.object.image().shape()) == 1 {
+            return None;
+        }
+        self.view(shared).ok()
     }
 }

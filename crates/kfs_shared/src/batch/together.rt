@@ -19,6 +19,17 @@ const MOST_TOGETHER: usize = 16;
 /// The most bytes of the logs and plans that are answered together.
 const MOST_BYTES: usize = 65_536;
 
+/// The views that a worker keeps from one turn to the next.
+#[derive(Drop)]
+pub struct WorkerViews<A: Allocator> {
+    /// Of the state to which its last turn led: it judges against that.
+    now: Option<View<A>>,
+    /// Of the state that its last turn found. It keeps the parts that the worker's own landings have
+    /// replaced, until the other workers have views of later states. So their memory goes back to the
+    /// allocator in the thread that had taken it, with no turn held.
+    replaced: Option<View<A>>,
+}
+
 /// The client of a submission that waits.
 fn client_of<A: Allocator, G>(job: &Job<'_, A, G>) -> Option<u32> {
     match &job.hand {
@@ -105,14 +116,16 @@ impl<'g, A: Allocator + Copy, G: Gate> Task<Desk<A>, A> for Job<'g, A, G> {
 
     ghost done = { λ beginning docket before after. IsJobDone beginning docket before.number before.hand after.number after.hand };
 
-    /// The view that was taken in the last turn.
-    type Kept = Option<View<A>>;
+    type Kept = WorkerViews<A>;
 
-    fn nothing() -> Option<View<A>> {
-        None
+    fn nothing() -> WorkerViews<A> {
+        WorkerViews {
+            now: None,
+            replaced: None,
+        }
     }
 
-    fn let_go(_kept: Option<View<A>>) {}
+    fn let_go(_kept: WorkerViews<A>) {}
 
     fn go_together(tasks: &[Job<'g, A, G>]) -> bool {
         tasks.len() <= MOST_TOGETHER && are_short(tasks) && are_of_clients(tasks)
@@ -122,13 +135,19 @@ impl<'g, A: Allocator + Copy, G: Gate> Task<Desk<A>, A> for Job<'g, A, G> {
         rt: &R,
         shared: &Shared<Desk<A>, A>,
         pass: &mut Pass<Desk<A>>,
-        kept: Option<View<A>>,
+        kept: WorkerViews<A>,
         tasks: &mut [Job<'g, A, G>],
-    ) -> Option<View<A>> {
-        let view = view_of(rt, shared, pass, kept);
+    ) -> WorkerViews<A> {
+        let WorkerViews { now, replaced } = kept;
+        let view = view_of(rt, shared, pass, now);
         judge_from(&view, tasks, 0);
         // A view that is dropped shares nothing with the desk, which then copies less.
         drop(view);
-        shared.land_each(rt, pass, tasks).ok()
+        let mut replaced = replaced;
+        let landed = shared.land_each_keeping(rt, pass, tasks, &mut replaced);
+        WorkerViews {
+            now: landed.ok(),
+            replaced,
+        }
     }
 }

@@ -5,7 +5,7 @@ use Rattle.kfs_shared.specs.Landings.{KeepsAnswer}
 use Rattle.kfs_shared.specs.Passes.{started, seen, own, ended, seen_in, own_in}
 use Rattle.kfs_shared.proofs.Landed.{viewed_err, viewed_ok}
 use Rattle.kfs_shared.proofs.InTurn.{handed_back, landed_begins, landed_then}
-use Rattle.kfs_shared.proofs.landings.Shared+Desk+A+A.land_each.Goals as goal
+use Rattle.kfs_shared.proofs.landings.Shared+Desk+A+A.land_each_keeping.Goals as goal
 
 pub returns-in_default-clause-landed : goal.returns-in_default-clause-landed
 returns-in_default-clause-landed g c =
