@@ -3,7 +3,7 @@ use Rattle.std.proofs.Common.{◌≡◌, inl, inr, ℕ, ◌+◌, ◌-◌, ◌<�
 use Rattle.std.specs.Prelude.{IfSome}
 use Rattle.std.specs.List.{AllByRecursion}
 use Rattle.std.proofs.Math.Seq.{take-add}
-use Rattle.std.proofs.lemmas.List.{append-nil, drop-drop, drop_at, flat_map_more, take-append-le, take_all, take_min}
+use Rattle.std.proofs.lemmas.List.{drop-drop, drop_at, flat_map_more, take-append-le, take_all, take_min}
 use Rattle.kfs_model.specs.Judgement.{State}
 use Rattle.kfs_journal.specs.declared.journal.Journal.{Journal}
 use Rattle.kfs_journal.specs.declared.journal.draft.Draft.{Draft}
@@ -12,7 +12,7 @@ use Rattle.kfs_journal.specs.Draft.{HasDraft, IsWhole}
 use Rattle.kfs_journal.specs.Format.{meaning, record_bytes, records_bytes}
 use Rattle.kfs_journal.specs.Journal.{IsOneOf}
 use Rattle.kfs_call_desk.specs.Restore.Restored.{RestoreAnswer}
-use Rattle.kfs_kept.specs.Calls.Leads.{GroupLeads, GroupsLead}
+use Rattle.kfs_kept.specs.Calls.Leads.{GroupLeads}
 use Rattle.kfs_kept.specs.Renewing.{IsUnderWay, KeepsAll, StaysOrEnds, whole_of}
 use Rattle.kfs_kept.specs.Keeping.{Stands}
 use Rattle.kfs_kept.specs.Standing.{StandFor}
