@@ -1,5 +1,4 @@
 -- When a checkpoint is due.
-use Rattle.std.proofs.Common.{◌≡◌}
 use Rattle.kfs_journal.specs.Disk.{Files}
 use Rattle.kfs_journal.specs.Journal.{IsSettled, StandsOn}
 use Rattle.kfs_journal.specs.declared.journal.Journal.{Journal}

@@ -1,5 +1,5 @@
 -- Calls of which none is answered.
-use Rattle.std.proofs.Common.{◌≡◌, ℕ, List, [], ◌∷◌, map, Result, Ok, Err, refl, ◌∙◌, ap, sym, subst}
+use Rattle.std.proofs.Common.{◌≡◌, ℕ, List, [], ◌∷◌, map, Result, Ok, Err, ◌∙◌, subst}
 use Rattle.kfs_model.specs.Judgement.{State}
 use Rattle.kfs_desk.specs.Machine.{Desk}
 use Rattle.kfs_call_desk.specs.declared.made.Called.{Called}

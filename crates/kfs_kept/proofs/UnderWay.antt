@@ -1,10 +1,9 @@
 -- What a checkpoint under way goes on to be: with the record of a group, with the bytes of a step, and once all is written.
-use Rattle.std.proofs.Common.{◌≡◌, inl, inr, ℕ, ◌+◌, ◌-◌, ◌<◌, ◌≤◌, ◌^◌, min, ltb, Vec, List, [], ◌∷◌, ◌++◌, length, take, drop, Option, Some, None, Ok, refl, sym, ap, subst, ◌∙◌, append_assoc, arith, length-append, length-take, length-drop}
+use Rattle.std.proofs.Common.{◌≡◌, inl, inr, ℕ, ◌+◌, ◌-◌, ◌<◌, ◌≤◌, ◌^◌, min, Vec, List, [], ◌∷◌, ◌++◌, length, take, drop, Option, Some, None, Ok, refl, sym, ap, subst, ◌∙◌, append_assoc, arith, length-append, length-take, length-drop}
 use Rattle.std.specs.Prelude.{IfSome}
 use Rattle.std.specs.List.{AllByRecursion}
 use Rattle.std.proofs.Math.Seq.{take-add}
-use Rattle.std.proofs.lemmas.Bool.{cond-true, cond-false, le-ltb, lt-ltb}
-use Rattle.std.proofs.lemmas.List.{append-nil, drop-drop, drop_at, flat_map_more, take-append-le, take_all, take_min}
+use Rattle.std.proofs.lemmas.List.{drop-drop, drop_at, flat_map_more, take-append-le, take_all, take_min}
 use Rattle.kfs_model.specs.Judgement.{State}
 use Rattle.kfs_journal.specs.declared.journal.Journal.{Journal}
 use Rattle.kfs_journal.specs.declared.journal.draft.Draft.{Draft}
@@ -13,8 +12,8 @@ use Rattle.kfs_journal.specs.Draft.{HasDraft, IsWhole}
 use Rattle.kfs_journal.specs.Format.{meaning, record_bytes, records_bytes}
 use Rattle.kfs_journal.specs.Journal.{IsOneOf}
 use Rattle.kfs_call_desk.specs.Restore.Restored.{RestoreAnswer}
-use Rattle.kfs_kept.specs.Calls.Leads.{GroupLeads, GroupsLead}
-use Rattle.kfs_kept.specs.Renewing.{IsUnderWay, KeepsAll, StaysOrEnds, reached, whole_of}
+use Rattle.kfs_kept.specs.Calls.Leads.{GroupLeads}
+use Rattle.kfs_kept.specs.Renewing.{IsUnderWay, KeepsAll, StaysOrEnds, whole_of}
 use Rattle.kfs_kept.specs.Keeping.{Stands}
 use Rattle.kfs_kept.specs.Standing.{StandFor}
 use Rattle.kfs_kept.specs.declared.kept.Kept.{Kept}
@@ -29,43 +28,21 @@ part_more n m xs part is =
     let len : length part ≡ min m (length (drop n xs)) = ap length is ∙ length-take m (drop n xs) in
     take-add n (length part) xs ∙ ap (λ (l : List ℕ). take n xs ++ l) (ap (λ (k : ℕ). take k (drop n xs)) len ∙ take_min m (drop n xs) ∙ sym is)
 
-module _ (state records : List ℕ) (done : ℕ) (part : List ℕ) where
-  module _ (most of_records : ℕ) (before : done < length state) (is : part ≡ take most (drop done state)) where
-    state_len : length part ≡ min most (length state - done)
-    state_len = ap length is ∙ length-take most (drop done state) ∙ ap (λ (k : ℕ). min most k) (length-drop done state)
+-- bytes of the state, and bytes of the records behind it
+module _ (state records : List ℕ) (done : ℕ) (part : List ℕ) (most : ℕ) where
+  pub state_parts : done < length state → part ≡ take most (drop done state) → take (done + length part) (state ++ records) ≡ take done (state ++ records) ++ part
+  state_parts before is =
+      let len : length part ≡ min most (length state - done) = ap length is ∙ length-take most (drop done state) ∙ ap (λ (k : ℕ). min most k) (length-drop done state) in
+      let within : done + length part ≤ length state = omega (arith, len, before) in
+      let le : done ≤ length state = omega (arith, before) in
+      take-append-le (done + length part) state records within ∙ part_more done most state part is ∙ ap (λ (l : List ℕ). l ++ part) (sym (take-append-le done state records le))
 
-    pub state_parts : take (done + length part) (state ++ records) ≡ take done (state ++ records) ++ part
-    state_parts =
-        let within : done + length part ≤ length state = omega (arith, state_len, before) in
-        let le : done ≤ length state = omega (arith, before) in
-        take-append-le (done + length part) state records within ∙ part_more done most state part is ∙ ap (λ (l : List ℕ). l ++ part) (sym (take-append-le done state records le))
-
-    pub state_within : done + length part ≤ length state + length records
-    state_within = omega (arith, state_len, before)
-
-    pub state_reached : done + length part ≡ reached most of_records done (length state) (length records)
-    state_reached =
-        let so_far : done + length part ≡ min (done + most) (length state) = omega (arith, state_len, before) in
-        so_far ∙ sym (cond-true (ltb done (length state)) _ _ (lt-ltb _ _ before))
-
-  module _ (of_state most come room : ℕ) (behind : length state ≤ done) (within : done ≤ length state + length records) (is : part ≡ take room (drop (done - length state) records)) where
-    records_len : length part ≡ min room (length records - (done - length state))
-    records_len = ap length is ∙ length-take room (drop (done - length state) records) ∙ ap (λ (k : ℕ). min room k) (length-drop (done - length state) records)
-
-    pub records_parts : take (done + length part) (state ++ records) ≡ take done (state ++ records) ++ part
-    records_parts =
-        let at : done ≡ length state + (done - length state) = omega (arith, behind) in
-        let rest : drop done (state ++ records) ≡ drop (done - length state) records =
-        ap (λ (n : ℕ). drop n (state ++ records)) at ∙ sym (drop-drop (done - length state) (length state) (state ++ records)) ∙ ap (λ (l : List ℕ). drop (done - length state) l) (drop_at state records (length state) refl) in
-        part_more done room (state ++ records) part (is ∙ ap (λ (l : List ℕ). take room l) (sym rest))
-
-    pub records_within : done + length part ≤ length state + length records
-    records_within = omega (arith, records_len, behind, within)
-
-    pub records_reached : room ≡ min (most + come) (2 ^ 64 - 1) → length records < 2 ^ 64 → done + length part ≡ reached of_state (most + come) done (length state) (length records)
-    records_reached room_is fits =
-        let so_far : done + length part ≡ min (done + (most + come)) (length state + length records) = omega (arith, records_len, behind, within, room_is, fits) in
-        so_far ∙ sym (cond-false (ltb done (length state)) _ _ (le-ltb _ _ behind))
+  pub records_parts : length state ≤ done → part ≡ take most (drop (done - length state) records) → take (done + length part) (state ++ records) ≡ take done (state ++ records) ++ part
+  records_parts behind is =
+      let at : done ≡ length state + (done - length state) = omega (arith, behind) in
+      let rest : drop done (state ++ records) ≡ drop (done - length state) records =
+      ap (λ (n : ℕ). drop n (state ++ records)) at ∙ sym (drop-drop (done - length state) (length state) (state ++ records)) ∙ ap (λ (l : List ℕ). drop (done - length state) l) (drop_at state records (length state) refl) in
+      part_more done most (state ++ records) part (is ∙ ap (λ (l : List ℕ). take most l) (sym rest))
 
 -- ---- a group more
 
@@ -168,6 +145,14 @@ at_some P found r is holds = subst (λ o. IfSome o P) is holds
 -- that of a kept desk
 pub of_kept : {A D : Type 0} (seen : D → Files) (may_leave : D → Files → Type 0) (kept : Kept A D) (r : Renewal A) → kept.renewal ≡ Some r → Stands seen may_leave kept → IsUnderWay (seen kept.disk) kept.journal r kept.desk.state
 of_kept seen may_leave kept r is stands = at_some (λ r. IsUnderWay (seen kept.disk) kept.journal r kept.desk.state) kept.renewal r is stands.renewal
+
+-- where journal, disk and checkpoint are as they were
+pub still_stands : {A D : Type 0} (seen : D → Files) (may_leave : D → Files → Type 0) (kept : Kept A D) (journal : Journal) (disk : D) (renewal : Option (Renewal A))
+    → journal ≡ kept.journal → disk ≡ kept.disk → renewal ≡ kept.renewal → Stands seen may_leave kept
+    → Stands seen may_leave (record { desk = kept.desk; journal = journal; disk = disk; is_open = kept.is_open; renewal = renewal })
+still_stands {A} {D} seen may_leave kept journal disk renewal same_journal same_disk same stands =
+    subst (λ (k : Kept A D). Stands seen may_leave k)
+    (λ i. record { desk = kept.desk; journal = sym same_journal i; disk = sym same_disk i; is_open = kept.is_open; renewal = sym same i }) stands
 
 pub stays : {A : Type 0} (found : Option (Renewal A)) → StaysOrEnds found found
 stays None = tt

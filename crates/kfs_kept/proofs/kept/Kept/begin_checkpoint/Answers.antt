@@ -34,8 +34,8 @@ pub returns-in-Err-Full-clause-any_moment : goal.returns-in-Err-Full-clause-any_
 returns-in-Err-Full-clause-any_moment g c = λ is_open.
     weaker g.D.Disk.moment g.D.Disk.left_since c.args.self.now.disk c.begin.new.disk _ _ (λ f means. same_stand _ f _ means (c.requires.kept is_open).stand) c.begin.ensures.any_moment
 
-pub returns-clause-any_moment : goal.returns-clause-any_moment
-returns-clause-any_moment g c = λ is_open.
+pub returns-in-Err-Failed-clause-any_moment : goal.returns-in-Err-Failed-clause-any_moment
+returns-in-Err-Failed-clause-any_moment g c = λ is_open.
     weaker g.D.Disk.moment g.D.Disk.left_since c.args.self.now.disk c.begin.new.disk _ _ (λ f means. same_stand _ f _ means (c.requires.kept is_open).stand) c.begin.ensures.any_moment
 
 pub returns-in-Err-Full-clause-full : goal.returns-in-Err-Full-clause-full

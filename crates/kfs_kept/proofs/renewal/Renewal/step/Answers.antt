@@ -1,4 +1,4 @@
-use Rattle.std.proofs.Common.{◌≡◌, ◌++◌, ◌<◌, length, sym, ap, ◌∙◌, arith, rules}
+use Rattle.std.proofs.Common.{◌≡◌, ◌<◌, length, sym, ap, ◌∙◌, arith, rules}
 use Rattle.kfs_journal.specs.Disk.{Files}
 use Rattle.kfs_journal.proofs.Moments.{and_then, weaker}
 use Rattle.kfs_kept.specs.Renewing.{whole_of}

@@ -5,10 +5,10 @@ use Rattle.kfs_kept.proofs.renewal.Renewal.write.Goals as goal
 pub extend-requires-clause-draft : goal.extend-requires-clause-draft
 extend-requires-clause-draft g c = (_, c.requires.under_way.1.written)
 
-pub next_part-requires : goal.next_part-requires
-next_part-requires g c =
+pub next_part-part-requires : goal.next_part-part-requires
+next_part-part-requires g c =
     let r = c.args.self.now in
-    omega (arith, c.requires.under_way.1.within, length-append r.state.items r.records.items, c.deref.ensures.value, c.deref-2.ensures.value)
+    omega (arith, c.requires.under_way.1.within, length-append r.state.items r.records.items)
 
 pub returns-clause-under_way : goal.returns-clause-under_way
 returns-clause-under_way g c = λ s u.
