@@ -1,7 +1,7 @@
 //! Bytes of states that make no desk: the first thing that is wrong is told.
 
 use crate::encodings::has_one_encoding;
-use crate::outcome::{Kind, Outcome, outcome};
+use crate::outcome::{Kind, Outcome, read_as};
 use Outcome::{NoDesk, Same};
 use RestoreFault::{BadClient, BadClients, BadImage, BadLease, BrokenRule};
 use kfs_call_desk::RestoreFault;
@@ -214,7 +214,7 @@ const CASES: [Case; 17] = [
 
 fn push_parts(out: &mut Vec<u8, Global>, parts: Parts) -> Result<(), AllocError> {
     for part in parts {
-        out.extend_from_slice(part)?;
+        out.extend_from_slice(*part)?;
     }
     Ok(())
 }
@@ -236,7 +236,7 @@ pub fn right_state(alloc: Global) -> Result<Vec<u8>, AllocError> {
 
 fn is_told(alloc: Global, case: &Case) -> bool {
     match bytes_of(alloc, case) {
-        Ok(bytes) => outcome(Kind::Desk, alloc, &bytes) == case.due,
+        Ok(bytes) => read_as(Kind::Desk, alloc, &bytes) == case.due,
         Err(_) => false,
     }
 }

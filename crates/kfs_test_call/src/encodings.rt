@@ -1,7 +1,7 @@
 //! Calls, answers and states have one encoding each. What answers and a state say.
 
 use crate::bytes::{BEFORE_IMAGE, DROP, LEASE, LEASE_AT, MIGRATE, STATE, SUBMIT, TICK};
-use crate::outcome::{Kind, Outcome, is_memory, is_missing, outcome};
+use crate::outcome::{Kind, Outcome, is_memory, is_missing, read_as};
 use kfs_call::{AnswerRow, FaultRow, FieldFault, LeaseKind, Told, decode_answer, decode_state};
 use kfs_call_desk::RestoreFault;
 use kfs_image::ImageFault;
@@ -9,17 +9,17 @@ use std::alloc::Global;
 
 /// Whether this is right for so many of the bytes, which are fewer than all. The bytes of a state that is read as rows
 /// end in an image, which may have any bytes.
-fn is_right_cut(kind: Kind, outcome: Outcome, len: usize) -> bool {
+fn is_right_cut(kind: Kind, told: Outcome, len: usize) -> bool {
     match kind {
-        Kind::Rows if len >= BEFORE_IMAGE => outcome == Outcome::Same,
-        _ => is_missing(outcome),
+        Kind::Rows if len >= BEFORE_IMAGE => told == Outcome::Same,
+        _ => is_missing(told),
     }
 }
 
 /// Whether each cut of the bytes lacks something.
 fn are_cuts_right(kind: Kind, alloc: Global, bytes: &[u8]) -> bool {
     for len in 0..bytes.len() {
-        if !is_right_cut(kind, outcome(kind, alloc, &bytes[..len]), len) {
+        if !is_right_cut(kind, read_as(kind, alloc, &bytes[..len]), len) {
             return false;
         }
     }
@@ -39,7 +39,7 @@ fn is_longer_right(kind: Kind, alloc: Global, bytes: &[u8]) -> bool {
     let Ok(mut longer) = Vec::from_slice(alloc, bytes) else {
         return false;
     };
-    longer.push(0).is_ok() && outcome(kind, alloc, &longer) == due_longer(kind)
+    longer.push(0).is_ok() && read_as(kind, alloc, &longer) == due_longer(kind)
 }
 
 /// The bytes with the one at this place set.
@@ -55,8 +55,8 @@ pub fn with_byte(alloc: Global, bytes: &[u8], place: usize, byte: u8) -> Option<
 fn is_change_right(kind: Kind, alloc: Global, bytes: &[u8], place: usize) -> Option<bool> {
     let byte = *bytes.get(place)?;
     let changed = with_byte(alloc, bytes, place, byte ^ 0x81)?;
-    let outcome = outcome(kind, alloc, &changed);
-    Some(outcome != Outcome::Other && !is_memory(outcome))
+    let told = read_as(kind, alloc, &changed);
+    Some(told != Outcome::Other && !is_memory(told))
 }
 
 fn are_changes_right(kind: Kind, alloc: Global, bytes: &[u8]) -> bool {
@@ -71,7 +71,7 @@ fn are_changes_right(kind: Kind, alloc: Global, bytes: &[u8]) -> bool {
 /// Whether the bytes are written as they are read, each cut and a byte more is told, and bytes that differ at one place are
 /// refused or have one encoding, too.
 pub fn has_one_encoding(kind: Kind, alloc: Global, bytes: &[u8]) -> bool {
-    outcome(kind, alloc, bytes) == Outcome::Same
+    read_as(kind, alloc, bytes) == Outcome::Same
         && are_cuts_right(kind, alloc, bytes)
         && is_longer_right(kind, alloc, bytes)
         && are_changes_right(kind, alloc, bytes)
@@ -82,7 +82,7 @@ const CALLS: [&[u8]; 6] = [SUBMIT, LEASE, DROP, TICK, MIGRATE, LEASE_AT];
 #[test]
 fn calls_have_one_encoding(rt: HostRuntime) {
     for (number, bytes) in CALLS.iter().enumerate() {
-        assert!(&rt; has_one_encoding(Kind::Call, rt.alloc(), bytes), "{number}");
+        assert!(&rt; has_one_encoding(Kind::Call, rt.alloc(), *bytes), "{number}");
     }
 }
 

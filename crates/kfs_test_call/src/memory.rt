@@ -3,7 +3,7 @@
 
 use crate::bytes::NO_ROWS;
 use crate::desks::right_state;
-use crate::outcome::{Kind, Outcome, is_memory, outcome};
+use crate::outcome::{Kind, Outcome, is_memory, read_as};
 use kfs_call::StateFault;
 use kfs_call_desk::RestoreFault;
 use kfs_test_support::refusing::Refusing;
@@ -40,13 +40,13 @@ fn long_state(alloc: Global) -> Result<Vec<u8>, AllocError> {
 fn growths(rt: &(impl Abort + AllocGlobal), kind: Kind, bytes: &[u8]) -> u64 {
     for growth in 0..MANY {
         let heap = Refusing::new(rt.alloc(), growth);
-        let answer = outcome(kind, &heap, bytes);
+        let answer = read_as(kind, &heap, bytes);
         if !heap.has_refused() {
             assert!(rt; answer == Outcome::Same);
             return growth;
         }
         assert!(rt; is_memory(answer), "{growth}");
-        assert!(rt; outcome(kind, &heap, bytes) == Outcome::Same, "after {growth}");
+        assert!(rt; read_as(kind, &heap, bytes) == Outcome::Same, "after {growth}");
     }
     MANY
 }
@@ -55,7 +55,7 @@ fn growths(rt: &(impl Abort + AllocGlobal), kind: Kind, bytes: &[u8]) -> u64 {
 fn little_memory(alloc: Global) -> Outcome {
     let heap = Refusing::new(alloc, MANY);
     heap.leave(4_096);
-    outcome(Kind::Desk, &heap, NO_ROWS)
+    read_as(Kind::Desk, &heap, NO_ROWS)
 }
 
 #[test]

@@ -2,7 +2,7 @@
 
 use crate::bytes::{DROP, LEASE, LEASE_AT, MIGRATE, NO_ROWS, STATE, SUBMIT, TICK};
 use crate::encodings::with_byte;
-use crate::outcome::{Kind, Outcome, outcome};
+use crate::outcome::{Kind, Outcome, read_as};
 use FieldFault::{BadField, Trailing};
 use Kind::{Answer, Call, Desk, Rows};
 use Outcome::{NoDesk, NoFields, NoRows};
@@ -64,14 +64,14 @@ const CHANGES: [(usize, u8, StateFault); 6] = [
 
 fn is_cut_told(alloc: Global, row: &Cut) -> bool {
     match row.1.get(..row.2) {
-        Some(bytes) => outcome(row.0, alloc, bytes) == row.3,
+        Some(bytes) => read_as(row.0, alloc, bytes) == row.3,
         None => false,
     }
 }
 
 fn is_change_told(alloc: Global, row: &(usize, u8, StateFault)) -> bool {
     match with_byte(alloc, STATE, row.0, row.1) {
-        Some(bytes) => outcome(Rows, alloc, &bytes) == NoRows(row.2),
+        Some(bytes) => read_as(Rows, alloc, &bytes) == NoRows(row.2),
         None => false,
     }
 }
@@ -80,7 +80,7 @@ fn is_change_told(alloc: Global, row: &(usize, u8, StateFault)) -> bool {
 fn are_headers_told(alloc: Global) -> bool {
     let due = NoDesk(RestoreFault::BadState(BadHeader));
     for len in 0..NO_ROWS.len() {
-        if outcome(Desk, alloc, &NO_ROWS[..len]) != due {
+        if read_as(Desk, alloc, &NO_ROWS[..len]) != due {
             return false;
         }
     }

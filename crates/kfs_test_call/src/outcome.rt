@@ -89,7 +89,7 @@ fn written(is_same: bool) -> Outcome {
 }
 
 /// What the bytes come to.
-pub fn outcome<A: Allocator + Copy>(kind: Kind, alloc: A, bytes: &[u8]) -> Outcome {
+pub fn read_as<A: Allocator + Copy>(kind: Kind, alloc: A, bytes: &[u8]) -> Outcome {
     match kind {
         Kind::Call => match call_again(alloc, bytes) {
             Ok(is_same) => written(is_same),
@@ -111,8 +111,8 @@ pub fn outcome<A: Allocator + Copy>(kind: Kind, alloc: A, bytes: &[u8]) -> Outco
 }
 
 /// Whether the outcome is that something is missing.
-pub fn is_missing(outcome: Outcome) -> bool {
-    match outcome {
+pub fn is_missing(told: Outcome) -> bool {
+    match told {
         Outcome::NoFields(FieldFault::BadField(_)) => true,
         Outcome::NoRows(fault) => fault != StateFault::OutOfMemory,
         Outcome::NoDesk(RestoreFault::BadState(_)) | Outcome::NoDesk(RestoreFault::BadImage(_)) => true,
@@ -121,8 +121,8 @@ pub fn is_missing(outcome: Outcome) -> bool {
 }
 
 /// Whether memory was refused.
-pub fn is_memory(outcome: Outcome) -> bool {
-    match outcome {
+pub fn is_memory(told: Outcome) -> bool {
+    match told {
         Outcome::NoFields(fault) => fault == FieldFault::OutOfMemory,
         Outcome::NoRows(fault) => fault == StateFault::OutOfMemory,
         Outcome::NoDesk(fault) => fault == RestoreFault::OutOfMemory,
