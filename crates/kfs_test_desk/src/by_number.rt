@@ -2,8 +2,8 @@
 //! the client can't search.
 
 use crate::desks::{AMPLE, Call, ROOT_LEASED, are_due, desk_after};
-use crate::leases::LeaseCall::{self, GrantAt};
-use crate::leases::expect_calls;
+use crate::leases::{LeaseCall, expect_calls};
+use LeaseCall::GrantAt;
 use kfs_desk::{Act, ActFault, ActReply, Desk, Done, Reply, Unanswered};
 use kfs_lease::LeaseFault;
 use kfs_lease::LeaseKind::{Read, Write};
@@ -12,7 +12,7 @@ use std::alloc::{Allocator, Global};
 
 /// Node 5 has mode 0644, 20 0755, 30 0666, 31 0111, 120 0700, and 122, which lies in 20 and 121, mode 0. Each
 /// client asks for the other kind than the one before it only where it may have both.
-const BY_BITS: [LeaseCall<'static>; 20] = [
+static BY_BITS: [LeaseCall<'static>; 20] = [
     GrantAt((7, 122, Read, 9, Err(LeaseFault::NotAllowed))),
     GrantAt((7, 122, Write, 9, Ok(122))),
     GrantAt((7, 31, Read, 9, Err(LeaseFault::NotAllowed))),
@@ -36,7 +36,7 @@ const BY_BITS: [LeaseCall<'static>; 20] = [
 ];
 
 /// Each call that is refused fails each later test, too.
-const IN_ORDER: [LeaseCall<'static>; 12] = [
+static IN_ORDER: [LeaseCall<'static>; 12] = [
     GrantAt((7, 5, Write, 100, Ok(5))),
     GrantAt((11, 6, Write, 0, Err(LeaseFault::UnknownClient))),
     GrantAt((9, 6, Write, 0, Err(LeaseFault::NoSuchNode))),
@@ -115,7 +115,7 @@ const CHANGED: Call<'static> = Call::Submit(
 );
 
 /// Client 7, which can't search the directory, leases the file by its number and changes it. The docket is full then.
-const BELOW_A_CLOSED_DIRECTORY: [Call<'static>; 6] = [
+static BELOW_A_CLOSED_DIRECTORY: [Call<'static>; 6] = [
     ROOT_LEASED,
     CLOSED,
     Call::Act(

@@ -167,13 +167,13 @@ pub fn expect_calls(rt: &(impl Abort + AllocGlobal), calls: &[LeaseCall<'_>]) {
     assert!(rt; count == Some(calls.len()), "{count:?}");
 }
 
-const PATHS_THAT_NO_LINE_CAN_SAY: [LeaseCall<'static>; 3] = [
+static PATHS_THAT_NO_LINE_CAN_SAY: [LeaseCall<'static>; 3] = [
     LeaseCall::Grant(7, "", Write, 1, Err(LeaseFault::BadPath)),
     LeaseCall::Grant(7, "/\0", Write, 1, Err(LeaseFault::BadPath)),
     LeaseCall::Grant(7, "/a\0", Write, 1, Err(LeaseFault::BadPath)),
 ];
 
-const CALLS_AND_NODES_THAT_GO: [LeaseCall<'static>; 13] = [
+static CALLS_AND_NODES_THAT_GO: [LeaseCall<'static>; 13] = [
     LeaseCall::Grant(7, "/a", Read, 100, Ok(5)),
     LeaseCall::Grant(9, "/a", Read, 100, Ok(5)),
     LeaseCall::Grant(7, "/", Write, 100, Ok(1)),
@@ -199,7 +199,7 @@ fn calls_and_nodes_that_go(rt: HostRuntime) {
     expect_calls(&rt, &CALLS_AND_NODES_THAT_GO);
 }
 
-const BEFORE_THE_GROWTHS: [LeaseCall<'static>; 8] = [
+static BEFORE_THE_GROWTHS: [LeaseCall<'static>; 8] = [
     LeaseCall::Grant(7, "/a", Read, 10, Ok(5)),
     LeaseCall::Grant(8, "/a", Read, 20, Ok(5)),
     LeaseCall::Grant(9, "/a", Read, 30, Ok(5)),
@@ -210,7 +210,7 @@ const BEFORE_THE_GROWTHS: [LeaseCall<'static>; 8] = [
     LeaseCall::Grant(8, "/p", Write, 80, Ok(120)),
 ];
 
-const WITH_A_GROWTH_REFUSED: [LeaseCall<'static>; 12] = [
+static WITH_A_GROWTH_REFUSED: [LeaseCall<'static>; 12] = [
     LeaseCall::Grant(9, "/d", Read, 15, Ok(20)),
     LeaseCall::Grant(8, "/a", Read, 90, Ok(5)),
     LeaseCall::Drop(7, 31, Ok(())),
@@ -226,7 +226,7 @@ const WITH_A_GROWTH_REFUSED: [LeaseCall<'static>; 12] = [
 ];
 
 /// The copy shows what the table held, and goes on for itself.
-const ON_THE_COPY_THEN: [LeaseCall<'static>; 12] = [
+static ON_THE_COPY_THEN: [LeaseCall<'static>; 12] = [
     LeaseCall::Moment(0),
     LeaseCall::Holds(7, 31, true),
     LeaseCall::Holds(8, 120, true),
@@ -242,7 +242,7 @@ const ON_THE_COPY_THEN: [LeaseCall<'static>; 12] = [
 ];
 
 /// The table goes on as if there were no copy.
-const ON_THE_TABLE_THEN: [LeaseCall<'static>; 6] = [
+static ON_THE_TABLE_THEN: [LeaseCall<'static>; 6] = [
     LeaseCall::Moment(40),
     LeaseCall::Holds(8, 31, true),
     LeaseCall::Holds(9, 30, false),

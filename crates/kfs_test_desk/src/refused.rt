@@ -7,7 +7,6 @@ use crate::scripts::script_with_one_refused;
 use crate::serving::planned::planned_with_one_refused;
 use kfs_test_support::refusing::Refusing;
 use std::alloc::Global;
-use std::process::Abort;
 
 /// More allocations than any of these asks for.
 const MANY: u64 = 400;

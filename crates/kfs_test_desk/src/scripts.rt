@@ -13,7 +13,6 @@ use kfs_test_support::refusing::Refusing;
 use kfs_test_support::vectors::{CREATE_LOG, CREATE_PLAN};
 use kfs_workers_script::{ScriptBack, ScriptEnd, Step, run_script};
 use std::alloc::{Allocator, Global};
-use std::process::Abort;
 
 /// A step of a script.
 #[derive(Clone, Copy)]
@@ -273,7 +272,7 @@ const TRIED_AGAIN: Script = Script {
     blocks: &[],
 };
 
-const SCRIPTS: [Script; 8] = [
+static SCRIPTS: [Script; 8] = [
     BY_ITS_WORKER,
     OUT_OF_PLACE,
     FULL,

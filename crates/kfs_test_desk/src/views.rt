@@ -4,7 +4,6 @@ use crate::desks::{Call, ROOT_LEASED, Shown, desk_after, is_answered, shows};
 use kfs_desk::{Desk, Reply};
 use kfs_image::{HeaderPage, Kind, Shape};
 use std::alloc::Global;
-use std::process::Abort;
 
 /// Client 7 creates the files 64, named "m", and 65, named "n", in the root.
 const LOG: &[u8] = b"KLOG\x01\0\0\0\x07\0\x02\x01\0\0\0\x01\x01m\0\0\0\x40\0\x01\xa4\

@@ -47,7 +47,7 @@ const READ: Answers = [Err(NoSearch), Ok(()), Ok(())];
 const ALL: Answers = [Ok(()), Ok(()), Ok(())];
 
 /// What client 7, with uid 1000, gid 2000 and group 3000, is answered on nodes of these bits.
-const ONE_CLASS: [(Bits, Answers); 22] = [
+static ONE_CLASS: [(Bits, Answers); 22] = [
     // the owner, who is in the group, too
     ((1000, 2000, 0o400), READ),
     ((1000, 2000, 0o200), NONE),
@@ -78,7 +78,7 @@ const ONE_CLASS: [(Bits, Answers); 22] = [
 ];
 
 /// The same for a client that is privileged, whom no bit binds.
-const PRIVILEGED: [(Bits, Answers); 4] = [
+static PRIVILEGED: [(Bits, Answers); 4] = [
     ((1000, 2000, 0), ALL),
     ((1, 2000, 0o707), ALL),
     ((1, 1, 0o770), ALL),
@@ -86,7 +86,7 @@ const PRIVILEGED: [(Bits, Answers); 4] = [
 ];
 
 /// What is asked by which client of which node, and the answer where no bit is set.
-const IN_ORDER: [(Access, u32, u32, Answer); 15] = [
+static IN_ORDER: [(Access, u32, u32, Answer); 15] = [
     // no such client comes before all else
     (Access::FindName, 8, 9, Err(UnknownClient)),
     (Access::ListNames, 8, 5, Err(UnknownClient)),
@@ -120,7 +120,7 @@ fn is_right<A: Allocator + Copy>(alloc: A, raw: &RawImage<A>) -> bool
 }
 
 /// The nodes and names of an image in which both nodes have these bits.
-fn shape_with<A: Allocator + Copy>(alloc: A, bits: Bits) -> Option<Shape<A>> {
+fn shape_with<A: Allocator + Copy>(alloc: A, bits: Bits) -> Option<Arc<Shape<A>, A>> {
     let mut raw = image(alloc, &[ROOT_AND_FILE])?;
     for node in raw.nodes.as_mut_slice() {
         node.header.uid = bits.0;

@@ -93,6 +93,53 @@ fn extend<D: Disk>(
 
 // ---- the run
 
+/// The calls behind the first one up to the draft: whether it is a new state, or else a group, and its bytes.
+const CALLS: [(bool, &[u8]); 8] = [
+    (false, b"a"),
+    (false, b""),
+    (false, b"bcd"),
+    (true, b"second"),
+    (false, b"efghij"),
+    (true, b""),
+    (false, b"k"),
+    (true, b"third"),
+];
+
+fn make<D: Disk>(
+    alloc: Global,
+    disk: &mut D,
+    journal: &mut Journal,
+    call: (bool, &[u8]),
+) -> Result<(), JournalFault>
+    requires { IsSettled (D.seen disk.old) (D.may_leave disk.old) journal.old }
+    ensures { OnOk result (IsSettled (D.seen disk.new) (D.may_leave disk.new) journal.new) }
+{
+    let (is_state, bytes) = call;
+    if is_state {
+        change(alloc, disk, journal, bytes)
+    } else {
+        put(alloc, disk, journal, bytes)
+    }
+}
+
+/// Makes the calls in order, and counts those that were answered.
+fn make_all<D: Disk>(
+    alloc: Global,
+    disk: &mut D,
+    journal: &mut Journal,
+    calls: &[(bool, &[u8])],
+    answered: &mut usize,
+) -> Result<(), JournalFault>
+    requires { IsSettled (D.seen disk.old) (D.may_leave disk.old) journal.old }
+    ensures { OnOk result (IsSettled (D.seen disk.new) (D.may_leave disk.new) journal.new) }
+{
+    for call in calls {
+        make(alloc, disk, journal, *call)?;
+        *answered = answered.saturating_add(1);
+    }
+    Ok(())
+}
+
 /// Makes the run on empty files, and counts the calls that were answered.
 pub fn run<D: Disk>(alloc: Global, disk: &mut D, answered: &mut usize) -> Result<(), JournalFault>
     requires empty { AreEmpty (D.seen disk.old) }
@@ -100,22 +147,7 @@ pub fn run<D: Disk>(alloc: Global, disk: &mut D, answered: &mut usize) -> Result
 {
     let mut journal = Journal::create(alloc, disk, b"first")?;
     *answered = 1;
-    put(alloc, disk, &mut journal, b"a")?;
-    *answered = 2;
-    put(alloc, disk, &mut journal, b"")?;
-    *answered = 3;
-    put(alloc, disk, &mut journal, b"bcd")?;
-    *answered = 4;
-    change(alloc, disk, &mut journal, b"second")?;
-    *answered = 5;
-    put(alloc, disk, &mut journal, b"efghij")?;
-    *answered = 6;
-    change(alloc, disk, &mut journal, b"")?;
-    *answered = 7;
-    put(alloc, disk, &mut journal, b"k")?;
-    *answered = 8;
-    change(alloc, disk, &mut journal, b"third")?;
-    *answered = 9;
+    make_all(alloc, disk, &mut journal, &CALLS, answered)?;
     run_drafted(alloc, disk, journal, answered)
 }
 

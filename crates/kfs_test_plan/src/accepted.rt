@@ -8,7 +8,6 @@ use crate::logs::{
 use Step::{Land, Lease};
 use kfs_test_support::vectors::{CREATE_LOG, EDITS_LOG, LETTERS_LOG};
 use std::alloc::Global;
-use std::process::Abort;
 
 /// Client 7 holds the root.
 const LEASE: Step<'static> = Lease(b"/");

@@ -16,7 +16,6 @@ use kfs_plan::{Fault, Outcome, RowFault, Submission, judge, judge_bytes};
 use kfs_test_support::refusing::Refusing;
 use kfs_test_support::vectors::{CREATE_LOG, CREATE_PLAN, EMPTY_PLAN};
 use std::alloc::{Allocator, Global};
-use std::process::Abort;
 
 // ---- views, and what a walk over a log's entries finds
 
@@ -176,7 +175,7 @@ fn a_verdict_of_yes_and_two_of_no(rt: HostRuntime) {
 // ---- the desk's answers
 
 /// Calls at a desk whose docket takes two rows.
-const TWO_ROWS: [Call<'static>; 4] = [
+static TWO_ROWS: [Call<'static>; 4] = [
     ROOT_LEASED,
     Call::Act(
         Act::Drop {
