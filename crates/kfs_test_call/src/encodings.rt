@@ -82,7 +82,10 @@ const CALLS: [&[u8]; 6] = [SUBMIT, LEASE, DROP, TICK, MIGRATE, LEASE_AT];
 #[test]
 fn calls_have_one_encoding(rt: HostRuntime) {
     for (number, bytes) in CALLS.iter().enumerate() {
-        assert!(&rt; has_one_encoding(Kind::Call, rt.alloc(), *bytes), "{number}");
+        assert!(&rt;
+            has_one_encoding(Kind::Call, rt.alloc(), *bytes),
+            "{number}"
+        );
     }
 }
 
@@ -157,7 +160,10 @@ fn is_answer(bytes: &[u8], position: u32, told: Told) -> bool {
 fn answers_have_one_encoding(rt: HostRuntime) {
     for (number, row) in ANSWERS.iter().enumerate() {
         assert!(&rt; is_answer(row.0, row.1, row.2), "{number}");
-        assert!(&rt; has_one_encoding(Kind::Answer, rt.alloc(), row.0), "{number}");
+        assert!(&rt;
+            has_one_encoding(Kind::Answer, rt.alloc(), row.0),
+            "{number}"
+        );
     }
 }
 

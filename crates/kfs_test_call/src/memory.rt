@@ -46,7 +46,10 @@ fn growths(rt: &(impl Abort + AllocGlobal), kind: Kind, bytes: &[u8]) -> u64 {
             return growth;
         }
         assert!(rt; is_memory(answer), "{growth}");
-        assert!(rt; read_as(kind, &heap, bytes) == Outcome::Same, "after {growth}");
+        assert!(rt;
+            read_as(kind, &heap, bytes) == Outcome::Same,
+            "after {growth}"
+        );
     }
     MANY
 }

@@ -115,7 +115,8 @@ pub fn is_missing(told: Outcome) -> bool {
     match told {
         Outcome::NoFields(FieldFault::BadField(_)) => true,
         Outcome::NoRows(fault) => fault != StateFault::OutOfMemory,
-        Outcome::NoDesk(RestoreFault::BadState(_)) | Outcome::NoDesk(RestoreFault::BadImage(_)) => true,
+        Outcome::NoDesk(RestoreFault::BadState(_)) | Outcome::NoDesk(RestoreFault::BadImage(_)) =>
+            true,
         _ => false,
     }
 }

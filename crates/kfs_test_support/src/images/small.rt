@@ -1,8 +1,6 @@
 //! Small raw images, row by row.
 
-use kfs_shape::{
-    Extent, ExtentRow, Header, Kind, Name, NameRow, RawImage, RawNode, TierSizes,
-};
+use kfs_shape::{Extent, ExtentRow, Header, Kind, Name, NameRow, RawImage, RawNode, TierSizes};
 use std::alloc::Allocator;
 
 /// The number of the root directory.
