@@ -57,6 +57,9 @@ const CASES: [(Case, u64); 4] = [
 fn each_growth_refused(rt: HostRuntime) {
     for (case, least) in CASES {
         let count = growths(rt.alloc(), case);
-        assert!(rt; matches!(count, Ok(asked) if least <= asked), "{case:?} {count:?}");
+        assert!(rt;
+            matches!(count, Ok(asked) if least <= asked),
+            "{case:?} {count:?}"
+        );
     }
 }

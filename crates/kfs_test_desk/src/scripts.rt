@@ -165,7 +165,13 @@ const BEFORE_A_LEASE: Script = Script {
     limit: 100,
     start: Start::Root,
     handed_in: CREATE,
-    steps: &[ROOT_DROPPED, Look(0, 0), Judge(0), ROOT_LEASED_BY_NUMBER, Land(0)],
+    steps: &[
+        ROOT_DROPPED,
+        Look(0, 0),
+        Judge(0),
+        ROOT_LEASED_BY_NUMBER,
+        Land(0),
+    ],
     due: &[Due::YesAgain(3)],
     rows: 4,
     shown: &FILE,
@@ -243,7 +249,13 @@ const MOVES_THAT_FILL: Script = Script {
     limit: 4,
     start: Start::TwoFiles,
     handed_in: (WRITE_LOG, WRITE_PLAN),
-    steps: &[Look(0, 0), Judge(0), Does::MoveBoth, Land(0), Does::MoveTwice],
+    steps: &[
+        Look(0, 0),
+        Judge(0),
+        Does::MoveBoth,
+        Land(0),
+        Does::MoveTwice,
+    ],
     due: &[Due::Left],
     rows: 4,
     shown: &[],
@@ -341,9 +353,7 @@ fn submissions<A: Allocator + Copy>(alloc: A, script: &Script) -> Option<Vec<Sub
 /// Whether it is as it was handed in.
 fn is_handed_in<A: Allocator>(submission: &Submission<A>, script: &Script) -> bool {
     let (log, plan) = script.handed_in;
-    submission.client == 7
-        && submission.log.as_slice() == log
-        && submission.plan.as_slice() == plan
+    submission.client == 7 && submission.log.as_slice() == log && submission.plan.as_slice() == plan
 }
 
 /// The reply that is due.

@@ -142,7 +142,11 @@ fn edited_beside_a_view<A: Allocator + Copy>(
 ) -> Option<bool> {
     let view = image.shape().clone().ok()?;
     let has_refused = each_kind_edited(alloc, heap, image, growth);
-    if has_node(&view, 5) { has_refused } else { None }
+    if has_node(&view, 5) {
+        has_refused
+    } else {
+        None
+    }
 }
 
 /// Makes the change of the net, if there is memory.

@@ -26,13 +26,25 @@ fn is_accepted(alloc: Global, steps: &[Step<'_>]) -> bool {
 }
 
 const ACCEPTED: [&[Step<'static>]; 9] = [
-    &[LEASE, CREATE, LEASE_FILE, Land(LETTERS_LOG, 1), Land(EDITS_LOG, 1)],
+    &[
+        LEASE,
+        CREATE,
+        LEASE_FILE,
+        Land(LETTERS_LOG, 1),
+        Land(EDITS_LOG, 1),
+    ],
     &[LEASE, CREATE, LEASE_FILE, Land(NO_BYTES, 0)],
     &[LEASE, Land(CREATE_AND_UNLINK, 0)],
     &[LEASE, Land(READ_ONLY, 1)],
     &[LEASE, CREATE, LEASE_FILE, Land(LAST_BYTE, 1)],
     // a directory and what is in it
-    &[LEASE, Land(NESTED, 0), Lease(b"/p"), Lease(b"/p/x"), Land(REMOVE_NESTED, 0)],
+    &[
+        LEASE,
+        Land(NESTED, 0),
+        Lease(b"/p"),
+        Lease(b"/p/x"),
+        Land(REMOVE_NESTED, 0),
+    ],
     &[LEASE, Land(STICKY, 0), Lease(b"/t"), Land(OUT_OF_STICKY, 0)],
     &[LEASE, CREATE, LEASE_FILE, Land(REGROUP, 0)],
     // names that lead to what the log named

@@ -69,7 +69,11 @@ fn push_write(log: &mut Vec<u8, Global>, offset: u64) -> Result<(), AllocError> 
 /// Adds Writes at every second byte, from the first one on or from the last one back.
 fn push_writes(log: &mut Vec<u8, Global>, is_backward: bool) -> Result<(), AllocError> {
     for entry in 0..COUNT {
-        let place = if is_backward { COUNT - 1 - entry } else { entry };
+        let place = if is_backward {
+            COUNT - 1 - entry
+        } else {
+            entry
+        };
         push_write(log, u64::from(place) * 2)?;
     }
     Ok(())

@@ -31,7 +31,13 @@ fn has_no_plan(alloc: Global, client: Option<Client>, log: &[u8]) -> bool {
 
 #[test]
 fn no_log_and_an_entry_with_a_fault(rt: HostRuntime) {
-    for log in [b"".as_slice(), &CREATE_LOG[..24], CREATE_PLAN, NO_NODE, LETTERS_LOG] {
+    for log in [
+        b"".as_slice(),
+        &CREATE_LOG[..24],
+        CREATE_PLAN,
+        NO_NODE,
+        LETTERS_LOG,
+    ] {
         assert!(rt; has_no_plan(rt.alloc(), client(), log), "{log:?}");
     }
 }
@@ -65,7 +71,15 @@ fn made_on<A: Allocator + Copy>(
 /// The same with a desk of its own.
 fn made_there<A: Allocator + Copy>(alloc: A, heap: &Refusing<Global>, growth: u64) -> Option<Made> {
     let mut desk = opened(alloc)?;
-    if are_done(alloc, &mut desk, &[Step::Lease(b"/"), Step::Land(CREATE_LOG, 0), Step::Lease(b"/a")]) {
+    if are_done(
+        alloc,
+        &mut desk,
+        &[
+            Step::Lease(b"/"),
+            Step::Land(CREATE_LOG, 0),
+            Step::Lease(b"/a"),
+        ],
+    ) {
         made_on(alloc, heap, &desk, growth)
     } else {
         None

@@ -116,7 +116,10 @@ fn is_refused<R: Threads + Wait + Sync>(rt: &R, alloc: Global, workers: usize) -
 #[test]
 fn no_worker_and_nine_are_refused(rt: HostRuntime) {
     for workers in [0, 9] {
-        assert!(rt; is_refused(&rt, rt.alloc(), workers) == Some(true), "{workers}");
+        assert!(rt;
+            is_refused(&rt, rt.alloc(), workers) == Some(true),
+            "{workers}"
+        );
     }
 }
 

@@ -121,10 +121,8 @@ fn landed<A: Allocator + Copy, R: Wait>(
     };
     match land(rt, shared, pass, judged) {
         Ok(reply) if reply == yes => Some(true),
-        Err(back)
-            if back.why == SharedWant::OutOfMemory && is_create(&back.submission, &FILE_A) => {
-            Some(false)
-        }
+        Err(back) if back.why == SharedWant::OutOfMemory && is_create(&back.submission, &FILE_A) =>
+            { Some(false) }
         _ => None,
     }
 }
@@ -221,11 +219,7 @@ fn shared_at_last<A: Allocator + Copy>(
 }
 
 /// How many rows the docket has of the desk that is shared so.
-fn rows_shared<A: Allocator + Copy>(
-    alloc: A,
-    heap: &Refusing<Global>,
-    growth: u64,
-) -> Option<u32> {
+fn rows_shared<A: Allocator + Copy>(alloc: A, heap: &Refusing<Global>, growth: u64) -> Option<u32> {
     let desk = opened(alloc)?;
     let (shared, pass) = shared_at_last(alloc, heap, desk, growth)?;
     closed(shared, pass)

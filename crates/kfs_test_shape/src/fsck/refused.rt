@@ -87,11 +87,7 @@ fn made_with_one_refused<A: Allocator + Copy>(
 }
 
 /// Whether the rows are let in, and shown.
-fn is_let_in<A: Allocator + Copy>(
-    rt: &(impl Threads + Sync),
-    alloc: A,
-    raw: RawImage<A>,
-) -> bool {
+fn is_let_in<A: Allocator + Copy>(rt: &(impl Threads + Sync), alloc: A, raw: RawImage<A>) -> bool {
     match fsck(rt, alloc, raw) {
         Ok(made) => shows_right(&made),
         Err(_fault) => false,
