@@ -56,7 +56,7 @@ impl<A: Allocator> Begun<A> {
 
 impl<A: Allocator + Copy> Begun<A> {
     /// Looks at the bytes of a piece, up to the first place where a frame is whole, or where a head is.
-    pub fn take(self, alloc: A, piece: &[u8]) -> Taken<'_, A>
+    pub fn look_at(self, alloc: A, piece: &[u8]) -> Taken<'_, A>
         requires begun { IsBegun self }
         requires some { 0 < length piece.now }
         ensures begun { IsBegun result.begun }

@@ -49,7 +49,7 @@ impl<A: Allocator + Copy> FrameReader<A> {
                 whole,
                 begun,
                 rest: behind,
-            } = begun.take(self.alloc, rest);
+            } = begun.look_at(self.alloc, rest);
             self.begun = begun;
             push_whole(out, whole);
             rest = behind;

@@ -26,13 +26,13 @@ pub pieces-preserved : goal.pieces-preserved
 pieces-preserved g c =
     let so_far = c.pieces.invariant in
     let piece = c.args.piece.now in
-    let taken = c.take-whole.result in record {
-      begun = c.take-whole.ensures.begun;
+    let taken = c.look_at-whole.result in record {
+      begun = c.look_at-whole.ensures.begun;
       read = λ came pending. subst (λ (xs : List (Incoming g.row.A.Denot)). AreReadTo taken.rest.now (came ++ piece) xs taken.begun) (sym c.push_whole.ensures.items)
           (reads_on (came ++ piece) c.pieces.rest.now taken.rest.now c.pieces.out.items taken.whole c.pieces.self.begun taken.begun (so_far.read came pending)
-          (λ later is. c.take-whole.ensures.next later (subst (λ (b : Begun g.row.A.Denot). IsPending b later) (sym c.replace-begun.ensures.value) is)));
-      room = omega (arith, so_far.room, c.push_whole.ensures.more, c.push_whole.ensures.capacity, c.take-whole.ensures.fewer);
-      few = omega (arith, so_far.few, c.push_whole.ensures.more, c.take-whole.ensures.fewer);
+          (λ later is. c.look_at-whole.ensures.next later (subst (λ (b : Begun g.row.A.Denot). IsPending b later) (sym c.replace-begun.ensures.value) is)));
+      room = omega (arith, so_far.room, c.push_whole.ensures.more, c.push_whole.ensures.capacity, c.look_at-whole.ensures.fewer);
+      few = omega (arith, so_far.few, c.push_whole.ensures.more, c.look_at-whole.ensures.fewer);
       capacity = c.push_whole.ensures.capacity ∙ so_far.capacity;
     }
 
