@@ -25,7 +25,7 @@ fn is_accepted(alloc: Global, steps: &[Step<'_>]) -> bool {
     }
 }
 
-const ACCEPTED: [&[Step<'static>]; 9] = [
+static ACCEPTED: [&[Step<'static>]; 9] = [
     &[LEASE, CREATE, LEASE_FILE, Land(LETTERS_LOG, 1), Land(EDITS_LOG, 1)],
     &[LEASE, CREATE, LEASE_FILE, Land(NO_BYTES, 0)],
     &[LEASE, Land(CREATE_AND_UNLINK, 0)],
@@ -42,7 +42,7 @@ const ACCEPTED: [&[Step<'static>]; 9] = [
 #[test]
 fn plans_that_are_made_are_accepted(rt: HostRuntime) {
     for (number, steps) in ACCEPTED.iter().enumerate() {
-        assert!(rt; is_accepted(rt.alloc(), steps), "{number}");
+        assert!(rt; is_accepted(rt.alloc(), *steps), "{number}");
     }
 }
 
