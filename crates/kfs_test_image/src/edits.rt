@@ -15,7 +15,7 @@ use std::process::Abort;
 const GREATEST: u32 = 65_536;
 
 /// File 5 of mode 0o644 at `/a`, as long as a tier.
-const LONG: Made<'static> = Made {
+static LONG: Made<'static> = Made {
     log: b"KLOG\x01\0\0\0\x07\0\x02\x01\0\0\0\x01\x01a\0\0\0\x05\0\x01\xa4\
           \x03\0\0\0\x05\0\0\0\0\x10\0\0\0",
     plan: b"KPLN\x01\0\x01\0\x01\0\0\0\x01\0\0\0\x01\x01a\0\0\0\x05\0\0\0\x05\

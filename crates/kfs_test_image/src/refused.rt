@@ -22,7 +22,7 @@ const AMPLE: u64 = 1 << 40;
 const MANY: u64 = 400;
 
 /// File 5 of two blocks at `/a`.
-const TWO_BLOCKS: Made<'static> = Made {
+static TWO_BLOCKS: Made<'static> = Made {
     log: b"KLOG\x01\0\0\0\x07\0\x02\x01\0\0\0\x01\x01a\0\0\0\x05\0\x01\xa4\
           \x03\0\0\0\x05\0\0\0\0\0\0\x20\0",
     plan: b"KPLN\x01\0\x01\0\x01\0\0\0\x01\0\0\0\x01\x01a\0\0\0\x05\0\0\0\x05\
@@ -31,7 +31,7 @@ const TWO_BLOCKS: Made<'static> = Made {
 };
 
 /// File 6 without a byte at `/b`.
-const SECOND_NAME: Made<'static> = Made {
+static SECOND_NAME: Made<'static> = Made {
     log: b"KLOG\x01\0\0\0\x07\0\x01\x01\0\0\0\x01\x01b\0\0\0\x06\0\x01\xa4",
     plan: b"KPLN\x01\0\x01\0\x01\0\0\0\0\0\0\0\x01\x01b\0\0\0\x06\0\0\0\x06\
           \x01\x01\xa4\0\0\x03\xe8\0\0\x03\xe8\0\x01\0\0\0\0\0\0\0\0",
@@ -41,10 +41,10 @@ const SECOND_NAME: Made<'static> = Made {
 type Shown = ((Option<u32>, Option<u32>), [u8; 20], u32);
 
 /// The first block is mapped, the second isn't.
-const BEFORE: Shown = ((Some(0), None), [0; 20], 2);
+static BEFORE: Shown = ((Some(0), None), [0; 20], 2);
 
 /// After the edits of each kind: block 1 is at place 2, and block 0 is unmapped.
-const EDITED: Shown = (
+static EDITED: Shown = (
     (None, Some(2)),
     [
         0, 0, 0, 0, 0, 0, 128, 129, 130, 131, 132, 133, 134, 135, 136, 137, 138, 139, 140, 141,
@@ -53,7 +53,7 @@ const EDITED: Shown = (
 );
 
 /// After a landing that writes both blocks: they are at places 2 and 1, and place 0 is free again.
-const FILLED: Shown = (
+static FILLED: Shown = (
     (Some(2), Some(1)),
     [
         218, 219, 220, 221, 222, 223, 1, 2, 3, 4, 5, 6, 7, 8, 9, 10, 11, 12, 13, 14,

@@ -9,18 +9,18 @@ use std::alloc::Global;
 use std::process::Abort;
 
 /// State `ab`, and group `c`: an open head, an open record, and a closed gate.
-const FIRST: [u8; 30] = [
+static FIRST: [u8; 30] = [
     b'K', b'D', b'J', b'L', 0, 0, 0, 0, 0, 0, 0, 0, 1, 0, 0, 0, 0, 0, 0, 0, 2, b'a', b'b', 1, 0, 0,
     0, 1, b'c', 0,
 ];
 
 /// An empty state with the next number, and no group.
-const SECOND: [u8; 22] = [
+static SECOND: [u8; 22] = [
     b'K', b'D', b'J', b'L', 0, 0, 0, 0, 0, 0, 0, 1, 1, 0, 0, 0, 0, 0, 0, 0, 0, 0,
 ];
 
 /// A state `z` with the last number.
-const LAST: [u8; 23] = [
+static LAST: [u8; 23] = [
     b'K', b'D', b'J', b'L', 255, 255, 255, 255, 255, 255, 255, 255, 1, 0, 0, 0, 0, 0, 0, 0, 1,
     b'z', 0,
 ];

@@ -6,7 +6,7 @@ use std::alloc::Global;
 use std::process::Abort;
 
 /// A journal with an empty state, and no group.
-const FRESH: [u8; 22] = [
+static FRESH: [u8; 22] = [
     b'K', b'D', b'J', b'L', 0, 0, 0, 0, 0, 0, 0, 0, 1, 0, 0, 0, 0, 0, 0, 0, 0, 0,
 ];
 

@@ -11,7 +11,7 @@ use std::alloc::{AllocError, Global};
 
 /// What the files stand for before the run and after each of its calls: the state, and each group behind a
 /// stroke.
-pub const STATES: [&[u8]; 18] = [
+pub static STATES: [&[u8]; 18] = [
     b"nothing",
     b"first",
     b"first/a",
@@ -34,7 +34,7 @@ pub const STATES: [&[u8]; 18] = [
 
 /// How many calls of the disk each call of the run makes. A group takes two writes, each with its sync; a new
 /// state also a cut and the beginning of its head. A draft is begun by a cut and two writes, and finished by two writes.
-pub const DISK_CALLS: [usize; 17] = [8, 4, 4, 4, 8, 4, 8, 4, 8, 6, 4, 2, 4, 2, 2, 4, 4];
+pub static DISK_CALLS: [usize; 17] = [8, 4, 4, 4, 8, 4, 8, 4, 8, 6, 4, 2, 4, 2, 2, 4, 4];
 
 // ---- calls of a journal, with the clauses that the next call asks for alone
 
@@ -94,7 +94,7 @@ fn extend<D: Disk>(
 // ---- the run
 
 /// The calls behind the first one up to the draft: whether it is a new state, or else a group, and its bytes.
-const CALLS: [(bool, &[u8]); 8] = [
+static CALLS: [(bool, &[u8]); 8] = [
     (false, b"a"),
     (false, b""),
     (false, b"bcd"),

@@ -25,6 +25,7 @@ fn is_accepted(alloc: Global, steps: &[Step<'_>]) -> bool {
     }
 }
 
+<<<<<<< HEAD
 const ACCEPTED: [&[Step<'static>]; 9] = [
     &[
         LEASE,
@@ -33,6 +34,10 @@ const ACCEPTED: [&[Step<'static>]; 9] = [
         Land(LETTERS_LOG, 1),
         Land(EDITS_LOG, 1),
     ],
+=======
+static ACCEPTED: [&[Step<'static>]; 9] = [
+    &[LEASE, CREATE, LEASE_FILE, Land(LETTERS_LOG, 1), Land(EDITS_LOG, 1)],
+>>>>>>> h_tests_b
     &[LEASE, CREATE, LEASE_FILE, Land(NO_BYTES, 0)],
     &[LEASE, Land(CREATE_AND_UNLINK, 0)],
     &[LEASE, Land(READ_ONLY, 1)],
@@ -54,7 +59,7 @@ const ACCEPTED: [&[Step<'static>]; 9] = [
 #[test]
 fn plans_that_are_made_are_accepted(rt: HostRuntime) {
     for (number, steps) in ACCEPTED.iter().enumerate() {
-        assert!(rt; is_accepted(rt.alloc(), steps), "{number}");
+        assert!(rt; is_accepted(rt.alloc(), *steps), "{number}");
     }
 }
 

@@ -29,16 +29,19 @@ fn has_no_plan(alloc: Global, client: Option<Client>, log: &[u8]) -> bool {
     }
 }
 
+/// No bytes, a log without its last byte, a plan, and logs with a fault.
+static NO_LOGS: [&[u8]; 5] = [
+    b"",
+    b"KLOG\x01\0\0\0\x07\0\x01\x01\0\0\0\x01\x01a\0\0\0\x05\0\x01",
+    CREATE_PLAN,
+    NO_NODE,
+    LETTERS_LOG,
+];
+
 #[test]
 fn no_log_and_an_entry_with_a_fault(rt: HostRuntime) {
-    for log in [
-        b"".as_slice(),
-        &CREATE_LOG[..24],
-        CREATE_PLAN,
-        NO_NODE,
-        LETTERS_LOG,
-    ] {
-        assert!(rt; has_no_plan(rt.alloc(), client(), log), "{log:?}");
+    for log in NO_LOGS.iter() {
+        assert!(rt; has_no_plan(rt.alloc(), client(), *log), "{log:?}");
     }
 }
 
@@ -46,6 +49,12 @@ fn no_log_and_an_entry_with_a_fault(rt: HostRuntime) {
 fn the_log_of_another_client(rt: HostRuntime) {
     assert!(rt; has_no_plan(rt.alloc(), client_8(), CREATE_LOG));
 }
+
+static FILE_HELD: [Step<'static>; 3] = [
+    Step::Lease(b"/"),
+    Step::Land(CREATE_LOG, 0),
+    Step::Lease(b"/a"),
+];
 
 /// The length of a plan and whether an allocation failed.
 type Made = (Option<usize>, bool);
@@ -71,15 +80,7 @@ fn made_on<A: Allocator + Copy>(
 /// The same with a desk of its own.
 fn made_there<A: Allocator + Copy>(alloc: A, heap: &Refusing<Global>, growth: u64) -> Option<Made> {
     let mut desk = opened(alloc)?;
-    if are_done(
-        alloc,
-        &mut desk,
-        &[
-            Step::Lease(b"/"),
-            Step::Land(CREATE_LOG, 0),
-            Step::Lease(b"/a"),
-        ],
-    ) {
+    if are_done(alloc, &mut desk, &FILE_HELD) {
         made_on(alloc, heap, &desk, growth)
     } else {
         None

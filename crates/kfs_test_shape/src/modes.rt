@@ -28,7 +28,7 @@ fn is_granted(
 }
 
 /// Groups of a client with uid and gid 1000, a node, and whether the client may do this.
-const ONE_CLASS: [(&[u32], u32, u32, u16, Want, bool); 13] = [
+static ONE_CLASS: [(&[u32], u32, u32, u16, Want, bool); 13] = [
     // its owner may not write, though its group and the others may
     (&[], 1000, 1000, 0o077, Write, false),
     (&[], 1000, 1, 0o077, Read, false),
@@ -50,7 +50,7 @@ const ONE_CLASS: [(&[u32], u32, u32, u16, Want, bool); 13] = [
 ];
 
 /// The same for a client with uid 0 that isn't privileged.
-const USER_0: [(&[u32], u32, u32, u16, Want, bool); 3] = [
+static USER_0: [(&[u32], u32, u32, u16, Want, bool); 3] = [
     (&[], 0, 1, 0o700, Write, true),
     (&[], 1, 1, 0o770, Write, false),
     (&[], 0, 0, 0o077, Search, false),
@@ -58,7 +58,7 @@ const USER_0: [(&[u32], u32, u32, u16, Want, bool); 3] = [
 
 /// A node's ids, the class of a client with uid 1000, gid 2000 and groups 3000 and 4000, and the place
 /// of the class's bits.
-const CLASSES: [(u32, u32, Class, u16); 8] = [
+static CLASSES: [(u32, u32, Class, u16); 8] = [
     (1000, 1, Class::Owner, 0o100),
     (1000, 2000, Class::Owner, 0o100),
     (1000, 4000, Class::Owner, 0o100),

@@ -11,14 +11,14 @@ pub struct File {
 }
 
 /// `a`, with the number 5.
-pub const FILE_A: File = File {
+pub static FILE_A: File = File {
     log: CREATE_LOG,
     plan: CREATE_PLAN,
     number: 5,
 };
 
 /// `p0` to `p3`, with the numbers 10 to 13.
-pub const FILES_P: [File; 4] = [
+pub static FILES_P: [File; 4] = [
     File {
         log: b"KLOG\x01\0\0\0\x07\0\x01\x01\0\0\0\x01\x02p0\0\0\0\x0a\0\x01\xa4",
         plan: b"KPLN\x01\0\x01\0\x01\0\0\0\0\0\0\0\x01\x02p0\0\0\0\x0a\0\0\0\x0a\x01\x01\xa4\0\
@@ -46,7 +46,7 @@ pub const FILES_P: [File; 4] = [
 ];
 
 /// `q0` to `q3`, with the numbers 14 to 17.
-pub const FILES_Q: [File; 4] = [
+pub static FILES_Q: [File; 4] = [
     File {
         log: b"KLOG\x01\0\0\0\x07\0\x01\x01\0\0\0\x01\x02q0\0\0\0\x0e\0\x01\xa4",
         plan: b"KPLN\x01\0\x01\0\x01\0\0\0\0\0\0\0\x01\x02q0\0\0\0\x0e\0\0\0\x0e\x01\x01\xa4\0\
@@ -74,14 +74,14 @@ pub const FILES_Q: [File; 4] = [
 ];
 
 /// Client 7 writes "x" to file 5, at its first byte.
-pub const WRITE_LOG: &[u8] = b"KLOG\x01\0\0\0\x07\0\x01\x02\0\0\0\x05\0\0\0\0\0\0\0\0\0\0\0\x01x";
+pub static WRITE_LOG: &[u8] = b"KLOG\x01\0\0\0\x07\0\x01\x02\0\0\0\x05\0\0\0\0\0\0\0\0\0\0\0\x01x";
 
 /// The same by client 8.
-pub const WRITE_LOG_OF_8: &[u8] =
+pub static WRITE_LOG_OF_8: &[u8] =
     b"KLOG\x01\0\0\0\x08\0\x01\x02\0\0\0\x05\0\0\0\0\0\0\0\0\0\0\0\x01x";
 
 /// The header of 5, and one piece.
-pub const WRITE_PLAN: &[u8] =
+pub static WRITE_PLAN: &[u8] =
     b"KPLN\x01\0\0\0\x01\0\0\0\x01\0\0\0\x05\x01\x01\xa4\0\0\x03\xe8\0\0\x03\xe8\0\
       \x01\0\0\0\0\0\0\0\x01\0\0\0\x05\0\0\0\0\0\0\0\0\0\0\0\0\0\0\0\x01\x01\0\0\0\0\
       \0\0";

@@ -26,7 +26,7 @@ fn are_both_same_again(alloc: Global, bytes: &[u8]) -> Result<bool, SpellFault> 
 }
 
 /// A log and a plan of each kind of entry, row and piece of version 1.
-const OF_VERSION_1: [&[u8]; 10] = [
+static OF_VERSION_1: [&[u8]; 10] = [
     CREATE_LOG,
     EDITS_LOG,
     MOVE_LOG,
@@ -41,9 +41,9 @@ const OF_VERSION_1: [&[u8]; 10] = [
 
 #[test]
 fn logs_and_plans_have_one_encoding(rt: HostRuntime) {
-    for bytes in OF_VERSION_1 {
+    for bytes in OF_VERSION_1.iter() {
         assert!(rt;
-            are_both_same_again(rt.alloc(), bytes) == Ok(true),
+            are_both_same_again(rt.alloc(), *bytes) == Ok(true),
             "{bytes:?}"
         );
     }
