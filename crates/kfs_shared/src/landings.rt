@@ -96,9 +96,14 @@ impl<A: Allocator + Copy> Shared<Desk<A>, A> {
         let turn = land_in(self, turn, landings, &mut spent);
         let view = turn.view(self);
         self.end_turn(pass, turn);
-        *replaced = before;
+        put_view(replaced, before);
         view
     }
+}
+
+/// Puts a view in the place of another one, which goes.
+fn put_view<A: Allocator>(there: &mut Option<View<A>>, view: Option<View<A>>) {
+    *there = view;
 }
 
 /// A list for so many verdicts that have landed, which are to go once the turn has ended. It has no room
