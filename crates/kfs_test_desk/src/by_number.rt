@@ -141,8 +141,6 @@ fn a_file_is_changed_below_a_directory_without_search(rt: HostRuntime) {
     assert!(rt; are_due(rt.alloc(), 5, &BELOW_A_CLOSED_DIRECTORY));
 }
 
-static WITH_A_CLOSED_DIRECTORY: [Call<'static>; 2] = [ROOT_LEASED, CLOSED];
-
 /// The lease by number, as row 2.
 const LEASED: Result<ActReply, Unanswered> = Ok(ActReply {
     position: 2,
@@ -190,6 +188,6 @@ pub fn asked_with_one_refused<A: Allocator + Copy>(
     heap: &Refusing<Global>,
     growth: u64,
 ) -> Option<bool> {
-    let mut desk = desk_after(alloc, 5, &WITH_A_CLOSED_DIRECTORY)?;
+    let mut desk = desk_after(alloc, 5, &[ROOT_LEASED, CLOSED])?;
     asked_beside_a_view(heap, &mut desk, growth)
 }

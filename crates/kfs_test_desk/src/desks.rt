@@ -45,7 +45,7 @@ pub const ROOT_LEASED: Call<'static> = Call::Act(
 );
 
 /// Client 7 creates file 5, named `a`, in the root, as row 1.
-const CREATED: Call<'static> = Call::Submit(
+pub const CREATED: Call<'static> = Call::Submit(
     CREATE_LOG,
     CREATE_PLAN,
     Ok(Reply::Yes {
@@ -68,12 +68,6 @@ pub const FILE_LEASED: Call<'static> = Call::Act(
         answer: Ok(Done::Leased(5)),
     }),
 );
-
-/// Client 7 holds the root.
-pub static ROOT_HELD: [Call<'static>; 1] = [ROOT_LEASED];
-
-/// It holds file 5, too, which it has made.
-pub static FILE_HELD: [Call<'static>; 3] = [ROOT_LEASED, CREATED, FILE_LEASED];
 
 fn is_acted<A: Allocator + Copy>(
     desk: &mut Desk<A>,

@@ -42,11 +42,9 @@ const TREE_MADE: Call<'static> = Call::Submit(
     }),
 );
 
-static TREE: [Call<'static>; 2] = [ROOT_LEASED, TREE_MADE];
-
 /// A desk with these nodes, if there is memory.
 pub fn tree<A: Allocator + Copy>(alloc: A) -> Option<Desk<A>> {
-    desk_after(alloc, 100, &TREE)
+    desk_after(alloc, 100, &[ROOT_LEASED, TREE_MADE])
 }
 
 /// The client with this number, or client 7 where there is none. Client 7 owns all nodes but the root, client 8 is in

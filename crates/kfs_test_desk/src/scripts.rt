@@ -2,8 +2,7 @@
 //! each allocation failing in turn.
 
 use crate::desks::{
-    Block, Call, FILE, FILE_LEASED, NO_FILE, ROOT_HELD, ROOT_LEASED, Shown, desk_after, has_blocks,
-    shows,
+    Block, Call, FILE, FILE_LEASED, NO_FILE, ROOT_LEASED, Shown, desk_after, has_blocks, shows,
 };
 use Does::{Judge, Land, Look};
 use kfs_desk::{Act, Desk, Move, Reply};
@@ -213,8 +212,6 @@ const FILES_CREATED: Call<'static> = Call::Submit(
     }),
 );
 
-static TWO_FILES: [Call<'static>; 3] = [ROOT_LEASED, FILES_CREATED, FILE_LEASED];
-
 /// Block 0 of the file goes to this place.
 fn to(number: u32, tier: u8, place: u32) -> Move {
     Move {
@@ -326,8 +323,11 @@ fn steps<'a, A: Allocator + Copy>(
 /// The desk at which it begins.
 fn desk_of<A: Allocator + Copy>(alloc: A, script: &Script) -> Option<Desk<A>> {
     match script.start {
-        Start::Root => desk_after(alloc, script.limit, &ROOT_HELD),
-        Start::TwoFiles => desk_after(alloc, script.limit, &TWO_FILES),
+        Start::Root => desk_after(alloc, script.limit, &[ROOT_LEASED]),
+        Start::TwoFiles => {
+            let calls = [ROOT_LEASED, FILES_CREATED, FILE_LEASED];
+            desk_after(alloc, script.limit, &calls)
+        }
     }
 }
 
@@ -499,14 +499,11 @@ fn run_with_one_refused<A: Allocator + Copy>(
     is_right.then_some(heap.has_refused())
 }
 
-/// The same of the last script, which tries again.
+/// The same of the script that tries again.
 pub fn script_with_one_refused<A: Allocator + Copy>(
     alloc: A,
     heap: &Refusing<Global>,
     growth: u64,
 ) -> Option<bool> {
-    match SCRIPTS.last() {
-        Some(script) => run_with_one_refused(alloc, heap, script, growth),
-        None => None,
-    }
+    run_with_one_refused(alloc, heap, &TRIED_AGAIN, growth)
 }

@@ -1,6 +1,6 @@
 //! A view taken before a landing, in the first and the second page of nodes.
 
-use crate::desks::{Call, ROOT_HELD, Shown, are_answered, desk_after, shows};
+use crate::desks::{Call, ROOT_LEASED, Shown, desk_after, is_answered, shows};
 use kfs_desk::{Desk, Reply};
 use kfs_image::{HeaderPage, Kind, Shape};
 use std::alloc::Global;
@@ -15,7 +15,7 @@ const PLAN: &[u8] =
       \0\0\0\x40\x01\x01\xa4\0\0\x03\xe8\0\0\x03\xe8\0\x01\0\0\0\0\0\0\0\0\
       \0\0\0\x41\x01\x01\xa4\0\0\x03\xe8\0\0\x03\xe8\0\x01\0\0\0\0\0\0\0\0";
 
-static BOTH_CREATED: [Call<'static>; 1] = [Call::Submit(
+const BOTH_CREATED: Call<'static> = Call::Submit(
     LOG,
     PLAN,
     Ok(Reply::Yes {
@@ -23,11 +23,11 @@ static BOTH_CREATED: [Call<'static>; 1] = [Call::Submit(
         rejudged: false,
         need: 0,
     }),
-)];
+);
 
-static BEFORE: [Shown<'static>; 3] = [Shown::NoNode(64), Shown::NoNode(65), Shown::Count(1, 0)];
+const BEFORE: [Shown<'static>; 3] = [Shown::NoNode(64), Shown::NoNode(65), Shown::Count(1, 0)];
 
-static AFTER: [Shown<'static>; 4] = [
+const AFTER: [Shown<'static>; 4] = [
     Shown::File(64),
     Shown::File(65),
     Shown::Name(1, b"m", Some(64)),
@@ -56,7 +56,7 @@ fn has_both(shape: &Shape<Global>) -> bool {
 
 /// Whether the view from before goes on to show what it showed, when the desk has both files.
 fn is_apart(desk: &mut Desk<Global>, before: &Shape<Global>) -> bool {
-    are_answered(desk, &BOTH_CREATED)
+    is_answered(desk, BOTH_CREATED)
         && shows(before, &BEFORE)
         && has_second_page(before) == None
         && has_both(desk.image().shape())
@@ -64,7 +64,7 @@ fn is_apart(desk: &mut Desk<Global>, before: &Shape<Global>) -> bool {
 
 /// The same on a desk of its own.
 fn is_apart_there(alloc: Global) -> Option<bool> {
-    let mut desk = desk_after(alloc, 100, &ROOT_HELD)?;
+    let mut desk = desk_after(alloc, 100, &[ROOT_LEASED])?;
     let before = desk.image().shape().clone().ok()?;
     Some(is_apart(&mut desk, &before))
 }

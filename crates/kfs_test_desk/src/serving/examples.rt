@@ -1,6 +1,6 @@
 //! An example of each public type of `kfs_judge`, `kfs_plan` and `kfs_desk`: how it comes about, and what it holds.
 
-use crate::desks::{AMPLE, Call, ROOT_HELD, ROOT_LEASED, are_due, begun, client, desk_after};
+use crate::desks::{AMPLE, Call, ROOT_LEASED, are_due, begun, client, desk_after};
 use kfs_desk::{
     Act, ActFault, ActReply, Back, BeginBack, BeginFault, Desk, Done, Reply, SubmissionsBack,
     Unanswered, Why,
@@ -16,12 +16,6 @@ use kfs_plan::{Fault, Outcome, RowFault, Submission, judge, judge_bytes};
 use kfs_test_support::refusing::Refusing;
 use kfs_test_support::vectors::{CREATE_LOG, CREATE_PLAN, EMPTY_PLAN};
 use std::alloc::{Allocator, Global};
-
-/// The log that creates file 5, and its plan.
-static CREATE: (&[u8], &[u8]) = (CREATE_LOG, CREATE_PLAN);
-
-/// That log without its last byte.
-static CUT_LOG: &[u8] = b"KLOG\x01\0\0\0\x07\0\x01\x01\0\0\0\x01\x01a\0\0\0\x05\0\x01";
 
 // ---- views, and what a walk over a log's entries finds
 
@@ -82,7 +76,7 @@ fn told(walk: Walk<Global>) -> Told {
 
 /// What is told of the walk over the Create of file 5.
 fn walked(alloc: Global, calls: &[Call<'_>], keeping: Keeping) -> Option<Told> {
-    let log = decode_log(alloc, CREATE.0).ok()?;
+    let log = decode_log(alloc, CREATE_LOG).ok()?;
     let view = view(alloc, calls)?;
     let walk = walk(alloc, &view, &log, keeping)?;
     Some(told(walk))
@@ -102,9 +96,9 @@ const CREATED_EMPTY: FileSize = FileSize {
 
 #[test]
 fn walks_and_what_they_read(rt: HostRuntime) {
-    let kept = walked(rt.alloc(), &ROOT_HELD, Keeping::Reads);
+    let kept = walked(rt.alloc(), &[ROOT_LEASED], Keeping::Reads);
     assert!(rt; kept == Some((Ok((1, 1)), READ, Some(CREATED_EMPTY), true)));
-    let unkept = walked(rt.alloc(), &ROOT_HELD, Keeping::Nothing);
+    let unkept = walked(rt.alloc(), &[ROOT_LEASED], Keeping::Nothing);
     assert!(rt; unkept == Some((Ok((1, 1)), [None, None, None], Some(CREATED_EMPTY), false)));
 }
 
@@ -160,7 +154,7 @@ fn judged_bytes(alloc: Global, view: &View<Global>, log: &[u8], plan: &[u8]) -> 
 
 /// Whether both verdicts are this one, where client 7 holds the root.
 fn is_judged(alloc: Global, log: &[u8], plan: &[u8], due: Verdict) -> bool {
-    match view(alloc, &ROOT_HELD) {
+    match view(alloc, &[ROOT_LEASED]) {
         Some(view) => {
             judged(alloc, &view, log, plan) == Some(due)
                 && judged_bytes(alloc, &view, log, plan) == Some(due)
@@ -171,11 +165,11 @@ fn is_judged(alloc: Global, log: &[u8], plan: &[u8], due: Verdict) -> bool {
 
 #[test]
 fn a_verdict_of_yes_and_two_of_no(rt: HostRuntime) {
-    assert!(rt; is_judged(rt.alloc(), CREATE.0, CREATE.1, Ok((1, 1, 0))));
+    assert!(rt; is_judged(rt.alloc(), CREATE_LOG, CREATE_PLAN, Ok((1, 1, 0))));
     let row = Fault::Row(RowFault::Names(0));
-    assert!(rt; is_judged(rt.alloc(), CREATE.0, EMPTY_PLAN, Err(row)));
+    assert!(rt; is_judged(rt.alloc(), CREATE_LOG, EMPTY_PLAN, Err(row)));
     let cut = Fault::BadLog(SpellFault::BadEntry(0));
-    assert!(rt; is_judged(rt.alloc(), CUT_LOG, CREATE.1, Err(cut)));
+    assert!(rt; is_judged(rt.alloc(), &CREATE_LOG[..24], CREATE_PLAN, Err(cut)));
 }
 
 // ---- the desk's answers
@@ -237,7 +231,7 @@ fn a_desk_that_is_not_begun(rt: HostRuntime) {
 fn creates<A: Allocator + Copy>(alloc: A) -> Option<Vec<Submission<A>, A>> {
     let mut all = Vec::new(alloc);
     for _ in 0..3 {
-        all.push(submission(alloc, CREATE.0, CREATE.1)?).ok()?;
+        all.push(submission(alloc, CREATE_LOG, CREATE_PLAN)?).ok()?;
     }
     Some(all)
 }
@@ -253,7 +247,7 @@ fn submit_all<A: Allocator + Copy>(
 fn reply(answer: &Result<Reply, Back<Global>>) -> Option<Result<Reply, Why>> {
     match answer {
         Ok(reply) => Some(Ok(*reply)),
-        Err(back) if back.submission.log.as_slice() == CREATE.0 => Some(Err(back.why)),
+        Err(back) if back.submission.log.as_slice() == CREATE_LOG => Some(Err(back.why)),
         Err(_) => None,
     }
 }
@@ -269,7 +263,7 @@ fn replies(answers: &[Result<Reply, Back<Global>>]) -> Option<[Result<Reply, Why
 /// What a desk with a docket of three rows answers to the Create of file 5, handed in three times at once.
 fn created_three_times(alloc: Global) -> Option<[Result<Reply, Why>; 3]> {
     let submissions = creates(alloc)?;
-    let mut desk = desk_after(alloc, 3, &ROOT_HELD)?;
+    let mut desk = desk_after(alloc, 3, &[ROOT_LEASED])?;
     match submit_all(&mut desk, submissions) {
         Ok(answers) => replies(answers.as_slice()),
         Err(_) => None,

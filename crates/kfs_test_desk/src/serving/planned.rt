@@ -1,17 +1,12 @@
 //! What a plan maker calls: right pieces of a log, and the check of a plan.
 
-use crate::desks::{AMPLE, FILE_HELD, desk_after};
+use crate::desks::{AMPLE, CREATED, FILE_LEASED, ROOT_LEASED, desk_after};
 use kfs_entry::{Plan, decode_log, decode_plan};
 use kfs_judge::{View, judge_entries};
 use kfs_plan::{RowFault, check_plan, sweep};
 use kfs_test_support::refusing::Refusing;
 use kfs_test_support::vectors::{CREATE_PLAN, LETTERS_LOG, LETTERS_PLAN};
 use std::alloc::{Allocator, Global};
-
-/// The log that writes ten letters, and its plan.
-static LETTERS: (&[u8], &[u8]) = (LETTERS_LOG, LETTERS_PLAN);
-
-static OTHER_PLAN: &[u8] = CREATE_PLAN;
 
 /// Whether the pieces are those of the right plan, or none where memory ran out; and what the checks of the right plan and of
 /// another log's plan say.
@@ -26,7 +21,7 @@ fn told<A: Allocator + Copy>(
     other: &Plan<A>,
     growth: u64,
 ) -> Option<Told> {
-    let log = decode_log(alloc, LETTERS.0).ok()?;
+    let log = decode_log(alloc, LETTERS_LOG).ok()?;
     let is_known = view.client(log.client).is_some();
     if !is_known {
         return None;
@@ -61,8 +56,8 @@ fn planned_at<A: Allocator + Copy>(
     view: &View<A>,
     growth: u64,
 ) -> Option<bool> {
-    let right = decode_plan(alloc, LETTERS.1).ok()?;
-    let other = decode_plan(alloc, OTHER_PLAN).ok()?;
+    let right = decode_plan(alloc, LETTERS_PLAN).ok()?;
+    let other = decode_plan(alloc, CREATE_PLAN).ok()?;
     let told = told(alloc, heap, view, &right, &other, growth)?;
     let has_refused = heap.has_refused();
     is_right(told, has_refused).then_some(has_refused)
@@ -70,7 +65,7 @@ fn planned_at<A: Allocator + Copy>(
 
 /// A view of a desk with the empty file 5, on which client 7 holds a write lease.
 fn view_with_file<A: Allocator + Copy>(alloc: A) -> Option<View<A>> {
-    let desk = desk_after(alloc, 100, &FILE_HELD)?;
+    let desk = desk_after(alloc, 100, &[ROOT_LEASED, CREATED, FILE_LEASED])?;
     desk.view().ok()
 }
 
