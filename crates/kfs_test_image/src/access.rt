@@ -192,8 +192,11 @@ fn expect_in_order(rt: &impl Abort, view: &View<Global>, rows: &[(Access, u32, u
 
 #[test]
 fn the_bits_of_the_one_class_that_holds(rt: HostRuntime) {
-    expect_rows(&rt, rt.alloc(), &ONE_CLASS, false);
-    expect_rows(&rt, rt.alloc(), &PRIVILEGED, true);
+    // The prover doesn't take a table by its name where its rows hold lists of answers.
+    let one_class = ONE_CLASS;
+    expect_rows(&rt, rt.alloc(), &one_class, false);
+    let privileged = PRIVILEGED;
+    expect_rows(&rt, rt.alloc(), &privileged, true);
 }
 
 #[test]
