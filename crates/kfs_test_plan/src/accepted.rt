@@ -25,8 +25,7 @@ fn is_accepted(alloc: Global, steps: &[Step<'_>]) -> bool {
     }
 }
 
-<<<<<<< HEAD
-const ACCEPTED: [&[Step<'static>]; 9] = [
+static ACCEPTED: [&[Step<'static>]; 9] = [
     &[
         LEASE,
         CREATE,
@@ -34,10 +33,6 @@ const ACCEPTED: [&[Step<'static>]; 9] = [
         Land(LETTERS_LOG, 1),
         Land(EDITS_LOG, 1),
     ],
-=======
-static ACCEPTED: [&[Step<'static>]; 9] = [
-    &[LEASE, CREATE, LEASE_FILE, Land(LETTERS_LOG, 1), Land(EDITS_LOG, 1)],
->>>>>>> h_tests_b
     &[LEASE, CREATE, LEASE_FILE, Land(NO_BYTES, 0)],
     &[LEASE, Land(CREATE_AND_UNLINK, 0)],
     &[LEASE, Land(READ_ONLY, 1)],
