@@ -115,14 +115,32 @@ pub(crate) fn rebuilt<K: Key, V: Copy, A: Allocator + Clone, R: Recut<K, V, A> +
     ensures fit { IfOk result (λ new. EachBy R.entries R.fits new.items) }
 {
     let mut new = Vec::with_capacity(runs.allocator().clone()?, runs.len())?;
-    let mut left = runs.as_slice();
+    push_rebuilt(&mut new, runs.as_slice(), edits)?;
+    Ok(new)
+}
+
+/// Appends the runs after the edits.
+// (apart, so that nothing is dropped in the loop)
+fn push_rebuilt<K: Key, V: Copy, A: Allocator + Clone, R: Recut<K, V, A>>(
+    new: &mut Vec<Arc<R, A>, A>,
+    runs: &[Arc<R, A>],
+    edits: &[KeyEdit<K, V>],
+) -> Result<(), AllocError>
+    requires ascend { KeysAscend K.cmp edits.now }
+    requires sorted { T (is_sorted K.cmp (joined_by R.entries runs.now)) }
+    requires old { EachBy R.entries R.fits new.old.items }
+    requires fit { EachBy R.entries R.fits runs.now }
+    ensures joined { OnOk result (joined_by R.entries new.new.items ≡ joined_by R.entries new.old.items ++ entered_all K.cmp (joined_by R.entries runs.now) edits.now) }
+    ensures fit { OnOk result (EachBy R.entries R.fits new.new.items) }
+{
+    let mut left = runs;
     let mut later = edits;
     while let Some((first, rest)) = left.split_first() {
         let (mine, others) = later.split_at(edits_of(later, first, rest));
-        R::push_edited(&mut new, first, mine)?;
+        R::push_edited(new, first, mine)?;
         left = rest;
         later = others;
     }
-    R::push_fresh(&mut new, later)?;
-    Ok(new)
+    R::push_fresh(new, later)?;
+    Ok(())
 }

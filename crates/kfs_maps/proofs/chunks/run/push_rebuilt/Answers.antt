@@ -9,7 +9,7 @@ use Rattle.kfs_maps.proofs.ChunksLemmas.Order.{ascend_drop}
 use Rattle.kfs_maps.proofs.ChunksLemmas.Parts.{sorted_left, sorted_right}
 use Rattle.kfs_maps.proofs.ChunksLemmas.Rewritten.{parts_edited}
 use Rattle.kfs_maps.proofs.ChunksLemmas.Sorted.{order_by}
-use Rattle.kfs_maps.proofs.chunks.run.rebuilt.Goals as goal
+use Rattle.kfs_maps.proofs.chunks.run.push_rebuilt.Goals as goal
 
 pub loop-first-preserved : goal.loop-first-preserved
 loop-first-preserved g c =
