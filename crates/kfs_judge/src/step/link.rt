@@ -41,12 +41,7 @@ fn link_fault<A: Allocator + Copy>(
 
 impl<A: Allocator + Copy> LogJudge<'_, A> {
     /// Gives the file `number` one more name, `name` in `dir`, or answers the reason why not.
-    pub fn link(
-        &mut self,
-        number: u32,
-        dir: u32,
-        name: &Name,
-    ) -> Result<Option<Reason>, AllocError>
+    pub fn link(&mut self, number: u32, dir: u32, name: &Name) -> Result<Option<Reason>, AllocError>
         requires { HasRoom 3 self.old.draft }
         ensures { IsEntered self.old self.new (entry.Link number dir name.now) result }
     {

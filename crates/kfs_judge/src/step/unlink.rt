@@ -92,11 +92,7 @@ impl<A: Allocator + Copy> LogJudge<'_, A> {
     }
 
     /// Removes the name `key`, which leads to `there`. The node goes with its last name.
-    pub fn remove_name(
-        &mut self,
-        key: &(u32, Name),
-        there: Option<u32>,
-    ) -> Result<(), AllocError>
+    pub fn remove_name(&mut self, key: &(u32, Name), there: Option<u32>) -> Result<(), AllocError>
         requires { HasRoom 1 self.old.draft }
         ensures goes { GoesOn self.old.recorder self.new.recorder }
         ensures client { self.new.client.now ≡ self.old.client.now }
