@@ -15,7 +15,7 @@ pub struct Nears {
 
 impl Nears {
     /// Both looks begin at this place.
-    pub fn new(near: Near) -> Nears {
+    pub fn at(near: Near) -> Nears {
         Nears {
             dir: 0,
             last: near,

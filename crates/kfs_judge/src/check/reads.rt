@@ -60,7 +60,7 @@ impl<'a, A: Allocator + Copy> Recorder<'a, A> {
             view,
             client,
             reads,
-            nears: Nears::new(view.near()),
+            nears: Nears::at(view.near()),
             climbs: Climbs::new(alloc),
         }
     }
