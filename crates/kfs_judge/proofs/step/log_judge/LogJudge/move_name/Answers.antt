@@ -1,8 +1,8 @@
 -- What the second name led to loses it first, and then the node moved has it.
-use Rattle.std.specs.Prelude.{◌≡◌, ℕ, List, [], ◌∷◌, Contains, Option, Some, None, option_and_then, if◌then◌else◌, refl}
+use Rattle.std.specs.Prelude.{◌≡◌, ℕ, List, [], ◌∷◌, Option, Some, None, option_and_then, if◌then◌else◌, refl}
 use Rattle.std.proofs.Common.{ap, sym, subst, ◌∙◌, arith}
 use Rattle.std.proofs.lemmas.Bool.{ne_eqb}
-use Rattle.kfs_model.specs.Sight.{Sight, Cell, HeaderOf, NameIn, kind_shown}
+use Rattle.kfs_model.specs.Sight.{Sight, Cell, HeaderOf, kind_shown}
 use Rattle.kfs_model.specs.SeenAfter.{seen_moved, seen_renamed, seen_unlinked, unlinked}
 use Rattle.kfs_judge.specs.Step.Entered.{headers_renamed, headers_unlinked}
 use Rattle.kfs_judge.specs.Draft.Overlay.{over, with_name_moved}
