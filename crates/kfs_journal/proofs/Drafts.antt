@@ -1,5 +1,5 @@
 -- What a crash leaves while the next file is written in parts, and what it says then.
-use Rattle.std.proofs.Common.{◌≡◌, ◌≢◌, inl, inr, ℕ, ◌+◌, ◌<◌, ◌≤◌, ◌^◌, List, [], ◌∷◌, ◌++◌, length, take, drop, Option, Some, None, refl, sym, ap, subst, ◌∙◌, append_assoc, arith, length-append, take-append-drop}
+use Rattle.std.proofs.Common.{◌≡◌, inl, inr, ℕ, ◌+◌, ◌<◌, ◌≤◌, ◌^◌, List, [], ◌∷◌, ◌++◌, length, take, drop, Some, None, refl, sym, ap, subst, ◌∙◌, append_assoc, arith, length-append, take-append-drop}
 use Rattle.std.specs.Int.{w32, w64, to_be_bytes}
 use Rattle.std.specs.List.{AllByRecursion}
 use Rattle.std.proofs.lemmas.Bool.{cases_eq}
@@ -10,7 +10,7 @@ use Rattle.kfs_journal.specs.declared.disk.File.TheVariants.{First, Second}
 use Rattle.kfs_journal.specs.declared.journal.Journal.{Journal}
 use Rattle.kfs_journal.specs.declared.journal.draft.Draft.{Draft}
 use Rattle.kfs_journal.specs.Disk.{Files, content, other, In, Only, Torn, Holds}
-use Rattle.kfs_journal.specs.Draft.{HasDraft, IsWhole}
+use Rattle.kfs_journal.specs.Draft.{HasDraft}
 use Rattle.kfs_journal.specs.Format.{said_by, meaning, AreRecords, recovered, before_gate, behind_gate, record_bytes, records_bytes, records_len}
 use Rattle.kfs_journal.specs.Journal.{Says, IsBehind, IsLess, IsSettled, IsOneOf}
 use Rattle.kfs_journal.proofs.Changes.{flipped_behind}

@@ -12,3 +12,4 @@ mod MadeCalls
 mod TornCalls
 mod Growth
 mod Drafts
+mod Parts

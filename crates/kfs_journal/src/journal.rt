@@ -13,7 +13,7 @@ use crate::disk::{Disk, File};
 use crate::fault::JournalFault;
 use crate::format::{Head, head_of, read_groups, record_of};
 use crate::open_fault::OpenFault;
-use crate::steps::{add_gated, cut_through, write_head, write_through};
+use crate::steps::{HEAD, add_gated, cut_through, write_head, write_through};
 use std::alloc::Allocator;
 
 /// The most bytes of a group: its length has four bytes.
@@ -24,9 +24,6 @@ const MAX_END: usize = 1 << 60;
 
 /// The length of a state, for the same reason.
 const MAX_STATE: usize = 1 << 60;
-
-/// The bytes of a head beside its state.
-const HEAD: usize = 21;
 
 /// A change of state is due where the records have so many bytes,
 const DUE_RECORDS: usize = 1 << 20;
@@ -74,7 +71,8 @@ impl Journal {
         ensures acknowledged { OnOk result (meaning (D.seen disk.new) ≡ with_group (meaning (D.seen disk.old)) group.now) }
 
         // A draft of the next file stays as it is.
-        ensures draft { (draft : Draft) (bytes : List ℕ) → HasDraft (D.seen disk.old) self.old draft bytes → OnOk result (HasDraft (D.seen disk.new) self.new draft bytes) }
+        ensures draft { (draft : Draft) (bytes : List ℕ) → HasDraft (D.seen disk.old) self.old draft bytes
+            → OnOk result (HasDraft (D.seen disk.new) self.new draft bytes) }
         ensures short { OnOk result (length group.now < 2 ^ 32) }
 
         // A crash at any moment of the call leaves what was before it, with the new group or without.
@@ -110,7 +108,7 @@ impl Journal {
     /// that stand for it.
     ///
     /// `Full` where the state has 2^60 bytes or more, or the last number is used up. `OutOfMemory` where memory
-    /// is refused; a copy of the state is made. Both leave all as it was. `Failed` where the disk has failed: the
+    /// for the head's few bytes is refused. Both leave all as it was. `Failed` where the disk has failed: the
     /// files stand for what was or for the new state, and `open` tells which.
     pub fn change<A: Allocator + Copy, D: Disk>(
         &mut self,

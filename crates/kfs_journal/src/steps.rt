@@ -1,16 +1,20 @@
 //! Changes of the files, each from files that are on the disk to files that are on the disk. So each moment
 //! within one is a torn call on files that are known.
-ghost use Rattle.std.specs.Prelude.{◌≡◌, ◌≤◌, ◌+◌, ◌<◌, ◌^◌, length, OnOk, OnErr, IsErrOf, IsTrue};
+ghost use Rattle.std.specs.Prelude.{◌≡◌, ◌≤◌, ◌+◌, ◌<◌, ◌^◌, ◌∷◌, ◌++◌, [], length, OnOk, OnErr, IsErrOf, IsTrue};
 ghost use Rattle.kfs_journal.specs.Disk.{content, In, Only, Torn, Cut, Holds, IsFront, LeavesOnly};
+ghost use Rattle.kfs_journal.specs.Format.{behind_gate};
 ghost use Rattle.kfs_journal.specs.Journal.{EndsClosed, IsOpened, IsOpening, IsFresh, IsLess, IsClosedHead, IsRenewed};
 
 use crate::disk::{Disk, DiskFailed, File};
 use crate::fault::JournalFault;
-use crate::format::{head_front, head_rest};
+use crate::format::head_front;
 use std::alloc::Allocator;
 
 /// Where the gate of a head stands: behind magic and number.
 pub const GATE: usize = 12;
+
+/// The bytes of a head beside its state.
+pub const HEAD: usize = 21;
 
 /// Writes and syncs.
 pub fn write_through<D: Disk>(
@@ -27,6 +31,30 @@ pub fn write_through<D: Disk>(
     ensures cause { OnErr result (IsTrue (D.has_failed disk.new)) }
 {
     disk.write_at(file, at, bytes)?;
+    disk.sync(file)
+}
+
+/// Writes three parts one behind another, and syncs once. So none of them is copied behind another.
+pub fn write_parts<D: Disk>(
+    disk: &mut D,
+    file: File,
+    at: usize,
+    front: &[u8],
+    body: &[u8],
+    end: &[u8],
+) -> Result<(), DiskFailed>
+    requires at { at ≤ length (content file (D.seen disk.old)) }
+    requires durable { Only (D.seen disk.old) (D.may_leave disk.old) }
+    requires room { at + length front.now + length body.now < 2 ^ 64 }
+    ensures written { OnOk result (In file (Holds at (front.now ++ (body.now ++ end.now))) (D.seen disk.old) (D.seen disk.new)) }
+    ensures durable { OnOk result (Only (D.seen disk.new) (D.may_leave disk.new)) }
+    ensures any_moment { LeavesOnly D.moment D.left_since disk.old disk.new
+        (In file (Torn at (length (front.now ++ (body.now ++ end.now)))) (D.seen disk.old)) }
+    ensures cause { OnErr result (IsTrue (D.has_failed disk.new)) }
+{
+    disk.write_at(file, at, front)?;
+    disk.write_at(file, at + front.len(), body)?;
+    disk.write_at(file, at + front.len() + body.len(), end)?;
     disk.sync(file)
 }
 
@@ -87,6 +115,23 @@ pub fn close_head<A: Allocator, D: Disk>(
     Ok(())
 }
 
+/// Writes a state and the closed gate of the first record behind the closed gate of a head, and opens it when they are on
+/// the disk.
+fn add_state<D: Disk>(disk: &mut D, file: File, state: &[u8]) -> Result<(), DiskFailed>
+    requires closed { EndsClosed 12 (content file (D.seen disk.old)) }
+    requires durable { Only (D.seen disk.old) (D.may_leave disk.old) }
+    requires room { length state.now < 2 ^ 60 }
+    ensures written { OnOk result (In file (IsOpened (behind_gate state.now ++ 0 ∷ [])) (D.seen disk.old) (D.seen disk.new)) }
+    ensures durable { OnOk result (Only (D.seen disk.new) (D.may_leave disk.new)) }
+    ensures any_moment { LeavesOnly D.moment D.left_since disk.old disk.new
+        (In file (IsOpening (behind_gate state.now ++ 0 ∷ [])) (D.seen disk.old)) }
+    ensures cause { OnErr result (IsTrue (D.has_failed disk.new)) }
+{
+    let len = (state.len() as u64).to_be_bytes();
+    write_parts(disk, file, GATE + 1, &len, state, &[0])?;
+    write_through(disk, file, GATE, &[1])
+}
+
 /// Gives a file a new head, and no records.
 pub fn write_head<A: Allocator + Copy, D: Disk>(
     alloc: A,
@@ -96,7 +141,7 @@ pub fn write_head<A: Allocator + Copy, D: Disk>(
     state: &[u8],
 ) -> Result<(), JournalFault>
     requires durable { Only (D.seen disk.old) (D.may_leave disk.old) }
-    requires room { length state.now < 2 ^ 64 }
+    requires room { length state.now < 2 ^ 60 }
     ensures written { OnOk result (In file (λ old new. IsFresh number state.now new) (D.seen disk.old) (D.seen disk.new)) }
     ensures durable { OnOk result (Only (D.seen disk.new) (D.may_leave disk.new)) }
     ensures any_moment { LeavesOnly D.moment D.left_since disk.old disk.new (In file (IsRenewed number state.now) (D.seen disk.old)) }
@@ -104,9 +149,8 @@ pub fn write_head<A: Allocator + Copy, D: Disk>(
     ensures full { IsErrOf result JournalFault.Full → ⊥ }
     ensures memory { IsErrOf result JournalFault.OutOfMemory → disk.new ≡ disk.old }
 {
-    let rest = head_rest(alloc, state)?;
     close_head(alloc, disk, file, number)?;
-    add_gated(disk, file, GATE, &rest)?;
+    add_state(disk, file, state)?;
     Ok(())
 }
 

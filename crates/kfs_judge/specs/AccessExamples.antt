@@ -1,5 +1,5 @@
 -- Worked examples of what is permitted: clients, trees and modes of the model's examples.
-use Rattle.std.specs.Prelude.{ℕ, true, List, [], ◌∷◌}
+use Rattle.std.specs.Prelude.{ℕ, true, [], ◌∷◌}
 use Rattle.kfs_model.specs.Judgement.{State}
 use Rattle.kfs_model.specs.Examples.Example.{client_7, directory, file, held_by_7, name_a, name_b, named, root, tree}
 

@@ -3,6 +3,7 @@
 mod check;
 mod climbs;
 mod entry_judge;
+mod nears;
 mod reads;
 mod record;
 mod view;

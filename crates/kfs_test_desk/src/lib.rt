@@ -3,9 +3,10 @@
 //! `kfs_rows`. The expected values come from docs/FORMATS.md and from the examples of
 //! `kfs_model`, never from the program's own output.
 //! `serving` has a server in thirty lines, and an example of each public type of `kfs_judge`, `kfs_plan` and `kfs_desk`.
+//! `plans` has the maker of plans, and `spelled` calls, answers and states as bytes.
 //!
-//! It stands on `kfs_workers_script`, `kfs_desk` and `kfs_test_support`. Begin with `desks.rt`, which has the
-//! calls.
+//! It stands on `kfs_workers_script`, `kfs_desk`, `kfs_plan_maker`, `kfs_call_desk` and `kfs_test_support`. Begin with
+//! `desks.rt`, which has the calls.
 //!
 //! A test is proved too, and would have to carry the clauses of each call that it makes. So each call
 //! is in a small function without clauses, which a test then makes for each row of a table. Who owns a desk has one way
@@ -19,10 +20,14 @@ mod desks;
 #[cfg(test)]
 mod leases;
 #[cfg(test)]
+mod plans;
+#[cfg(test)]
 mod refused;
 #[cfg(test)]
 mod scripts;
 #[cfg(test)]
 mod serving;
+#[cfg(test)]
+mod spelled;
 #[cfg(test)]
 mod views;

@@ -31,12 +31,17 @@ fn made_with_one_refused(heap: &Refusing<Global>, case: Case, growth: u64) -> Op
     }
 }
 
+/// The same with a heap of its own.
+fn made_once(alloc: Global, case: Case, growth: u64) -> Option<bool> {
+    let heap = Refusing::new(alloc, AMPLE);
+    made_with_one_refused(&heap, case, growth)
+}
+
 /// How many allocations it asks for, each refused in turn; or as an error the index of one at which
 /// the outcome is wrong.
 fn growths(alloc: Global, case: Case) -> Result<u64, u64> {
     for growth in 0..MANY {
-        let heap = Refusing::new(alloc, AMPLE);
-        match made_with_one_refused(&heap, case, growth) {
+        match made_once(alloc, case, growth) {
             Some(true) => {}
             Some(false) => return Ok(growth),
             None => return Err(growth),

@@ -307,6 +307,20 @@ fn step_of<'a>(does: Does, both: &'a [Move], twice: &'a [Move]) -> Step<'a> {
     }
 }
 
+/// Appends the script's steps. Whether there was memory.
+// (apart from the list's owner, so that no way out of the loop drops a list)
+fn push_steps<'a, A: Allocator + Copy>(
+    all: &mut Vec<Step<'a>, A>,
+    script: &Script,
+    both: &'a [Move],
+    twice: &'a [Move],
+) -> Option<()> {
+    for step in script.steps {
+        all.push(step_of(*step, both, twice)).ok()?;
+    }
+    Some(())
+}
+
 fn steps<'a, A: Allocator + Copy>(
     alloc: A,
     script: &Script,
@@ -314,9 +328,7 @@ fn steps<'a, A: Allocator + Copy>(
     twice: &'a [Move],
 ) -> Option<Vec<Step<'a>, A>> {
     let mut all = Vec::new(alloc);
-    for step in script.steps {
-        all.push(step_of(*step, both, twice)).ok()?;
-    }
+    push_steps(&mut all, script, both, twice)?;
     Some(all)
 }
 
@@ -341,12 +353,23 @@ fn submission<A: Allocator + Copy>(alloc: A, script: &Script) -> Option<Submissi
     })
 }
 
-/// The same for each ticket.
+/// Appends the same for each ticket. Whether there was memory.
+fn push_submissions<A: Allocator + Copy>(
+    all: &mut Vec<Submission<A>, A>,
+    alloc: A,
+    script: &Script,
+) -> Option<()> {
+    for _ in 0..script.due.len() {
+        let one = submission(alloc, script)?;
+        all.push(one).ok()?;
+    }
+    Some(())
+}
+
+/// What is handed in under all tickets.
 fn submissions<A: Allocator + Copy>(alloc: A, script: &Script) -> Option<Vec<Submission<A>, A>> {
     let mut all = Vec::new(alloc);
-    for _ in 0..script.due.len() {
-        all.push(submission(alloc, script)?).ok()?;
-    }
+    push_submissions(&mut all, alloc, script)?;
     Some(all)
 }
 

@@ -1,19 +1,17 @@
 //! Who may look names up, list them, and read files, through a view. The expected values are those of
 //! POSIX.1-2017, XBD 4.5: owner, else group, else others, and the bits of that class alone.
-ghost use Rattle.std.specs.Prelude.{IfSome, IsTrue};
+ghost use Rattle.std.specs.Prelude.{IfSome};
 ghost use Rattle.kfs_mode.specs.Clients.{ClientsAreDistinct};
-ghost use Rattle.kfs_model.specs.Device.Finding.{IsWellFormed};
-ghost use Rattle.kfs_image.specs.Codec.RawImages.{raw_of};
 
+use crate::fsck::refused::is_right;
 use NodeLine::{Directory, Empty};
-use kfs_image::{Image, Kind, RawImage, Shape};
+use kfs_image::{Image, Kind, Shape};
 use kfs_judge::AccessFault::{
     IsDirectory, NoRead, NoSearch, NoSuchNode, NotDirectory, UnknownClient,
 };
 use kfs_judge::{Access, AccessFault, View};
 use kfs_lease::Leases;
 use kfs_mode::Client;
-use kfs_shape::check_shape;
 use kfs_test_support::images::small::{NodeLine, SmallImage, image};
 use std::alloc::{Allocator, Global};
 use std::process::Abort;
@@ -108,16 +106,6 @@ static IN_ORDER: [(Access, u32, u32, Answer); 15] = [
     (Access::ListNames, 4_294_967_295, 1, Err(UnknownClient)),
     (Access::ReadBytes, 0, 5, Err(UnknownClient)),
 ];
-
-/// Whether the ten rules hold.
-fn is_right<A: Allocator + Copy>(alloc: A, raw: &RawImage<A>) -> bool
-    ensures { IsTrue result → IsWellFormed (raw_of raw.now) }
-{
-    match check_shape(alloc, raw) {
-        Ok(()) => true,
-        Err(_fault) => false,
-    }
-}
 
 /// The nodes and names of an image in which both nodes have these bits.
 fn shape_with<A: Allocator + Copy>(alloc: A, bits: Bits) -> Option<Arc<Shape<A>, A>> {

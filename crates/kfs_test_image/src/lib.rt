@@ -1,17 +1,22 @@
-//! Tests of edits of an image: a tier that is full, each allocation failing in turn, and the memory that is
-//! kept of blocks that are written over. The expected values come from
-//! docs/DEFINITIONS.md and docs/DECISIONS.md, never from the program's own output. The scripts of
-//! `kfs_rows` show what a landing does to blocks.
+//! Tests of what is below the desk: logs, plans and images as bytes, permission bits, the check of raw images, and edits of an
+//! image. The expected values come from docs/FORMATS.md, docs/DEFINITIONS.md, docs/DECISIONS.md and the examples of
+//! `kfs_model`, never from the program's own output. The scripts of `kfs_rows` show what a landing does to blocks.
+//! `fsck` has the checker that lets images in, and images made of raw ones.
 //!
-//! It stands on `kfs_image`, `kfs_plan` and `kfs_test_support`. Begin with `edits.rt`.
+//! It stands on `kfs_entry`, `kfs_mode`, `kfs_image`, `kfs_shape`, `kfs_fsck`, `kfs_plan` and `kfs_test_support`. Begin with
+//! `codec.rt`, and of edits with `edits.rt`.
 //!
 //! A test is proved too, and would have to carry the clauses of each call that it makes. So each call
-//! is in a small function without clauses, and whether an edit can be made is found out as the test
-//! runs (`fits`).
+//! is in a small function without clauses, which a test then makes for each row of a table. Whether an edit can be made is
+//! found out as the test runs (`fits`).
 #![tactic(auto)]
 
 #[cfg(test)]
 mod access;
+#[cfg(test)]
+mod chains;
+#[cfg(test)]
+mod codec;
 #[cfg(test)]
 mod edits;
 #[cfg(test)]
@@ -21,8 +26,16 @@ mod filled;
 #[cfg(test)]
 mod fits;
 #[cfg(test)]
+mod fsck;
+#[cfg(test)]
+mod image_bytes;
+#[cfg(test)]
 mod landed;
 #[cfg(test)]
+mod modes;
+#[cfg(test)]
 mod refused;
+#[cfg(test)]
+mod rules;
 #[cfg(test)]
 mod spares;

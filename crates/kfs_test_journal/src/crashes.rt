@@ -78,9 +78,10 @@ fn each_moment_leaves_what_was_or_what_is_put(rt: HostRuntime) {
     assert!(&rt; openings > 3_000, "{openings} openings");
 }
 
-/// That a group takes two writes and two syncs, a new state four of each, and a part of a draft one, is no clause.
+/// That a group takes two writes and two syncs, a new state a cut, five writes and four syncs, and a part of a draft one of
+/// each, is no clause.
 #[test]
 fn each_call_makes_few_calls_of_the_disk(rt: HostRuntime) {
     let moment = run_through(rt.alloc()).map(|run| run.0.moment());
-    assert!(&rt; moment == Some(80));
+    assert!(&rt; moment == Some(88));
 }

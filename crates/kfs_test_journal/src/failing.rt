@@ -8,7 +8,7 @@ use std::io;
 use std::process::Abort;
 
 /// How many calls of the disk the run makes.
-const RUN_CALLS: usize = 80;
+const RUN_CALLS: usize = 88;
 
 /// Two files in memory. After so many calls each further one fails, half done.
 #[derive(Drop)]

@@ -33,8 +33,9 @@ pub static STATES: [&[u8]; 18] = [
 ];
 
 /// How many calls of the disk each call of the run makes. A group takes two writes, each with its sync; a new
-/// state also a cut and the beginning of its head. A draft is begun by a cut and two writes, and finished by two writes.
-pub static DISK_CALLS: [usize; 17] = [8, 4, 4, 4, 8, 4, 8, 4, 8, 6, 4, 2, 4, 2, 2, 4, 4];
+/// state also a cut and the beginning of its head, and its length and the gate behind it are written apart. A draft is begun by
+/// a cut and two writes, and finished by two writes.
+pub static DISK_CALLS: [usize; 17] = [10, 4, 4, 4, 10, 4, 10, 4, 10, 6, 4, 2, 4, 2, 2, 4, 4];
 
 // ---- calls of a journal, with the clauses that the next call asks for alone
 

@@ -75,5 +75,5 @@ fn calls_without_an_answer_make_no_call_of_the_disk(rt: HostRuntime) {
 
 #[test]
 fn a_checkpoint_is_made_where_it_is_due(rt: HostRuntime) {
-    assert!(&rt; grown(rt.alloc()) == Some([(false, 0), (true, 8), (false, 0)]));
+    assert!(&rt; grown(rt.alloc()) == Some([(false, 0), (true, 10), (false, 0)]));
 }

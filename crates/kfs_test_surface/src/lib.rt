@@ -4,6 +4,7 @@
 //! It stands on the public crates and `kfs_test_support`. What a server does with them is tested by `serving` of `kfs_test_desk`.
 #![tactic(auto)]
 
-pub mod names;
+#[cfg(test)]
+mod names;
 #[cfg(test)]
 mod words;

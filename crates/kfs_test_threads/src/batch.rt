@@ -12,14 +12,24 @@ use std::thread::Threads;
 /// How a batch ends.
 pub type Ending<A> = Result<BatchEnd<A>, BatchBack<A>>;
 
+/// Appends the creations of the files. Whether there was memory.
+// (apart from the list's owner, so that no way out of the loop drops a list)
+fn push_creates<A: Allocator + Copy>(
+    submissions: &mut Vec<Submission<A>, A>,
+    alloc: A,
+    files: &[File],
+) -> Option<()> {
+    for file in files {
+        let create = submission(alloc, file.log, file.plan)?;
+        submissions.push(create).ok()?;
+    }
+    Some(())
+}
+
 /// The creations of the files.
 pub fn creates<A: Allocator + Copy>(alloc: A, files: &[File]) -> Option<Vec<Submission<A>, A>> {
     let mut submissions = Vec::new(alloc);
-    for file in files {
-        submissions
-            .push(submission(alloc, file.log, file.plan)?)
-            .ok()?;
-    }
+    push_creates(&mut submissions, alloc, files)?;
     Some(submissions)
 }
 

@@ -235,12 +235,17 @@ fn made<R: Wait>(rt: &R, heap: &Refusing<Global>, call: Call, growth: u64) -> Op
     called_with_one_refused(rt, heap, heap, call, growth)
 }
 
+/// The same with a heap of its own.
+fn made_once<R: Wait>(rt: &R, alloc: Global, call: Call, growth: u64) -> Option<bool> {
+    let heap = Refusing::new(alloc, AMPLE);
+    made(rt, &heap, call, growth)
+}
+
 /// How many allocations the call asks for, each refused in turn; or as an error the index of one at which
 /// an answer is wrong.
 fn growths<R: Wait>(rt: &R, alloc: Global, call: Call) -> Result<u64, u64> {
     for growth in 0..MANY {
-        let heap = Refusing::new(alloc, AMPLE);
-        match made(rt, &heap, call, growth) {
+        match made_once(rt, alloc, call, growth) {
             Some(true) => {}
             Some(false) => return Ok(growth),
             None => return Err(growth),

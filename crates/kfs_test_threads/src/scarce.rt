@@ -78,13 +78,14 @@ fn is_settled<A: Allocator + Copy>(end: &BatchEnd<A>) -> bool {
     end.replies.len() == WRITE + 1 && end.desk.docket().len() == rows
 }
 
-/// The submissions that are left.
+/// The submissions that are left; none where memory is lacking. At most one is left here.
 fn submissions_of<A: Allocator + Copy>(
     alloc: A,
     left: Vec<Left<A>, A>,
 ) -> Option<Vec<Submission<A>, A>> {
+    let mut left = left;
     let mut submissions = Vec::new(alloc);
-    for one in left {
+    if let Some(one) = left.pop() {
         submissions.push(one.submission).ok()?;
     }
     Some(submissions)
@@ -212,12 +213,17 @@ fn batch_with_one_refused<R: Threads + Wait + Sync>(
     }
 }
 
+/// The same with a heap of its own.
+fn batch_once<R: Threads + Wait + Sync>(rt: &R, alloc: Global, growth: u64) -> Option<bool> {
+    let heap = Refusing::new(alloc, AMPLE);
+    batch_with_one_refused(rt, &heap, growth)
+}
+
 /// How many allocations the batch asks for, each refused in turn; or as an error the index of one at which
 /// an ending is wrong.
 fn growths<R: Threads + Wait + Sync>(rt: &R, alloc: Global) -> Result<u64, u64> {
     for growth in 0..MANY {
-        let heap = Refusing::new(alloc, AMPLE);
-        match batch_with_one_refused(rt, &heap, growth) {
+        match batch_once(rt, alloc, growth) {
             Some(true) => {}
             Some(false) => return Ok(growth),
             None => return Err(growth),

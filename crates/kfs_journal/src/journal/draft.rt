@@ -5,10 +5,10 @@ ghost use Rattle.kfs_journal.specs.Draft.{HasDraft, IsDrafted, IsWhole, IsWritte
 ghost use Rattle.kfs_journal.specs.Format.{meaning};
 ghost use Rattle.kfs_journal.specs.Journal.{IsSettled, IsOneOf};
 
-use super::{HEAD, Journal, MAX_END, MAX_STATE};
+use super::{Journal, MAX_END, MAX_STATE};
 use crate::disk::{Disk, DiskFailed};
 use crate::fault::JournalFault;
-use crate::steps::{GATE, close_head, write_through};
+use crate::steps::{GATE, HEAD, close_head, write_through};
 use std::alloc::Allocator;
 
 /// The next file while it is written: how many bytes its state has, and where its own bytes end. It takes no memory.
@@ -74,7 +74,8 @@ impl Draft {
         requires settled { IsSettled (D.seen disk.old) (D.may_leave disk.old) journal.now }
         requires draft { IsDrafted (D.seen disk.old) journal.now self.old }
         ensures settled { OnOk result (IsSettled (D.seen disk.new) (D.may_leave disk.new) journal.now) }
-        ensures draft { (body : List ℕ) → HasDraft (D.seen disk.old) journal.now self.old body → OnOk result (HasDraft (D.seen disk.new) journal.now self.new (body ++ bytes.now)) }
+        ensures draft { (body : List ℕ) → HasDraft (D.seen disk.old) journal.now self.old body
+            → OnOk result (HasDraft (D.seen disk.new) journal.now self.new (body ++ bytes.now)) }
         ensures same { OnOk result (meaning (D.seen disk.new) ≡ meaning (D.seen disk.old)) }
         ensures len { self.new.state_len ≡ self.old.state_len }
 
@@ -102,7 +103,8 @@ impl Draft {
         requires settled { IsSettled (D.seen disk.old) (D.may_leave disk.old) journal.old }
         requires whole { IsWritten (D.seen disk.old) journal.old self }
         ensures settled { OnOk result (IsSettled (D.seen disk.new) (D.may_leave disk.new) journal.new) }
-        ensures changed { (state : List ℕ) (groups : List (List ℕ)) → IsWhole (D.seen disk.old) journal.old self state groups → OnOk result (meaning (D.seen disk.new) ≡ Some (state, groups)) }
+        ensures changed { (state : List ℕ) (groups : List (List ℕ)) → IsWhole (D.seen disk.old) journal.old self state groups
+            → OnOk result (meaning (D.seen disk.new) ≡ Some (state, groups)) }
 
         // A crash at any moment leaves what was before it, or the draft's state and its groups.
         ensures any_moment { (state : List ℕ) (groups : List (List ℕ)) → IsWhole (D.seen disk.old) journal.old self state groups

@@ -10,9 +10,10 @@ ghost use Rattle.kfs_judge.specs.Check.Reads.{cell_of, answer_of};
 ghost use Rattle.kfs_judge.specs.Check.Climbs.{ClimbsHold};
 
 use crate::check::climbs::{Climbs, Way};
+use crate::check::nears::Nears;
 use crate::check::record::Reads;
 use crate::check::view::View;
-use kfs_image_nodes::{Answer, Cell, Header, Name, Near};
+use kfs_image_nodes::{Answer, Cell, Header, Name};
 use std::alloc::{AllocError, Allocator};
 
 /// One thing that a judgement may read of a state, for its client.
@@ -40,7 +41,7 @@ pub struct Recorder<'a, A: Allocator> {
     view: &'a View<A>,
     client: u32,
     reads: Reads<A>,
-    near: Near,
+    nears: Nears,
     climbs: Climbs<A>,
     ghost ways: { ClimbsHold reads.entries climbs } by { Prim.hlevel props },
 }
@@ -59,7 +60,7 @@ impl<'a, A: Allocator + Copy> Recorder<'a, A> {
             view,
             client,
             reads,
-            near: view.near(),
+            nears: Nears::at(view.near()),
             climbs: Climbs::new(alloc),
         }
     }
@@ -135,7 +136,8 @@ impl<'a, A: Allocator + Copy> Recorder<'a, A> {
         if self.reads.are_kept() {
             return self.target_kept(key);
         }
-        let number = self.view.target_near(&mut self.near, key);
+        self.nears.turn_to(key.0);
+        let number = self.view.target_near(&mut self.nears.last, key);
         let seen = Read::Look(Cell::Name(key.0, key.1));
         self.reads
             .see(&seen, &ReadAnswer::Look(Answer::Name(number)));
@@ -151,7 +153,8 @@ impl<'a, A: Allocator + Copy> Recorder<'a, A> {
         if let Some(answer) = self.reads.get(&read) {
             return Ok(number_in(answer));
         }
-        let number = self.view.target_near(&mut self.near, key);
+        self.nears.turn_to(key.0);
+        let number = self.view.target_near(&mut self.nears.last, key);
         let answer = ReadAnswer::Look(Answer::Name(number));
         self.reads.add(read, answer)?;
         Ok(number)

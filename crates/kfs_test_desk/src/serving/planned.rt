@@ -1,8 +1,13 @@
 //! What a plan maker calls: right pieces of a log, and the check of a plan.
+ghost use Rattle.std.specs.Prelude.{◌≤◌, length, IfSome, IsOk};
+ghost use Rattle.std.specs.List.{AllByRecursion};
+ghost use Rattle.kfs_model.specs.Limits.{entry_limit};
+ghost use Rattle.kfs_types.specs.Views.{IsSpanned};
+ghost use Rattle.kfs_judge.specs.Walks.{HasOrderedSizes};
 
 use crate::desks::{AMPLE, CREATED, FILE_LEASED, ROOT_LEASED, desk_after};
-use kfs_entry::{Plan, decode_log, decode_plan};
-use kfs_judge::{View, judge_entries};
+use kfs_entry::{Log, Plan, decode_log, decode_plan};
+use kfs_judge::{View, Walk, judge_entries};
 use kfs_plan::{RowFault, check_plan, sweep};
 use kfs_test_support::refusing::Refusing;
 use kfs_test_support::vectors::{CREATE_PLAN, LETTERS_LOG, LETTERS_PLAN};
@@ -12,7 +17,66 @@ use std::alloc::{Allocator, Global};
 /// another log's plan say.
 type Told = (Option<bool>, Result<u64, RowFault>, Result<u64, RowFault>);
 
-/// What is told of the log that writes ten letters, with only the allocation of this index failing from the first of these calls on.
+/// The log that writes ten letters.
+fn letters<A: Allocator>(alloc: A) -> Option<Log<A>>
+    ensures spans { IfSome result (λ log. AllByRecursion IsSpanned log.entries) }
+    ensures count { IfSome result (λ log. length log.entries ≤ entry_limit) }
+{
+    decode_log(alloc, LETTERS_LOG).ok()
+}
+
+/// The walk over the entries of a log; none where its client is unknown or an entry is bad.
+fn walked<A: Allocator + Copy>(alloc: A, view: &View<A>, log: &Log<A>) -> Option<Walk<A>>
+    requires count { length log.now.entries ≤ entry_limit }
+    ensures walked { IfSome result (λ walk. IsOk walk.outcome) }
+    ensures sizes { IfSome result HasOrderedSizes }
+{
+    let is_known = view.client(log.client).is_some();
+    if !is_known {
+        return None;
+    }
+    let walk = judge_entries(alloc, view, log).ok()?;
+    if walk.outcome.is_ok() {
+        Some(walk)
+    } else {
+        None
+    }
+}
+
+/// Whether the pieces are those of the plan; none where memory ran out.
+fn swept<A: Allocator + Copy>(
+    alloc: A,
+    log: &Log<A>,
+    walk: &Walk<A>,
+    plan: &Plan<A>,
+) -> Option<bool>
+    requires walked { IsOk walk.now.outcome }
+    requires sizes { HasOrderedSizes walk.now }
+    requires spans { AllByRecursion IsSpanned log.now.entries }
+    requires count { length log.now.entries ≤ entry_limit }
+{
+    match sweep(alloc, log, walk) {
+        Ok(pieces) => Some(pieces.as_slice() == plan.pieces.as_slice()),
+        Err(_) => None,
+    }
+}
+
+/// What the check of a plan says.
+fn checked<A: Allocator + Copy>(
+    alloc: A,
+    log: &Log<A>,
+    walk: &Walk<A>,
+    plan: &Plan<A>,
+) -> Result<u64, RowFault>
+    requires walked { IsOk walk.now.outcome }
+    requires sizes { HasOrderedSizes walk.now }
+    requires spans { AllByRecursion IsSpanned log.now.entries }
+    requires count { length log.now.entries ≤ entry_limit }
+{
+    check_plan(alloc, log, walk, plan)
+}
+
+/// What is told of the log that writes ten letters, with only the allocation of this index failing once it was walked over.
 fn told<A: Allocator + Copy>(
     alloc: A,
     heap: &Refusing<Global>,
@@ -21,22 +85,13 @@ fn told<A: Allocator + Copy>(
     other: &Plan<A>,
     growth: u64,
 ) -> Option<Told> {
-    let log = decode_log(alloc, LETTERS_LOG).ok()?;
-    let is_known = view.client(log.client).is_some();
-    if !is_known {
-        return None;
-    }
-    let walk = judge_entries(alloc, view, &log).ok()?;
-    if walk.outcome.is_err() {
-        return None;
-    }
+    let log = letters(alloc)?;
+    let walk = walked(alloc, view, &log)?;
     heap.refuse_after(growth);
-    let swept = match sweep(alloc, &log, &walk) {
-        Ok(pieces) => Some(pieces.as_slice() == right.pieces.as_slice()),
-        Err(_) => None,
-    };
-    let checked = check_plan(alloc, &log, &walk, right);
-    Some((swept, checked, check_plan(alloc, &log, &walk, other)))
+    let swept = swept(alloc, &log, &walk, right);
+    let by_right = checked(alloc, &log, &walk, right);
+    let by_other = checked(alloc, &log, &walk, other);
+    Some((swept, by_right, by_other))
 }
 
 /// Whether all is told as with ample memory; or else that memory ran out once, and nothing wrong.

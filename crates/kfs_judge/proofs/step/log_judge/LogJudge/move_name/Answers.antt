@@ -1,8 +1,8 @@
 -- What the second name led to loses it first, and then the node moved has it.
-use Rattle.std.specs.Prelude.{◌≡◌, ℕ, List, [], ◌∷◌, Contains, Option, Some, None, option_and_then, if◌then◌else◌, refl}
+use Rattle.std.specs.Prelude.{◌≡◌, ℕ, List, [], ◌∷◌, Option, Some, None, option_and_then, if◌then◌else◌, refl}
 use Rattle.std.proofs.Common.{ap, sym, subst, ◌∙◌, arith}
 use Rattle.std.proofs.lemmas.Bool.{ne_eqb}
-use Rattle.kfs_model.specs.Sight.{Sight, Cell, HeaderOf, NameIn, kind_shown}
+use Rattle.kfs_model.specs.Sight.{Sight, Cell, HeaderOf, kind_shown}
 use Rattle.kfs_model.specs.SeenAfter.{seen_moved, seen_renamed, seen_unlinked, unlinked}
 use Rattle.kfs_judge.specs.Step.Entered.{headers_renamed, headers_unlinked}
 use Rattle.kfs_judge.specs.Draft.Overlay.{over, with_name_moved}
@@ -54,10 +54,10 @@ returns-clause-among g c =
 
 pub returns-clause-shown : goal.returns-clause-shown
 returns-clause-shown g c state agrees =
-    let d = c.args.key.0 in
-    let m = c.args.key.1 in
-    let e = c.args.new_key.0 in
-    let k = c.args.new_key.1 in
+    let d = c.args.key.now.0 in
+    let m = c.args.key.now.1 in
+    let e = c.args.new_key.now.0 in
+    let k = c.args.new_key.now.1 in
     let s = c.in-Some.moved in
     let to = c.args.to in
     let old = over c.args.self.now.draft state.sight in

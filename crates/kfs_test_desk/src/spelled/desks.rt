@@ -1,7 +1,7 @@
 //! Bytes of states that make no desk: the first thing that is wrong is told.
 
-use crate::encodings::has_one_encoding;
-use crate::outcome::{Kind, Outcome, read_as};
+use crate::spelled::encodings::has_one_encoding;
+use crate::spelled::outcome::{Kind, Outcome, read_as};
 use Outcome::{NoDesk, Same};
 use RestoreFault::{BadClient, BadClients, BadImage, BadLease, BrokenRule};
 use kfs_call_desk::RestoreFault;

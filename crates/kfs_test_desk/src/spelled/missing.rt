@@ -1,8 +1,8 @@
 //! Which field or row is told as missing.
 
-use crate::bytes::{DROP, LEASE, LEASE_AT, MIGRATE, NO_ROWS, STATE, SUBMIT, TICK};
-use crate::encodings::with_byte;
-use crate::outcome::{Kind, Outcome, read_as};
+use crate::spelled::bytes::{DROP, LEASE, LEASE_AT, MIGRATE, NO_ROWS, STATE, SUBMIT, TICK};
+use crate::spelled::encodings::with_byte;
+use crate::spelled::outcome::{Kind, Outcome, read_as};
 use FieldFault::{BadField, Trailing};
 use Kind::{Answer, Call, Desk, Rows};
 use Outcome::{NoDesk, NoFields, NoRows};

@@ -1,7 +1,7 @@
 //! Calls, answers and states have one encoding each. What answers and a state say.
 
-use crate::bytes::{BEFORE_IMAGE, DROP, LEASE, LEASE_AT, MIGRATE, STATE, SUBMIT, TICK};
-use crate::outcome::{Kind, Outcome, is_memory, is_missing, read_as};
+use crate::spelled::bytes::{BEFORE_IMAGE, DROP, LEASE, LEASE_AT, MIGRATE, STATE, SUBMIT, TICK};
+use crate::spelled::outcome::{Kind, Outcome, is_memory, is_missing, read_as};
 use kfs_call::{AnswerRow, FaultRow, FieldFault, LeaseKind, Told, decode_answer, decode_state};
 use kfs_call_desk::RestoreFault;
 use kfs_image::ImageFault;

@@ -21,7 +21,7 @@ const AMPLE: u64 = 1 << 40;
 const MANY: u64 = 2_000;
 
 /// Whether the ten rules hold.
-fn is_right<A: Allocator + Copy>(alloc: A, raw: &RawImage<A>) -> bool
+pub fn is_right<A: Allocator + Copy>(alloc: A, raw: &RawImage<A>) -> bool
     ensures { IsTrue result → IsWellFormed (raw_of raw.now) }
 {
     match check_shape(alloc, raw) {

@@ -1,7 +1,7 @@
 //! Plans that are made, and accepted.
 
-use crate::desks::{Step, are_done, opened};
-use crate::logs::{
+use crate::plans::desks::{Step, are_done, opened};
+use crate::plans::logs::{
     CREATE_AND_UNLINK, LAST_BYTE, NESTED, NO_BYTES, OUT_OF_STICKY, READ_ONLY, REGROUP,
     REMOVE_NESTED, RENAMES, STICKY, interleaved,
 };

@@ -1,9 +1,9 @@
 //! Calls, answers, states and desks with one allocation failing: the answer is that memory ran out, and the same call then
 //! succeeds.
 
-use crate::bytes::NO_ROWS;
-use crate::desks::right_state;
-use crate::outcome::{Kind, Outcome, is_memory, read_as};
+use crate::spelled::bytes::NO_ROWS;
+use crate::spelled::desks::right_state;
+use crate::spelled::outcome::{Kind, Outcome, is_memory, read_as};
 use kfs_call::StateFault;
 use kfs_call_desk::RestoreFault;
 use kfs_test_support::refusing::Refusing;

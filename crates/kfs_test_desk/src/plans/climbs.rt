@@ -1,6 +1,6 @@
 //! Renames of directories below a long chain: what climbs find, and what they read.
 
-use crate::desks::{is_leased, lands, opened};
+use crate::plans::desks::{is_leased, lands, opened};
 use kfs_desk::Desk;
 use kfs_image::Cell;
 use kfs_judge::{EntryFault, Read, Reason, View};

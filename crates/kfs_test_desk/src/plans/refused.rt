@@ -1,7 +1,7 @@
 //! Where no plan is made: no log, another client's log, an entry's fault, and no memory.
 
-use crate::desks::{Step, are_done, client, opened, planned};
-use crate::logs::{NO_NODE, RENAMES};
+use crate::plans::desks::{Step, are_done, client, opened, planned};
+use crate::plans::logs::{NO_NODE, RENAMES};
 use kfs_desk::Desk;
 use kfs_mode::Client;
 use kfs_test_support::refusing::Refusing;

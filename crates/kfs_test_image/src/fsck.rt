@@ -2,5 +2,5 @@
 //! was let in, is in the scripts of `kfs_rows`.
 
 mod many;
-mod refused;
+pub mod refused;
 mod shown;

@@ -1,0 +1,7 @@
+//! The maker of plans: what it makes is what a desk accepts. Begin with `accepted.rt`.
+
+mod accepted;
+mod climbs;
+mod desks;
+mod logs;
+mod refused;
