@@ -1,2 +1,3 @@
 -- Lemmas on what a draft shows.
 pub mod Overlays
+pub mod Shifts

@@ -1,1 +1,3 @@
+pub mod Created
 pub mod Overlay
+pub mod Shifts
