@@ -46,7 +46,15 @@ fn serve_files<T: Threads + Sync, I: Read, O: Write>(
         second,
     } = open_files(rt, asked.folder)?;
     let files = (first.as_slice(), second.as_slice());
-    run_opened(threads, rt.alloc(), disk, files, asked.limit, reader, writer)?;
+    run_opened(
+        threads,
+        rt.alloc(),
+        disk,
+        files,
+        asked.limit,
+        reader,
+        writer,
+    )?;
     Ok(())
 }
 

@@ -50,7 +50,7 @@ head_of f is = record { len_fits = is.len; number_fits = is.number; from_fits = 
 pub same_frame : (f g : Frame) (xs ys : List ℕ) → IsFrame f → IsFrame g → frame_bytes f ++ xs ≡ frame_bytes g ++ ys → (f ≡ g) × (xs ≡ ys)
 same_frame f g xs ys a b e =
     let h = same_head (length f.body) f.number f.from (length g.body) g.number g.from (f.body ++ xs) (g.body ++ ys) (head_of f a) (head_of g b)
-        (sym (append_assoc (head_bytes (length f.body) f.number f.from) f.body xs) ∙ e ∙ append_assoc (head_bytes (length g.body) g.number g.from) g.body ys) in
+    (sym (append_assoc (head_bytes (length f.body) f.number f.from) f.body xs) ∙ e ∙ append_assoc (head_bytes (length g.body) g.number g.from) g.body ys) in
     let body : f.body ≡ g.body = sym (take_at f.body xs (length g.body) h.len_same) ∙ ap (λ (bs : List ℕ). take (length g.body) bs) h.behind ∙ take_at g.body ys (length g.body) refl in
     let rest : xs ≡ ys = sym (drop_at f.body xs (length g.body) h.len_same) ∙ ap (λ (bs : List ℕ). drop (length g.body) bs) h.behind ∙ drop_at g.body ys (length g.body) refl in
     (λ i. record { number = h.number_same i; from = h.from_same i; body = body i }, rest)
@@ -87,6 +87,6 @@ module _ {A : Type 0} where
       absurd (omega (arith, few, long, short))
   pending_partial (InBody head passed body) came few is f more fits e =
       let h = same_head head.len head.number head.from (length f.body) f.number f.from is.part (f.body ++ more) few.0 (head_of f fits)
-          (sym is.parts ∙ e ∙ append_assoc (head_bytes (length f.body) f.number f.from) f.body more) in
+      (sym is.parts ∙ e ∙ append_assoc (head_bytes (length f.body) f.number f.from) f.body more) in
       let long : length is.part ≡ length f.body + length more = ap length h.behind ∙ length-append f.body more in
       absurd (omega (arith, long, is.passes, few.1, h.len_same))

@@ -27,14 +27,14 @@ module _ (decided : List Decided) (answers : List (Result Called CallFault)) (i 
   pub enough : length (call_in one.what) ≤ length rest
   enough =
       let all : length (calls_of (drop i decided)) ≡ length (call_in one.what) + length (calls_of (drop (i + 1) decided)) =
-          ap (λ (ds : List Decided). length (calls_of ds)) here ∙ length-append (call_in one.what) (calls_of (drop (i + 1) decided)) in
+      ap (λ (ds : List Decided). length (calls_of ds)) here ∙ length-append (call_in one.what) (calls_of (drop (i + 1) decided)) in
       omega (arith, so_far.as_many, all)
 
   pub merge_goes_on : (behind : List (Result Called CallFault)) (sent : NumberedReply) → sent.number ≡ one.number → IsReplied one.what rest behind sent.reply
       → length rest ≡ length (call_in one.what) + length behind → IsMergedTo decided answers (i + 1) behind (replies ++ sent ∷ [])
   merge_goes_on behind sent number said left =
       let all : length (calls_of (drop i decided)) ≡ length (call_in one.what) + length (calls_of (drop (i + 1) decided)) =
-          ap (λ (ds : List Decided). length (calls_of ds)) here ∙ length-append (call_in one.what) (calls_of (drop (i + 1) decided)) in record {
+      ap (λ (ds : List Decided). length (calls_of ds)) here ∙ length-append (call_in one.what) (calls_of (drop (i + 1) decided)) in record {
         goes_on = λ more is.
             subst (AreReplies decided answers) (sym (append_assoc replies (sent ∷ []) more))
             (so_far.goes_on (sent ∷ more) (subst (λ (ds : List Decided). AreReplies ds rest (sent ∷ more)) (sym here) (behind, number, said, is)));

@@ -19,7 +19,9 @@ use Rattle.kfs_server.specs.Replies.Views.{numbered_bytes, reply_shown}
 use Rattle.kfs_server.specs.Serving.Group.{AreServed}
 use Rattle.kfs_server.specs.Serving.Machine.{Serves}
 use Rattle.kfs_server.specs.Serving.Standing.{StandForSome}
-use Rattle.kfs_server.specs.Serving.Transcript.{IsAnsweredSome, IsSession, IsTailWritten, ServedAll, ServedSome}
+use Rattle.kfs_server.specs.Serving.Transcript.{IsAnsweredAll, IsAnsweredSome, IsCutReply, IsServed, IsStopped, ServedAll, ServedSome}
+use Rattle.kfs_server.specs.declared.serving.fault.ServeFault.{ServeFault}
+use Rattle.kfs_server.specs.declared.serving.fault.ServeFault.TheVariants as faults
 use Rattle.kfs_server.specs.declared.replies.reply.NumberedReply.{NumberedReply}
 
 -- the bytes of numbered replies are the text of their frames
@@ -67,21 +69,28 @@ text_more desk mid (f ∷ fs) gs (x ∷ xs) ys first =
 -- some of the first frames are some of all
 some_more : (desk : Desk) (fs gs : List Frame) (c : Files) → StandForSome desk fs c → StandForSome desk (fs ++ gs) c
 some_more desk fs gs c some = record {
-  done = some.done; later = some.later ++ gs;
+  done = some.done;
+  later = some.later ++ gs;
   parts = ap (λ (xs : List Frame). xs ++ gs) some.parts ∙ append_assoc some.done some.later gs;
-  replies = some.replies; last = some.last; served = some.served; stand = some.stand;
+  replies = some.replies;
+  last = some.last;
+  served = some.served;
+  stand = some.stand;
 }
 
 -- so are all of the first ones, and some of the others
 some_behind : (desk mid : Desk) (fs gs : List Frame) (xs : List Reply) (c : Files) → Serves desk fs xs mid → StandForSome mid gs c → StandForSome desk (fs ++ gs) c
 some_behind desk mid fs gs xs c first some = record {
-  done = fs ++ some.done; later = some.later;
+  done = fs ++ some.done;
+  later = some.later;
   parts = ap (λ (ys : List Frame). fs ++ ys) some.parts ∙ sym (append_assoc fs some.done some.later);
-  replies = xs ++ some.replies; last = some.last; served = serves_more desk mid some.last fs some.done xs some.replies first some.served; stand = some.stand;
+  replies = xs ++ some.replies;
+  last = some.last;
+  served = serves_more desk mid some.last fs some.done xs some.replies first some.served;
+  stand = some.stand;
 }
 
 module _ {A D : Type 0} (may_leave : D → Files → Type 0) (moment : D → ℕ) (left_since : D → ℕ → Files → Type 0) where
-
   both_moments : (old mid new : Kept A D) (fs gs : List Frame) (xs : List Reply) → Serves old.desk fs xs mid.desk → LeavesOnly moment left_since old.disk mid.disk (StandForSome old.desk fs)
       → LeavesOnly moment left_since mid.disk new.disk (StandForSome mid.desk gs) → LeavesOnly moment left_since old.disk new.disk (StandForSome old.desk (fs ++ gs))
   both_moments old mid new fs gs xs served first second =
@@ -250,10 +259,17 @@ module _ {A D : Type 0} (may_leave : D → Files → Type 0) (moment : D → ℕ
         served = all_then_all old mid new so_far.frames step.frames text more so_far.served served;
       }
 
-  -- or not all of them are
-  pub answers_stop : {B : Type 0} (old mid new : Kept A D) (begun next : Begun B) (input text bytes more : List ℕ) (group : List (Incoming B)) → IsBegun next → (so_far : IsAnsweredTo old mid begun input text)
-      → (step : AreRead (so_far.left ++ bytes) group next) → ServedSome may_leave moment left_since mid new step.frames more → IsAnsweredSome may_leave moment left_since old new (input ++ bytes) (text ++ more)
-  answers_stop old mid new begun next input text bytes more group is so_far step served =
+  -- a read isn't answered whole
+  stopped_so : (fault : ServeFault) (old mid new : Kept A D) (fs gs : List Frame) (rest s t : List ℕ) → ServedAll may_leave moment left_since old mid fs s → IsServed may_leave moment left_since (Err fault) mid new gs t
+      → IsStopped may_leave moment left_since fault old new (fs ++ gs) rest (s ++ t)
+  stopped_so faults.ReadFault old mid new fs gs rest s t first second = absurd second
+  stopped_so faults.WriteFault old mid new fs gs rest s t first second = inl (all_then_some old mid new fs gs s t first second)
+  stopped_so faults.OutOfMemory old mid new fs gs rest s t first second = absurd second
+  stopped_so (faults.Group fault) old mid new fs gs rest s t first second = all_then_some old mid new fs gs s t first second
+
+  pub answers_stop : {B : Type 0} (fault : ServeFault) (old mid new : Kept A D) (begun next : Begun B) (input text bytes more : List ℕ) (group : List (Incoming B)) → IsBegun next → (so_far : IsAnsweredTo old mid begun input text)
+      → (step : AreRead (so_far.left ++ bytes) group next) → IsServed may_leave moment left_since (Err fault) mid new step.frames more → IsAnsweredSome may_leave moment left_since fault old new (input ++ bytes) (text ++ more)
+  answers_stop fault old mid new begun next input text bytes more group is so_far step served =
       record {
         frames = so_far.frames ++ step.frames;
         rest = step.left;
@@ -262,34 +278,38 @@ module _ {A D : Type 0} (may_leave : D → Files → Type 0) (moment : D → ℕ
           each = all_append IsFrame so_far.frames step.frames so_far.each step.each;
           partial = pending_partial next step.left is step.pending;
         };
-        said = text ++ more;
-        tail = [];
-        served = all_then_some old mid new so_far.frames step.frames text more so_far.served served;
-        cut = inl refl;
-        parts = sym (append-nil (text ++ more));
+        stopped = stopped_so fault old mid new so_far.frames step.frames step.left text more so_far.served served;
       }
 
-  -- nothing more is read or written
-  pub answers_break : {B : Type 0} (old now : Kept A D) (begun : Begun B) (input text : List ℕ) → IsBegun begun → IsAnsweredTo old now begun input text → IsAnsweredSome may_leave moment left_since old now input text
-  answers_break old now begun input text is so_far = record {
-    frames = so_far.frames; rest = so_far.left; splits = cut_here old now begun input text is so_far; said = text; tail = [];
-    served = all_are_some old now so_far.frames text so_far.served; cut = inl refl; parts = sym (append-nil text);
-  }
+  -- the input can't be read
+  pub answers_break : {B : Type 0} (old now : Kept A D) (begun : Begun B) (input text : List ℕ) → IsBegun begun → IsAnsweredTo old now begun input text → IsAnsweredSome may_leave moment left_since faults.ReadFault old now input text
+  answers_break old now begun input text is so_far =
+      record { frames = so_far.frames; rest = so_far.left; splits = cut_here old now begun input text is so_far; stopped = so_far.served }
 
-  -- nothing was read, and serving has stopped
-  pub nothing_answered : (kept : Kept A D) → ServedAll may_leave moment left_since kept kept [] [] → IsAnsweredSome may_leave moment left_since kept kept [] []
-  nothing_answered kept served = record {
-    frames = []; rest = []; splits = record { whole = refl; each = tt; partial = nothing_partial }; said = []; tail = []; served = all_are_some kept kept [] [] served; cut = inl refl; parts = refl;
-  }
+  -- memory for reading was refused
+  pub nothing_answered : (kept : Kept A D) → ServedAll may_leave moment left_since kept kept [] [] → IsAnsweredSome may_leave moment left_since faults.OutOfMemory kept kept [] []
+  nothing_answered kept served = record { frames = []; rest = []; splits = record { whole = refl; each = tt; partial = nothing_partial }; stopped = (refl, refl, served) }
 
   -- the input has ended
-  pub answers_end : {B E : Type 0} (result : Result (Unit {0}) E) (old now : Kept A D) (begun : Begun B) (input text tail : List ℕ) → IsBegun begun → (so_far : IsAnsweredTo old now begun input text)
-      → IsTailWritten result so_far.left tail → IsSession may_leave moment left_since result old now input (text ++ tail)
-  answers_end (Ok done) old now begun input text tail is so_far said = record {
-    frames = so_far.frames; rest = so_far.left; splits = cut_here old now begun input text is so_far;
-    said = text; tail = tail; served = so_far.served; cut = said; parts = refl;
+  pub answers_end : {B : Type 0} (old now : Kept A D) (begun : Begun B) (input text tail : List ℕ) → IsBegun begun → (so_far : IsAnsweredTo old now begun input text) → IsCutReply so_far.left tail
+      → IsAnsweredAll may_leave moment left_since old now input (text ++ tail)
+  answers_end old now begun input text tail is so_far said = record {
+    frames = so_far.frames;
+    rest = so_far.left;
+    splits = cut_here old now begun input text is so_far;
+    said = text;
+    tail = tail;
+    served = so_far.served;
+    cut = said;
+    parts = refl;
   }
-  answers_end (Err fault) old now begun input text tail is so_far said = record {
-    frames = so_far.frames; rest = so_far.left; splits = cut_here old now begun input text is so_far; said = text; tail = tail;
-    served = all_are_some old now so_far.frames text so_far.served; cut = inr said; parts = refl;
+
+  -- and what is said then isn't written whole
+  pub answers_cut : {B : Type 0} (old now : Kept A D) (begun : Begun B) (input text tail unsaid : List ℕ) → IsBegun begun → (so_far : IsAnsweredTo old now begun input text) → IsCutReply so_far.left (tail ++ unsaid)
+      → IsAnsweredSome may_leave moment left_since faults.WriteFault old now input (text ++ tail)
+  answers_cut old now begun input text tail unsaid is so_far said = record {
+    frames = so_far.frames;
+    rest = so_far.left;
+    splits = cut_here old now begun input text is so_far;
+    stopped = inr (record { said = text; tail = tail; unsaid = unsaid; served = so_far.served; cut = said; parts = refl });
   }

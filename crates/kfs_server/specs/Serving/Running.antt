@@ -23,7 +23,7 @@ module _ (A : Type 0) {D : Type 0} (seen : D → Files) (may_leave : D → Files
   -- the desk is served to the end of the input, or until serving stops
   abbrev pub IsRun : (first : Kept A D) → Result (Unit {0}) RunFault → (input text : List ℕ) → Type 0
   IsRun first (Ok done) input text = (last : Kept A D) × IsAnsweredAll may_leave moment left_since first last input text
-  IsRun first (Err (Stopped fault)) input text = (last : Kept A D) × IsAnsweredSome may_leave moment left_since first last input text
+  IsRun first (Err (Stopped fault)) input text = (last : Kept A D) × IsAnsweredSome may_leave moment left_since fault first last input text
   IsRun first (Err (NotOpened why)) input text = ⊥
   IsRun first (Err (NotMade why)) input text = ⊥
 

@@ -9,6 +9,8 @@ use Rattle.kfs_server.specs.Frames.Begun.{HasHead}
 use Rattle.kfs_server.specs.Replies.Reply.{Reply, Refused, CutShort, reply_bytes, text_of}
 use Rattle.kfs_server.specs.Serving.Machine.{Serves}
 use Rattle.kfs_server.specs.Serving.Standing.{StandForSome}
+use Rattle.kfs_server.specs.declared.serving.fault.ServeFault.{ServeFault}
+use Rattle.kfs_server.specs.declared.serving.fault.ServeFault.TheVariants.{Group, OutOfMemory, ReadFault, WriteFault}
 
 -- what is said where the input ends with these bytes: nothing of a head that isn't whole; else that the frame is cut
 abbrev pub IsCutReply : (rest tail : List ℕ) → Type 0
@@ -45,10 +47,13 @@ module _ {A D : Type 0} (may_leave : D → Files → Type 0) (moment : D → ℕ
     pub acknowledged : (c : Files) → may_leave new.disk c → StandForSome reached later c
     pub any_moment : LeavesOnly moment left_since old.disk new.disk (StandForSome old.desk frames)
 
-  -- all frames are answered; or the first ones are, and serving has stopped
-  abbrev pub IsServed : {E : Type 0} → Result (Unit {0}) E → (old new : Kept A D) → List Frame → (text : List ℕ) → Type 0
+  -- all frames of a read are answered; or the first ones are, since the output or the files have failed
+  abbrev pub IsServed : Result (Unit {0}) ServeFault → (old new : Kept A D) → List Frame → (text : List ℕ) → Type 0
   IsServed (Ok done) old new frames text = ServedAll old new frames text
-  IsServed (Err fault) old new frames text = ServedSome old new frames text
+  IsServed (Err WriteFault) old new frames text = ServedSome old new frames text
+  IsServed (Err (Group fault)) old new frames text = ServedSome old new frames text
+  IsServed (Err ReadFault) old new frames text = ⊥
+  IsServed (Err OutOfMemory) old new frames text = ⊥
 
   -- the whole input is answered with this text: its frames, and what is said at its end
   pub record IsAnsweredAll (old new : Kept A D) (input text : List ℕ) : Type 0 where
@@ -61,17 +66,33 @@ module _ {A D : Type 0} (may_leave : D → Files → Type 0) (moment : D → ℕ
     pub cut : IsCutReply rest tail
     pub parts : text ≡ said ++ tail
 
-  -- serving has stopped: of the frames that were read the first ones are answered
-  pub record IsAnsweredSome (old new : Kept A D) (input text : List ℕ) : Type 0 where
+  -- all frames are answered, and of what is said at the end a first part is
+  pub record IsCutOff (old new : Kept A D) (frames : List Frame) (rest text : List ℕ) : Type 0 where
+    pub said : List ℕ
+    pub tail : List ℕ
+    pub unsaid : List ℕ
+    pub served : ServedAll old new frames said
+    pub cut : IsCutReply rest (tail ++ unsaid)
+    pub parts : text ≡ said ++ tail
+
+  -- what is answered of the frames that were read, where serving stops for this reason
+  abbrev pub IsStopped : ServeFault → (old new : Kept A D) → List Frame → (rest text : List ℕ) → Type 0
+  -- all, if the input can't be read
+  IsStopped ReadFault old new frames rest text = ServedAll old new frames text
+  -- the first ones, and of the next one's answer a part, if the output can't be written
+  IsStopped WriteFault old new frames rest text = ServedSome old new frames text ⊎ IsCutOff old new frames rest text
+  -- nothing was read, if memory for reading was refused
+  IsStopped OutOfMemory old new frames rest text = (frames ≡ []) × (rest ≡ []) × ServedAll old new frames text
+  -- the first ones, if the files have failed
+  IsStopped (Group fault) old new frames rest text = ServedSome old new frames text
+
+  -- serving has stopped for this reason
+  pub record IsAnsweredSome (fault : ServeFault) (old new : Kept A D) (input text : List ℕ) : Type 0 where
     pub frames : List Frame
     pub rest : List ℕ
     pub splits : Splits input frames rest
-    pub said : List ℕ
-    pub tail : List ℕ
-    pub served : ServedSome old new frames said
-    pub cut : (tail ≡ []) ⊎ ((unsaid : List ℕ) × IsCutReply rest (tail ++ unsaid))
-    pub parts : text ≡ said ++ tail
+    pub stopped : IsStopped fault old new frames rest text
 
-  abbrev pub IsSession : {E : Type 0} → Result (Unit {0}) E → (old new : Kept A D) → (input text : List ℕ) → Type 0
+  abbrev pub IsSession : Result (Unit {0}) ServeFault → (old new : Kept A D) → (input text : List ℕ) → Type 0
   IsSession (Ok done) old new input text = IsAnsweredAll old new input text
-  IsSession (Err fault) old new input text = IsAnsweredSome old new input text
+  IsSession (Err fault) old new input text = IsAnsweredSome fault old new input text

@@ -10,9 +10,9 @@ ghost use Rattle.kfs_server.specs.Frames.Frame.{Frame};
 ghost use Rattle.kfs_server.specs.Serving.Group.{AreServed, call_in, calls_of};
 ghost use Rattle.kfs_server.specs.Serving.Standing.{StandForSome};
 
+use crate::asking::{Decided, Decision, decide_all};
 use crate::frames::Incoming;
 use crate::replies::NumberedReply;
-use crate::asking::{Decided, Decision, decide_all};
 use crate::serving::merging::merge;
 use kfs_call_desk::{CallFault, Called};
 use kfs_journal::Disk;

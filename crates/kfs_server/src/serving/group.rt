@@ -63,7 +63,10 @@ pub fn answer_group<A: Allocator + Copy, B: Allocator + Copy, C: Allocator, D: D
 }
 
 /// Replies to each frame that memory was refused. Conditions: `replies` is empty, and has room for all.
-fn refuse_all<B: Allocator, C: Allocator>(group: &[Incoming<C>], replies: &mut Vec<NumberedReply, B>)
+fn refuse_all<B: Allocator, C: Allocator>(
+    group: &[Incoming<C>],
+    replies: &mut Vec<NumberedReply, B>,
+)
     requires none { replies.old.items ≡ [] }
     requires room { length group.now ≤ vec_capacity replies.old }
     ensures refused { replies.new.items ≡ map refused_for_memory group.now }

@@ -17,7 +17,7 @@ use crate::serving::renewal::renew;
 use crate::serving::room::{CHUNK, Room};
 use kfs_journal::Disk;
 use kfs_kept::Kept;
-use kfs_program_text::{flush, read_some, write_whole};
+use kfs_program_text::{OutputFault, flush, read_some, write_whole};
 use std::alloc::{AllocError, Allocator};
 use std::io::{Read, Write};
 
@@ -88,7 +88,8 @@ where
             continue;
         };
         if count == 0 {
-            return end(&frames, writer);
+            end(&frames, writer)?;
+            return Ok(());
         }
         frames.take(&chunk[..count], &mut room.group);
         answer_read(alloc, kept, room, writer)?;
@@ -156,7 +157,7 @@ where
 fn end<B: Allocator + Copy, O: Write>(
     frames: &FrameReader<B>,
     writer: &mut O,
-) -> Result<(), ServeFault>
+) -> Result<(), OutputFault>
     requires { IsBegun frames.now.begun }
     ensures { (rest : List ℕ) → IsPending frames.now.begun rest → Writes (O.contents writer.old) (O.contents writer.new) (IsTailWritten result rest) }
 {

@@ -58,5 +58,5 @@ returns-clause-served g c = λ frames are.
     let is : map (λ (x : Bor (List ℕ)). x.now) c.deref-2.result.now ≡ calls_of decided = ap (map (λ (x : Bor (List ℕ)). x.now)) c.deref-2.ensures.value ∙ c.in_ok-calls.ensures ∙ ap calls_of c.deref.ensures.value in
     let runs = subst (λ (calls : List (List ℕ)). Runs c.args.kept.now.desk calls c.in_ok-answers.answers.items c.call_some.new.kept.desk) is c.in_ok-answers.ensures.answers in
     let said = subst (λ (ds : List Decided). AreReplies ds c.in_ok-answers.answers.items c.merge.new.replies.items) c.deref-3.ensures.value
-        (subst (λ (xs : List (Result Called CallFault)). AreReplies c.deref-3.result.now xs c.merge.new.replies.items) c.deref-4.ensures.value c.merge.ensures.replies) in
+    (subst (λ (xs : List (Result Called CallFault)). AreReplies c.deref-3.result.now xs c.merge.new.replies.items) c.deref-4.ensures.value c.merge.ensures.replies) in
     serves_all c.args.kept.now.desk c.call_some.new.kept.desk frames decided c.in_ok-answers.answers.items c.merge.new.replies.items (decided_of c.args.group.now frames decided are c.in_ok-decided.ensures) runs said

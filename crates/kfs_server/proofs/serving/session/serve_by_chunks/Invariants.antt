@@ -9,7 +9,7 @@ use Rattle.kfs_server.proofs.serving.session.serve_by_chunks.Given as goal
 abbrev pub invariant-reads : goal.invariant-reads
 invariant-reads g l = record {
   kept : IsKept g.D.Disk.seen g.D.Disk.may_leave l.kept;
-  open : IsTrue l.kept.is_open;
+  is_open : IsTrue l.kept.is_open;
   chunk : length l.chunk ≡ 65536;
   room : IsRoom l.room;
   begun : IsBegun l.frames.begun;

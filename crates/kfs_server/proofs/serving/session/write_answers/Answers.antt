@@ -23,9 +23,11 @@ returns-clause-served g c = λ frames are.
     let group = subst (λ (xs : List (Incoming g.row.B.Denot)). AllZip IsFrameOf xs frames) (sym c.deref.ensures.value) are in
     let wrote = c.in_ok-write_whole.ensures in
     let is : wrote.0 ≡ flat_map numbered_bytes c.answer_group.new.replies.items =
-        wrote.2 ∙ c.deref-3.ensures.value ∙ c.write_replies.ensures.text ∙ ap (λ (bs : List ℕ). bs ++ flat_map numbered_bytes c.deref-2.result.now) c.requires.room.no_text ∙ ap (flat_map numbered_bytes) c.deref-2.ensures.value in
-    (wrote.0, Appends-kept _ _ _ _ wrote.1 c.in_ok-flush.ensures,
-    group_served disk.may_leave disk.moment disk.left_since c.args.kept.now c.answer_group.new.kept frames c.answer_group.new.replies.items wrote.0 (c.in_ok-answer_group.ensures.served frames group) c.in_ok-answer_group.ensures.acknowledged (c.answer_group.ensures.any_moment frames group) is)
+    wrote.2 ∙ c.deref-3.ensures.value ∙ c.write_replies.ensures.text ∙ ap (λ (bs : List ℕ). bs ++ flat_map numbered_bytes c.deref-2.result.now) c.requires.room.no_text ∙ ap (flat_map numbered_bytes) c.deref-2.ensures.value in (
+      wrote.0,
+      Appends-kept _ _ _ _ wrote.1 c.in_ok-flush.ensures,
+      group_served disk.may_leave disk.moment disk.left_since c.args.kept.now c.answer_group.new.kept frames c.answer_group.new.replies.items wrote.0 (c.in_ok-answer_group.ensures.served frames group) c.in_ok-answer_group.ensures.acknowledged (c.answer_group.ensures.any_moment frames group) is,
+    )
 
 pub returns-in_err-flush-clause-served : goal.returns-in_err-flush-clause-served
 returns-in_err-flush-clause-served g c = λ frames are.
@@ -35,9 +37,12 @@ returns-in_err-flush-clause-served g c = λ frames are.
     let new = c.answer_group.new.kept in
     let wrote = c.in_ok-write_whole.ensures in
     let is : wrote.0 ≡ flat_map numbered_bytes c.answer_group.new.replies.items =
-        wrote.2 ∙ c.deref-3.ensures.value ∙ c.write_replies.ensures.text ∙ ap (λ (bs : List ℕ). bs ++ flat_map numbered_bytes c.deref-2.result.now) c.requires.room.no_text ∙ ap (flat_map numbered_bytes) c.deref-2.ensures.value in
-    (wrote.0, Appends-kept _ _ _ _ wrote.1 c.in_err-flush.ensures, rw (p.1, p.2) (all_are_some disk.may_leave disk.moment disk.left_since c.args.kept.now new frames wrote.0
-    (group_served disk.may_leave disk.moment disk.left_since c.args.kept.now new frames c.answer_group.new.replies.items wrote.0 (c.in_ok-answer_group.ensures.served frames group) c.in_ok-answer_group.ensures.acknowledged (c.answer_group.ensures.any_moment frames group) is)))
+    wrote.2 ∙ c.deref-3.ensures.value ∙ c.write_replies.ensures.text ∙ ap (λ (bs : List ℕ). bs ++ flat_map numbered_bytes c.deref-2.result.now) c.requires.room.no_text ∙ ap (flat_map numbered_bytes) c.deref-2.ensures.value in (
+      wrote.0,
+      Appends-kept _ _ _ _ wrote.1 c.in_err-flush.ensures,
+      rw (p.1, p.2) (all_are_some disk.may_leave disk.moment disk.left_since c.args.kept.now new frames wrote.0
+          (group_served disk.may_leave disk.moment disk.left_since c.args.kept.now new frames c.answer_group.new.replies.items wrote.0 (c.in_ok-answer_group.ensures.served frames group) c.in_ok-answer_group.ensures.acknowledged (c.answer_group.ensures.any_moment frames group) is)),
+    )
 
 pub returns-in_err-write_whole-clause-served : goal.returns-in_err-write_whole-clause-served
 returns-in_err-write_whole-clause-served g c = λ frames are.
@@ -47,6 +52,9 @@ returns-in_err-write_whole-clause-served g c = λ frames are.
     let new = c.answer_group.new.kept in
     let wrote = c.in_err-write_whole.ensures in
     let is : wrote.0 ++ wrote.2.0 ≡ flat_map numbered_bytes c.answer_group.new.replies.items =
-        sym wrote.2.1 ∙ c.deref-3.ensures.value ∙ c.write_replies.ensures.text ∙ ap (λ (bs : List ℕ). bs ++ flat_map numbered_bytes c.deref-2.result.now) c.requires.room.no_text ∙ ap (flat_map numbered_bytes) c.deref-2.ensures.value in
-    (wrote.0, wrote.1, rw (p.1, p.2) (partly_said disk.may_leave disk.moment disk.left_since c.args.kept.now new frames wrote.0 wrote.2.0
-    (group_served disk.may_leave disk.moment disk.left_since c.args.kept.now new frames c.answer_group.new.replies.items (wrote.0 ++ wrote.2.0) (c.in_ok-answer_group.ensures.served frames group) c.in_ok-answer_group.ensures.acknowledged (c.answer_group.ensures.any_moment frames group) is)))
+    sym wrote.2.1 ∙ c.deref-3.ensures.value ∙ c.write_replies.ensures.text ∙ ap (λ (bs : List ℕ). bs ++ flat_map numbered_bytes c.deref-2.result.now) c.requires.room.no_text ∙ ap (flat_map numbered_bytes) c.deref-2.ensures.value in (
+      wrote.0,
+      wrote.1,
+      rw (p.1, p.2) (partly_said disk.may_leave disk.moment disk.left_since c.args.kept.now new frames wrote.0 wrote.2.0
+          (group_served disk.may_leave disk.moment disk.left_since c.args.kept.now new frames c.answer_group.new.replies.items (wrote.0 ++ wrote.2.0) (c.in_ok-answer_group.ensures.served frames group) c.in_ok-answer_group.ensures.acknowledged (c.answer_group.ensures.any_moment frames group) is)),
+    )
