@@ -9,6 +9,7 @@ ghost use Rattle.kfs_server.specs.Frames.Begun.{IsFrameOf};
 ghost use Rattle.kfs_server.specs.Frames.Frame.{Frame};
 ghost use Rattle.kfs_server.specs.Serving.Group.{AreServed, call_in, calls_of};
 ghost use Rattle.kfs_server.specs.Serving.Standing.{StandForSome};
+ghost use Rattle.kfs_server.specs.declared.serving.calling.Missed.TheVariants as variants;
 
 use crate::asking::{Decided, Decision, decide_all};
 use crate::frames::Incoming;
@@ -19,15 +20,34 @@ use kfs_journal::Disk;
 use kfs_kept::{CallsFault, Kept};
 use std::alloc::{AllocError, Allocator};
 
+/// Why the calls of a group aren't made and kept.
+#[derive(Clone, Copy, Debug)]
+pub enum Missed {
+    /// Memory was refused before the first call. Nothing has changed.
+    OutOfMemory,
+    /// None of the calls is kept, and the desk is closed.
+    NotKept,
+    /// The disk has failed. The calls are kept, all of them or none.
+    Failed,
+}
+
+impl From<AllocError> for Missed {
+    ghost from_gives = { λ _ missed. missed ≡ variants.OutOfMemory };
+
+    fn from(_error: AllocError) -> Missed {
+        Missed::OutOfMemory
+    }
+}
+
 /// Makes the calls of a group and keeps them, and answers the replies to all of its frames.
 ///
-/// Conditions as for `answer_group`. `Err` as of `Kept::call_all`.
+/// Conditions as for `answer_group`.
 pub fn make_calls<A: Allocator + Copy, B: Allocator + Copy, C: Allocator, D: Disk + Drop>(
     alloc: B,
     kept: &mut Kept<A, D>,
     group: &[Incoming<C>],
     replies: &mut Vec<NumberedReply, B>,
-) -> Result<(), CallsFault>
+) -> Result<(), Missed>
     requires kept { IsKept D.seen D.may_leave kept.old }
     requires open { IsTrue kept.old.is_open }
     requires none { replies.old.items ≡ [] }
@@ -39,11 +59,9 @@ pub fn make_calls<A: Allocator + Copy, B: Allocator + Copy, C: Allocator, D: Dis
     ensures acknowledged { OnOk result ((c : Files) → D.may_leave kept.new.disk c → StandFor c kept.new.desk.state) }
     ensures capacity { vec_capacity replies.new ≡ vec_capacity replies.old }
     ensures any_moment { (frames : List Frame) → AllZip IsFrameOf group.now frames → LeavesOnly D.moment D.left_since kept.old.disk kept.new.disk (StandForSome kept.old.desk frames) }
-    ensures never_closed { IsErrOf result CallsFault.Closed → ⊥ }
-    ensures long_same { IsErrOf result CallsFault.TooLong → (kept.new ≡ kept.old) × (replies.new ≡ replies.old) }
-    ensures memory_same { IsErrOf result CallsFault.OutOfMemory → (kept.new ≡ kept.old) × (replies.new ≡ replies.old) }
-    ensures not_kept { IsErrOf result CallsFault.NotKept → kept.new.disk ≡ kept.old.disk }
-    ensures failed { IsErrOf result CallsFault.Failed → IsTrue (D.has_failed kept.new.disk) }
+    ensures memory_same { IsErrOf result Missed.OutOfMemory → (kept.new ≡ kept.old) × (replies.new ≡ replies.old) }
+    ensures not_kept { IsErrOf result Missed.NotKept → kept.new.disk ≡ kept.old.disk }
+    ensures failed { IsErrOf result Missed.Failed → IsTrue (D.has_failed kept.new.disk) }
 {
     let decided = decide_all(alloc, group)?;
     let calls = calls_in(alloc, &decided)?;
@@ -84,7 +102,7 @@ fn call_some<A: Allocator + Copy, B: Allocator + Copy, D: Disk + Drop>(
     alloc: B,
     kept: &mut Kept<A, D>,
     calls: &[&[u8]],
-) -> Result<Vec<Result<Called, CallFault>, B>, CallsFault>
+) -> Result<Vec<Result<Called, CallFault>, B>, Missed>
     requires kept { IsKept D.seen D.may_leave kept.old }
     requires open { IsTrue kept.old.is_open }
     ensures kept { IsKept D.seen D.may_leave kept.new }
@@ -92,14 +110,20 @@ fn call_some<A: Allocator + Copy, B: Allocator + Copy, D: Disk + Drop>(
     ensures open { OnOk result (IsTrue kept.new.is_open) }
     ensures acknowledged { OnOk result ((c : Files) → D.may_leave kept.new.disk c → StandFor c kept.new.desk.state) }
     ensures any_moment { LeavesOnly D.moment D.left_since kept.old.disk kept.new.disk (StandForBeforeOrAfter kept.old.desk (map (λ c. c.now) calls.now)) }
-    ensures never_closed { IsErrOf result CallsFault.Closed → ⊥ }
-    ensures long_same { IsErrOf result CallsFault.TooLong → kept.new ≡ kept.old }
-    ensures memory_same { IsErrOf result CallsFault.OutOfMemory → kept.new ≡ kept.old }
-    ensures not_kept { IsErrOf result CallsFault.NotKept → kept.new.disk ≡ kept.old.disk }
-    ensures failed { IsErrOf result CallsFault.Failed → IsTrue (D.has_failed kept.new.disk) }
+    ensures memory_same { IsErrOf result Missed.OutOfMemory → kept.new ≡ kept.old }
+    ensures not_kept { IsErrOf result Missed.NotKept → kept.new.disk ≡ kept.old.disk }
+    ensures failed { IsErrOf result Missed.Failed → IsTrue (D.has_failed kept.new.disk) }
 {
     if calls.is_empty() {
         return Ok(Vec::new(alloc));
     }
-    kept.call_all(alloc, calls)
+    match kept.call_all(alloc, calls) {
+        Ok(answers) => Ok(answers),
+        Err(CallsFault::OutOfMemory) => Err(Missed::OutOfMemory),
+        Err(CallsFault::TooLong) => Err(Missed::OutOfMemory),
+        Err(CallsFault::NotKept) => Err(Missed::NotKept),
+        Err(CallsFault::Failed) => Err(Missed::Failed),
+        // The condition says that it is open.
+        Err(CallsFault::Closed) => unreachable!(),
+    }
 }

@@ -11,10 +11,10 @@ ghost use Rattle.kfs_server.specs.Serving.Standing.{StandForSome};
 
 use crate::frames::Incoming;
 use crate::replies::{NumberedReply, Refusal, Reply};
-use crate::serving::calling::make_calls;
+use crate::serving::calling::{Missed, make_calls};
 use crate::serving::fault::GroupFault;
 use kfs_journal::Disk;
-use kfs_kept::{CallsFault, Kept};
+use kfs_kept::Kept;
 use std::alloc::Allocator;
 
 /// Answers a group of frames. Calls are made in the order of the frames, and are kept before this returns.
@@ -47,15 +47,9 @@ pub fn answer_group<A: Allocator + Copy, B: Allocator + Copy, C: Allocator, D: D
 {
     match make_calls(alloc, kept, group, replies) {
         Ok(()) => Ok(()),
-        Err(CallsFault::Failed) => Err(GroupFault::Failed),
-        Err(CallsFault::NotKept) => Err(GroupFault::NotKept),
-        // The desk is open, so this doesn't occur.
-        Err(CallsFault::Closed) => Err(GroupFault::NotKept),
-        Err(CallsFault::OutOfMemory) => {
-            refuse_all(group, replies);
-            Ok(())
-        }
-        Err(CallsFault::TooLong) => {
+        Err(Missed::Failed) => Err(GroupFault::Failed),
+        Err(Missed::NotKept) => Err(GroupFault::NotKept),
+        Err(Missed::OutOfMemory) => {
             refuse_all(group, replies);
             Ok(())
         }

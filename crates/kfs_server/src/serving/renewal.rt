@@ -1,12 +1,12 @@
 //! The journal begun anew, where that is due.
-ghost use Rattle.std.specs.Prelude.{◌≡◌, IsTrue, OnOk};
+ghost use Rattle.std.specs.Prelude.{◌≡◌, IsTrue, OnErr, OnOk};
 ghost use Rattle.kfs_journal.specs.Disk.{LeavesOnly};
 ghost use Rattle.kfs_kept.specs.Keeping.{IsKept};
 ghost use Rattle.kfs_kept.specs.Standing.{StandFor};
 
 use crate::serving::fault::GroupFault;
 use kfs_journal::Disk;
-use kfs_kept::Kept;
+use kfs_kept::{Kept, SaveFault};
 use std::alloc::Allocator;
 
 /// Begins the journal anew where it has grown enough. The desk stays as it is, and what was answered stays kept.
@@ -21,15 +21,15 @@ pub fn renew<A: Allocator + Copy, B: Allocator + Copy, D: Disk + Drop>(
     ensures kept { IsKept D.seen D.may_leave kept.new }
     ensures desk { kept.new.desk ≡ kept.old.desk }
     ensures open { OnOk result (IsTrue kept.new.is_open) }
+    ensures failed { OnErr result (IsTrue (D.has_failed kept.new.disk)) }
 
     // A crash at any moment leaves the desk's state.
     ensures any_moment { LeavesOnly D.moment D.left_since kept.old.disk kept.new.disk (λ c. StandFor c kept.old.desk.state) }
 {
-    // Whether it was due, and whether memory was refused for it, is all one here: only a disk that fails closes the desk.
-    let _made = kept.checkpoint_if_due(alloc);
-    if kept.is_open() {
-        Ok(())
-    } else {
-        Err(GroupFault::Failed)
+    match kept.checkpoint_if_due(alloc) {
+        Ok(_) => Ok(()),
+        Err(SaveFault::Failed) => Err(GroupFault::Failed),
+        // All is as it was.
+        Err(_) => Ok(()),
     }
 }

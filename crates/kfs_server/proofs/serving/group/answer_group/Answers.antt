@@ -1,4 +1,4 @@
-use Rattle.std.proofs.Common.{◌≡◌, Err, length, length-map, ap, ◌∙◌}
+use Rattle.std.proofs.Common.{◌≡◌, Err, length, length-map, ap, ◌∙◌, sym, subst}
 use Rattle.kfs_server.specs.Serving.Group.{refused_for_memory}
 use Rattle.kfs_server.proofs.ServingLemmas.Crashes.{left_stand}
 use Rattle.kfs_server.proofs.ServingLemmas.Runs.{all_refused}
@@ -15,3 +15,21 @@ returns-in-Err-OutOfMemory-clause-acknowledged g c =
     let was = c.requires.kept c.requires.open in
     let kept = c.args.kept.now in
     rw same.0 (left_stand (g.D.Disk.seen kept.disk) (g.D.Disk.may_leave kept.disk) kept.desk.state was.settled.durable was.stand)
+
+pub returns-in-Err-OutOfMemory-clause-as_many : goal.returns-in-Err-OutOfMemory-clause-as_many
+returns-in-Err-OutOfMemory-clause-as_many g c = ap length c.refuse_all.ensures.refused ∙ length-map c.args.group.now refused_for_memory
+
+pub returns-in-Err-OutOfMemory-clause-open : goal.returns-in-Err-OutOfMemory-clause-open
+returns-in-Err-OutOfMemory-clause-open g c =
+    let same = c.in-Err-OutOfMemory.ensures.memory_same (ap Err c.in-Err-OutOfMemory.field-0-is) in
+    rw same.0 c.requires.open
+
+pub refuse_all-requires-clause-none : goal.refuse_all-requires-clause-none
+refuse_all-requires-clause-none g c =
+    let same = c.in-Err-OutOfMemory.ensures.memory_same (ap Err c.in-Err-OutOfMemory.field-0-is) in
+    rw same.1 c.requires.none
+
+pub refuse_all-requires-clause-room : goal.refuse_all-requires-clause-room
+refuse_all-requires-clause-room g c =
+    let same = c.in-Err-OutOfMemory.ensures.memory_same (ap Err c.in-Err-OutOfMemory.field-0-is) in
+    rw same.1 c.requires.room
