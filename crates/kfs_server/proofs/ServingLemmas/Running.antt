@@ -1,7 +1,9 @@
 -- A desk that is served from its files.
 use Rattle.std.proofs.Common.{◌≡◌, ℕ, List, [], Result, Ok, Err, refl}
+use Rattle.kfs_model.specs.Judgement.{State}
 use Rattle.kfs_desk.specs.Machine.{Desk}
 use Rattle.kfs_journal.specs.Disk.{Files, LeavesOnly}
+use Rattle.kfs_kept.specs.Faults.{IsOutside}
 use Rattle.kfs_kept.specs.Standing.{MeanTheSame, StandFor, StandForAtMost}
 use Rattle.kfs_kept.specs.declared.kept.Kept.{Kept}
 use Rattle.kfs_kept.specs.declared.fault.OpenFault.{OpenFault}
@@ -19,8 +21,9 @@ module _ (A : Type 0) {D : Type 0} (seen : D → Files) (may_leave : D → Files
   opened_run disk first (Err (NotOpened why)) input text found opening run = absurd run
   opened_run disk first (Err (NotMade why)) input text found opening run = absurd run
 
-  pub not_opened : (disk back : D) (why : OpenFault) → LeavesOnly moment left_since disk back (MeanTheSame (seen disk)) → IsRunFromFiles A seen may_leave moment left_since disk (Err (NotOpened why)) [] []
-  not_opened disk back why opening = record { untouched = (refl, refl); back = back; opening = opening }
+  pub not_opened : (disk back : D) (why : OpenFault) → ((s : State) → StandFor (seen disk) s → IsOutside why) → LeavesOnly moment left_since disk back (MeanTheSame (seen disk))
+      → IsRunFromFiles A seen may_leave moment left_since disk (Err (NotOpened why)) [] []
+  not_opened disk back why due opening = record { untouched = (refl, refl); due = due; back = back; opening = opening }
 
   -- a journal was made, and its desk was served
   pub made_run : (desk : Desk) (disk : D) (first : Kept A D) (result : Result (Unit {0}) RunFault) (input text : List ℕ) → first.desk ≡ desk

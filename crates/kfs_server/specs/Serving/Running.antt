@@ -1,7 +1,9 @@
 -- A desk that is served from its files, from their opening on.
 use Rattle.std.specs.Prelude.{◌≡◌, ◌⊎◌, ℕ, List, [], Result, Ok, Err}
+use Rattle.kfs_model.specs.Judgement.{State}
 use Rattle.kfs_desk.specs.Machine.{Desk}
 use Rattle.kfs_journal.specs.Disk.{Files, LeavesOnly}
+use Rattle.kfs_kept.specs.Faults.{IsOutside}
 use Rattle.kfs_kept.specs.Standing.{MeanTheSame, StandFor, StandForAtMost}
 use Rattle.kfs_kept.specs.declared.kept.Kept.{Kept}
 use Rattle.kfs_kept.specs.declared.fault.OpenFault.{OpenFault}
@@ -34,16 +36,18 @@ module _ (A : Type 0) {D : Type 0} (seen : D → Files) (may_leave : D → Files
     pub opening : LeavesOnly moment left_since disk first.disk (MeanTheSame (seen disk))
     pub run : IsRun first result input text
 
-  -- or they aren't, and stand for what they did
-  pub record IsNotOpened (disk : D) (input text : List ℕ) : Type 0 where
+  -- or they aren't, and stand for what they did; files that stand for a state are refused for memory, for the docket's
+  -- room or for the disk alone
+  pub record IsNotOpened (disk : D) (why : OpenFault) (input text : List ℕ) : Type 0 where
     pub untouched : IsUntouched input text
+    pub due : (s : State) → StandFor (seen disk) s → IsOutside why
     pub back : D
     pub opening : LeavesOnly moment left_since disk back (MeanTheSame (seen disk))
 
   abbrev pub IsRunFromFiles : D → Result (Unit {0}) RunFault → (input text : List ℕ) → Type 0
   IsRunFromFiles disk (Ok done) input text = IsOpenedAndRun disk (Ok done) input text
   IsRunFromFiles disk (Err (Stopped fault)) input text = IsOpenedAndRun disk (Err (Stopped fault)) input text
-  IsRunFromFiles disk (Err (NotOpened why)) input text = IsNotOpened disk input text
+  IsRunFromFiles disk (Err (NotOpened why)) input text = IsNotOpened disk why input text
   IsRunFromFiles disk (Err (NotMade why)) input text = ⊥
 
   -- a journal is made for the desk, at any moment of which a crash leaves nothing or its state; then it is served

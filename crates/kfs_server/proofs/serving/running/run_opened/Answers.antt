@@ -12,4 +12,4 @@ returns-in-Ok g c =
 pub returns-in-Err : goal.returns-in-Err
 returns-in-Err g c =
     let disk = g.D.Disk in
-    ([], [], Consumes-nil _, Appends-nil _, not_opened g.row.A.Denot disk.seen disk.may_leave disk.moment disk.left_since c.args.disk c.in-Err.back.disk c.in-Err.back.why c.in-Err.ensures.any_moment_err)
+    ([], [], Consumes-nil _, Appends-nil _, not_opened g.row.A.Denot disk.seen disk.may_leave disk.moment disk.left_since c.args.disk c.in-Err.back.disk c.in-Err.back.why c.in-Err.ensures.due c.in-Err.ensures.any_moment_err)

@@ -76,7 +76,7 @@ returns-in_err-answer_read-clause-session g c =
       text ++ wrote.0,
       Consumes-trans _ _ _ _ _ consumed read,
       Appends-trans _ _ _ _ _ appended wrote.1,
-      rw (p.1, p.2) (answers_stop disk.may_leave disk.moment disk.left_since c.in_err-answer_read.fault c.args.kept.now c.reads.kept c.answer_read.new.kept c.reads.frames.begun c.take.new.self.begun input text bytes wrote.0 c.take.new.out.items c.take.ensures.begun so_far step wrote.2),
+      rw (p.1, p.2) (answers_stop disk.may_leave disk.moment disk.left_since c.in_err-answer_read.field-0.0 c.args.kept.now c.reads.kept c.answer_read.new.kept c.reads.frames.begun c.take.new.self.begun input text bytes wrote.0 c.take.new.out.items c.take.ensures.begun so_far step wrote.2),
     )
 
 pub reads-preserved : goal.reads-preserved
