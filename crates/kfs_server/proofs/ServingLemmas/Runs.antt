@@ -1,5 +1,5 @@
 -- Calls that a desk has made one after another are frames that the machine has served.
-use Rattle.std.proofs.Common.{◌≡◌, ◌×◌, inl, inr, ℕ, suc, List, [], ◌∷◌, ◌++◌, length, map, Result, Ok, Err, refl, sym, ap, subst, ◌∙◌, append-nil}
+use Rattle.std.proofs.Common.{◌≡◌, inl, inr, ℕ, suc, List, [], ◌∷◌, ◌++◌, length, map, Result, Ok, Err, refl, sym, ap, subst, ◌∙◌, append-nil}
 use Rattle.std.specs.List.{AllZip}
 use Rattle.kfs_desk.specs.Machine.{Desk}
 use Rattle.kfs_call.specs.Call.{Call, IsCall, CallAnswer, call_bytes}

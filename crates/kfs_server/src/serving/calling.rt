@@ -89,7 +89,7 @@ fn push_call<'a, B: Allocator>(
     calls: &mut Vec<&'a [u8], B>,
     what: Decision<'a>,
 ) -> Result<(), AllocError>
-    ensures { OnOk result (map (λ c. c.now) calls.new.items ≡ map (λ c. c.now) calls.old.items ++ call_in what) }
+    ensures { OnOk result (map (λ c. c.now) calls.new.items ≡ map (λ c. c.now) calls.old.items ++ call_in what.entry) }
 {
     match what {
         Decision::Make(bytes) => Ok(calls.push(bytes)?),
