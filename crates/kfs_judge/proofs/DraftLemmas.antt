@@ -1,3 +1,2 @@
 -- Lemmas on what a draft shows.
 pub mod Overlays
-pub mod Shifts

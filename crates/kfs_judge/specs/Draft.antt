@@ -1,3 +1,1 @@
-pub mod Created
 pub mod Overlay
-pub mod Shifts

@@ -19,15 +19,13 @@ use Rattle.kfs_types.specs.Views.{header_of}
 use Rattle.kfs_types.specs.declared.entry.Header.{Header as CodeHeader}
 use Rattle.kfs_judge.specs.declared.draft.draft.Draft.{Draft}
 use Rattle.kfs_judge.specs.declared.draft.parents.Parents.{Parents}
-use Rattle.kfs_judge.specs.declared.draft.shifts.Shifts.{Shifts}
-use Rattle.kfs_judge.specs.Draft.Shifts.{IsShifted}
 use Rattle.kfs_judge.specs.Draft.Overlay.{over, has_header, KeepsHeaders, shift_of, with_header, with_target, with_more_names, with_parent, PutsAt, ShiftsBy}
 
-pub number_tie : (a b : ℕ) → eq_by_cmp nat_cmp a b ≡ (b == a)
+number_tie : (a b : ℕ) → eq_by_cmp nat_cmp a b ≡ (b == a)
 number_tie a b = unsigned_tied a b ∙ nat_eq_equiv.symm a b
 
 -- a read of what was put, or of what was there
-pub put_read : {X Z : Type 0} (read : Option X → Z) (found there : Option X) (tie test : Bool) (value : X) → found ≡ cond tie (Some value) there → tie ≡ test → read found ≡ (if test then read (Some value) else read there)
+put_read : {X Z : Type 0} (read : Option X → Z) (found there : Option X) (tie test : Bool) (value : X) → found ≡ cond tie (Some value) there → tie ≡ test → read found ≡ (if test then read (Some value) else read there)
 put_read read found there tie test value is same = ap read (is ∙ ap (λ b. cond b (Some value) there) same) ∙ by_test test
   where
     by_test : (b : Bool) → read (cond b (Some value) there) ≡ (if b then read (Some value) else read there)
@@ -61,7 +59,7 @@ with_names draft names = record draft { names = names }
 abbrev pub with_parents : {A : Type 0} → Draft A → Parents A → Draft A
 with_parents draft parents = record draft { parents = parents }
 
-abbrev pub with_shifts : {A : Type 0} → Draft A → Shifts A → Draft A
+abbrev pub with_shifts : {A : Type 0} → Draft A → BTreeMap ℕ ℤ → Draft A
 with_shifts draft shifts = record draft { shifts = shifts }
 
 module _ {A : Type 0} (old : Draft A) where
@@ -113,7 +111,7 @@ module _ {A : Type 0} (old : Draft A) where
       parent_at : (k : ℕ) → (over (with_parents old parents) s).parent k ≡ put_at n parent (over old s).parent k
       parent_at k = put_read (λ p. unwrap_or p (s.parent k)) _ _ _ (k == n) parent (puts k) (number_tie n k)
 
-module _ {A : Type 0} (old : Draft A) (shifts : Shifts A) (d : ℕ) (by : ℤ) (shifted_by : IsShifted old.shifts shifts d by) where
+module _ {A : Type 0} (old : Draft A) (shifts : BTreeMap ℕ ℤ) (d : ℕ) (by : ℤ) (puts : PutsAt nat_cmp old.shifts shifts d (shift_of old d +ℤ by)) where
   pub count_shown : (s : Sight) → over (with_shifts old shifts) s ≡ with_more_names d by (over old s)
   count_shown s = λ i. record {
     head = (over old s).head;
@@ -122,20 +120,23 @@ module _ {A : Type 0} (old : Draft A) (shifts : Shifts A) (d : ℕ) (by : ℤ) (
     parent = (over old s).parent;
   }
     where
-      at_directory : (e : ℕ) (test : Bool) → (e == d) ≡ test → s.count e +ℤ (if test then shift_of old d +ℤ by else shift_of old e) ≡ (if test then (over old s).count e +ℤ by else (over old s).count e)
+      at_directory : (e : ℕ) (test : Bool) → (e == d) ≡ test → (if test then s.count e +ℤ (shift_of old d +ℤ by) else (over old s).count e) ≡ (if test then (over old s).count e +ℤ by else (over old s).count e)
       at_directory e true same = ap (λ k. s.count e +ℤ (shift_of old k +ℤ by)) (sym (eqb-true e d same)) ∙ counted (s.count e) (shift_of old e) by
       at_directory e false other = refl
 
       count_at : (e : ℕ) → (over (with_shifts old shifts) s).count e ≡ shifted d by (over old s).count e
-      count_at e = ap (λ shift. s.count e +ℤ shift) (shifted_by e) ∙ at_directory e (e == d) refl
+      count_at e = put_read (λ by. s.count e +ℤ unwrap_or by (pos 0)) _ _ _ (e == d) (shift_of old d +ℤ by) (puts e) (number_tie d e) ∙ at_directory e (e == d) refl
 
   -- a change by one moves the bound by one
   pub shifts_by_one : negsuc 0 ≤ℤ by → by ≤ℤ pos 1 → (most : ℕ) → ShiftsBy most old → ShiftsBy (most + 1) (with_shifts old shifts)
   shifts_by_one least greatest most bound = record {
-    above = λ e. subst (λ z. z ≤ℤ pos (most + 1)) (sym (shifted_by e)) (above e (e == d));
-    below = λ e. subst (λ z. neg_ℤ (pos (most + 1)) ≤ℤ z) (sym (shifted_by e)) (below e (e == d));
+    above = λ e. subst (λ z. z ≤ℤ pos (most + 1)) (sym (shift_at e)) (above e (e == d));
+    below = λ e. subst (λ z. neg_ℤ (pos (most + 1)) ≤ℤ z) (sym (shift_at e)) (below e (e == d));
   }
     where
+      shift_at : (e : ℕ) → shift_of (with_shifts old shifts) e ≡ (if e == d then shift_of old d +ℤ by else shift_of old e)
+      shift_at e = put_read (λ z. unwrap_or z (pos 0)) _ _ _ (e == d) (shift_of old d +ℤ by) (puts e) (number_tie d e)
+
       above : (e : ℕ) (test : Bool) → (if test then shift_of old d +ℤ by else shift_of old e) ≤ℤ pos (most + 1)
       above e true = let here = bound.above d in omega (arith, ints, here, greatest)
       above e false = let here = bound.above e in omega (arith, ints, here)

@@ -5,6 +5,7 @@ use Rattle.std.specs.Option.{option_map, is_some}
 use Rattle.std.specs.declared.cmp.Ordering.{Ordering}
 use Rattle.std.specs.Ordering.{nat_cmp, eq_by_cmp}
 use Rattle.std.specs.BTreeMap.{BTreeMap, get}
+use Rattle.std.specs.BTreeSet.{contains}
 use Rattle.std.specs.List.{list_any}
 use Rattle.kfs_model.specs.Header.{Header, Kind}
 use Rattle.kfs_model.specs.Access.{Client}
@@ -16,13 +17,11 @@ use Rattle.kfs_model.specs.Limits.{link_limit}
 use Rattle.kfs_types.specs.Views.{header_of}
 use Rattle.kfs_types.specs.declared.entry.Header.{Header as CodeHeader}
 use Rattle.kfs_judge.specs.declared.draft.draft.Draft.{Draft}
-use Rattle.kfs_judge.specs.Draft.Created.{is_created}
-use Rattle.kfs_judge.specs.Draft.Shifts.{shift_in}
 
 module _ {A : Type 0} where
   -- by how much a directory's count of names has changed
   abbrev pub shift_of : Draft A → ℕ → ℤ
-  shift_of draft d = shift_in draft.shifts d
+  shift_of draft d = unwrap_or (get nat_cmp draft.shifts d) (pos 0)
 
   -- the cells over a state: what the draft has written, and elsewhere what the state has
   abbrev pub over : Draft A → Sight → Sight
@@ -34,7 +33,7 @@ module _ {A : Type 0} where
   }
 
   abbrev pub has_created : Draft A → ℕ → Bool
-  has_created draft n = is_created draft.created n
+  has_created draft n = contains nat_cmp draft.created n
 
   -- whether an entry has written the header of the number
   abbrev pub has_header : Draft A → ℕ → Bool

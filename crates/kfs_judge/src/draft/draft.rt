@@ -1,6 +1,6 @@
 //! What the entries of a log have changed so far, over the state that the log began with. The header of
 //! a node that gains or loses a name.
-ghost use Rattle.std.specs.Prelude.{◌≡◌, ℕ, ◌+◌, ◌==◌, ◌||◌, pos, negsuc, ◌+ℤ◌, ◌≤ℤ◌, FitsSigned, OnOk, IsTrue, false, List, [], Contains, ◌<◌, None, option_and_then};
+ghost use Rattle.std.specs.Prelude.{◌≡◌, ℕ, ◌+◌, ◌==◌, ◌||◌, pos, negsuc, ◌+ℤ◌, ◌≤ℤ◌, FitsSigned, unwrap_or, OnOk, IsTrue, false, List, [], Contains, ◌<◌, None, option_and_then};
 ghost use Rattle.std.specs.Option.{option_map, is_some};
 ghost use Rattle.std.specs.List.{list_any};
 ghost use Rattle.std.specs.Int.{w32};
@@ -9,16 +9,13 @@ ghost use Rattle.kfs_model.specs.Sight.{Sight, Cell, HeaderOf, NameIn};
 ghost use Rattle.std.specs.Ordering.{nat_cmp};
 ghost use Rattle.std.specs.BTreeMap.{get, IsEmpty};
 ghost use Rattle.kfs_model.specs.Tree.{name_order};
-ghost use Rattle.kfs_judge.specs.Draft.Shifts.{shift_in, IsShifted};
 ghost use Rattle.kfs_judge.specs.Draft.Overlay.{has_created, has_header, over, KeepsCreated, KeepsHeaders, KeepsShifts, ShiftsBy, ShiftsFurther, HasRoom, PutsAt, ChangesAreAmong, WritesNameAndHeader, WritesTwoNames, shift_of, with_header, with_target, with_more_names, with_parent, with_directory_in, with_node, with_name, without_name, with_name_moved, IsLinked};
 ghost use Rattle.kfs_model.specs.SeenAfter as seen;
 
-use crate::draft::created::Created;
 use crate::draft::parents::Parents;
-use crate::draft::shifts::Shifts;
 use kfs_types::{Header, Kind, Name};
 use std::alloc::{AllocError, Allocator};
-use std::collections::BTreeMap;
+use std::collections::{BTreeMap, BTreeSet};
 
 /// The cells that the entries so far have written, each with its value now. A cell that none has
 /// written isn't here. Look-ups take no memory.
@@ -31,9 +28,9 @@ pub struct Draft<A: Allocator> {
     /// The parent of each directory that was written.
     parents: Parents<A>,
     /// By how much each directory's count of names has changed.
-    shifts: Shifts<A>,
+    shifts: BTreeMap<u32, i32, A>,
     /// The numbers that the log created.
-    created: Created<A>,
+    created: BTreeSet<u32, A>,
 }
 
 impl<A: Allocator + Copy> Draft<A> {
@@ -48,8 +45,8 @@ impl<A: Allocator + Copy> Draft<A> {
             heads: BTreeMap::new(alloc),
             names: BTreeMap::new(alloc),
             parents: Parents::new(alloc),
-            shifts: Shifts::new(alloc),
-            created: Created::new(alloc),
+            shifts: BTreeMap::new(alloc),
+            created: BTreeSet::new(alloc),
         }
     }
 
@@ -57,13 +54,13 @@ impl<A: Allocator + Copy> Draft<A> {
     /// and the other calls that change the draft, part of the change may be made after `Err`.
     pub fn add_node(
         &mut self,
-        key: &(u32, Name),
+        key: (u32, Name),
         number: u32,
         header: Header,
     ) -> Result<(), AllocError>
         requires { HasRoom 1 self.old }
-        ensures shown { OnOk result ((s : Sight) → over self.new s ≡ with_node key.now.0 key.now.1 number (header_of header) (over self.old s)) }
-        ensures written { OnOk result (WritesNameAndHeader self.old self.new key.now.0 key.now.1 number) }
+        ensures shown { OnOk result ((s : Sight) → over self.new s ≡ with_node key.0 key.1 number (header_of header) (over self.old s)) }
+        ensures written { OnOk result (WritesNameAndHeader self.old self.new key.0 key.1 number) }
         ensures created { OnOk result ((n : ℕ) → has_created self.new n ≡ ((number == n) || has_created self.old n)) }
         ensures kept { OnOk result (KeepsHeaders self.old self.new) }
         ensures shifts { OnOk result (ShiftsFurther 1 self.old self.new) }
@@ -71,20 +68,20 @@ impl<A: Allocator + Copy> Draft<A> {
         let dir = key.0;
         self.add_name(key, number, Some(header))?;
         self.set_directory_in(header.kind, number, dir)?;
-        self.created.add(number)?;
+        self.created.insert(number)?;
         Ok(())
     }
 
     /// One more name of a node, whose header is then this one.
     pub fn add_name(
         &mut self,
-        key: &(u32, Name),
+        key: (u32, Name),
         number: u32,
         header: Option<Header>,
     ) -> Result<(), AllocError>
         requires { HasRoom 1 self.old }
-        ensures shown { OnOk result ((s : Sight) → over self.new s ≡ with_name key.now.0 key.now.1 number (option_map header_of header) (over self.old s)) }
-        ensures written { OnOk result (WritesNameAndHeader self.old self.new key.now.0 key.now.1 number) }
+        ensures shown { OnOk result ((s : Sight) → over self.new s ≡ with_name key.0 key.1 number (option_map header_of header) (over self.old s)) }
+        ensures written { OnOk result (WritesNameAndHeader self.old self.new key.0 key.1 number) }
         ensures created { OnOk result (KeepsCreated self.old self.new) }
         ensures kept { OnOk result (KeepsHeaders self.old self.new) }
         ensures shifts { OnOk result (ShiftsFurther 1 self.old self.new) }
@@ -98,13 +95,13 @@ impl<A: Allocator + Copy> Draft<A> {
     /// One name of a node fewer. Its header is then this one, or the node is gone.
     pub fn remove_name(
         &mut self,
-        key: &(u32, Name),
+        key: (u32, Name),
         number: u32,
         header: Option<Header>,
     ) -> Result<(), AllocError>
         requires { HasRoom 1 self.old }
-        ensures shown { OnOk result ((s : Sight) → over self.new s ≡ without_name key.now.0 key.now.1 number (option_map header_of header) (over self.old s)) }
-        ensures written { OnOk result (WritesNameAndHeader self.old self.new key.now.0 key.now.1 number) }
+        ensures shown { OnOk result ((s : Sight) → over self.new s ≡ without_name key.0 key.1 number (option_map header_of header) (over self.old s)) }
+        ensures written { OnOk result (WritesNameAndHeader self.old self.new key.0 key.1 number) }
         ensures created { OnOk result (KeepsCreated self.old self.new) }
         ensures kept { OnOk result (KeepsHeaders self.old self.new) }
         ensures shifts { OnOk result (ShiftsFurther 1 self.old self.new) }
@@ -119,14 +116,14 @@ impl<A: Allocator + Copy> Draft<A> {
     /// `new_key` leads to the node, and `key` to none.
     pub fn move_name(
         &mut self,
-        key: &(u32, Name),
-        new_key: &(u32, Name),
+        key: (u32, Name),
+        new_key: (u32, Name),
         number: u32,
         kind: Kind,
     ) -> Result<(), AllocError>
         requires { HasRoom 2 self.old }
-        ensures shown { OnOk result ((s : Sight) → over self.new s ≡ with_name_moved key.now.0 key.now.1 new_key.now.0 new_key.now.1 number (kind_of kind) (over self.old s)) }
-        ensures written { OnOk result (WritesTwoNames self.old self.new key.now.0 key.now.1 new_key.now.0 new_key.now.1) }
+        ensures shown { OnOk result ((s : Sight) → over self.new s ≡ with_name_moved key.0 key.1 new_key.0 new_key.1 number (kind_of kind) (over self.old s)) }
+        ensures written { OnOk result (WritesTwoNames self.old self.new key.0 key.1 new_key.0 new_key.1) }
         ensures created { OnOk result (KeepsCreated self.old self.new) }
         ensures kept { OnOk result (KeepsHeaders self.old self.new) }
         ensures shifts { OnOk result (ShiftsFurther 2 self.old self.new) }
@@ -154,14 +151,14 @@ impl<A: Allocator + Copy> Draft<A> {
     }
 
     /// The name leads to this number, or to none.
-    fn set_target(&mut self, key: &(u32, Name), target: Option<u32>) -> Result<(), AllocError>
-        ensures shown { OnOk result ((s : Sight) → over self.new s ≡ with_target key.now.0 key.now.1 target (over self.old s)) }
-        ensures written { OnOk result ((among : List Cell) → ChangesAreAmong self.old among → Contains among (NameIn key.now.0 key.now.1) → ChangesAreAmong self.new among) }
+    fn set_target(&mut self, key: (u32, Name), target: Option<u32>) -> Result<(), AllocError>
+        ensures shown { OnOk result ((s : Sight) → over self.new s ≡ with_target key.0 key.1 target (over self.old s)) }
+        ensures written { OnOk result ((among : List Cell) → ChangesAreAmong self.old among → Contains among (NameIn key.0 key.1) → ChangesAreAmong self.new among) }
         ensures created { OnOk result (KeepsCreated self.old self.new) }
         ensures kept { OnOk result (KeepsHeaders self.old self.new) }
         ensures shifts { OnOk result (KeepsShifts self.old self.new) }
     {
-        put(&mut self.names, *key, target)?;
+        put(&mut self.names, key, target)?;
         Ok(())
     }
 
@@ -222,16 +219,16 @@ fn put<K: Ord + Drop, V: Drop, A: Allocator + Clone>(
 }
 
 /// Adds to the change of the directory's count.
-fn count_names<A: Allocator + Copy>(
-    shifts: &mut Shifts<A>,
+fn count_names<A: Allocator + Clone>(
+    shifts: &mut BTreeMap<u32, i32, A>,
     dir: u32,
     by: i32,
 ) -> Result<(), AllocError>
-    requires { FitsSigned w32 (shift_in shifts.old dir +ℤ by) }
-    ensures { OnOk result (IsShifted shifts.old shifts.new dir by) }
+    requires { FitsSigned w32 (unwrap_or (get nat_cmp shifts.old dir) (pos 0) +ℤ by) }
+    ensures { OnOk result (PutsAt nat_cmp shifts.old shifts.new dir (unwrap_or (get nat_cmp shifts.old dir) (pos 0) +ℤ by)) }
 {
-    let shift = shifts.get(dir);
-    shifts.set(dir, shift + by)
+    let shift = shifts.get(&dir).copied().unwrap_or(0);
+    put(shifts, dir, shift + by)
 }
 
 impl<A: Allocator> Draft<A> {
@@ -268,14 +265,14 @@ impl<A: Allocator> Draft<A> {
     pub fn shift(&self, dir: u32) -> i32
         ensures { result ≡ shift_of self.now dir }
     {
-        self.shifts.get(dir)
+        self.shifts.get(&dir).copied().unwrap_or(0)
     }
 
     /// Whether the log created the number.
     pub fn has_created(&self, number: u32) -> bool
         ensures { result ≡ has_created self.now number }
     {
-        self.created.has(number)
+        self.created.contains(&number)
     }
 
     /// The written headers, by number.

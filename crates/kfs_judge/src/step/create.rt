@@ -47,15 +47,15 @@ impl<'a, A: Allocator + Copy> LogJudge<'a, A> {
     pub fn create(
         &mut self,
         dir: u32,
-        name: &Name,
+        name: Name,
         number: u32,
         kind: Kind,
         mode: u16,
     ) -> Result<Option<Reason>, AllocError>
         requires { HasRoom 3 self.old.draft }
-        ensures { IsEntered self.old self.new (entry.Create dir name.now number (kind_of kind) mode) result }
+        ensures { IsEntered self.old self.new (entry.Create dir name number (kind_of kind) mode) result }
     {
-        let key = (dir, *name);
+        let key = (dir, name);
         let judge = EntryJudge {
             client: self.client,
             draft: &self.draft,
@@ -72,7 +72,7 @@ impl<'a, A: Allocator + Copy> LogJudge<'a, A> {
             links: 1,
             size: 0,
         };
-        self.draft.add_node(&key, number, header)?;
+        self.draft.add_node(key, number, header)?;
         Ok(None)
     }
 }

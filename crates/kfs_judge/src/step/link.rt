@@ -41,16 +41,11 @@ fn link_fault<A: Allocator + Copy>(
 
 impl<A: Allocator + Copy> LogJudge<'_, A> {
     /// Gives the file `number` one more name, `name` in `dir`, or answers the reason why not.
-    pub fn link(
-        &mut self,
-        number: u32,
-        dir: u32,
-        name: &Name,
-    ) -> Result<Option<Reason>, AllocError>
+    pub fn link(&mut self, number: u32, dir: u32, name: Name) -> Result<Option<Reason>, AllocError>
         requires { HasRoom 3 self.old.draft }
-        ensures { IsEntered self.old self.new (entry.Link number dir name.now) result }
+        ensures { IsEntered self.old self.new (entry.Link number dir name) result }
     {
-        let key = (dir, *name);
+        let key = (dir, name);
         let judge = EntryJudge {
             client: self.client,
             draft: &self.draft,
@@ -60,7 +55,7 @@ impl<A: Allocator + Copy> LogJudge<'_, A> {
             return Ok(Some(reason));
         }
         let header = judge.header(&mut self.recorder, number)?;
-        self.draft.add_name(&key, number, linked(header))?;
+        self.draft.add_name(key, number, linked(header))?;
         Ok(None)
     }
 }

@@ -20,14 +20,10 @@ use kfs_mode::Client;
 use kfs_pieces::FileSize;
 use std::alloc::{AllocError, Allocator};
 
-/// An entry's field as its function takes it: of a payload, the number of its bytes, and a name where it
-/// lies.
+/// An entry's field as its function takes it: of a payload, the number of its bytes.
 macro_rules! taken {
     (payload $field:ident) => {
         $field.end.saturating_sub($field.start)
-    };
-    (name $field:ident) => {
-        $field
     };
     ($codec:ident $field:ident) => {
         *$field

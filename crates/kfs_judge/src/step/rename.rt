@@ -140,14 +140,14 @@ impl<A: Allocator + Copy> LogJudge<'_, A> {
     pub fn rename(
         &mut self,
         dir: u32,
-        name: &Name,
+        name: Name,
         new_dir: u32,
-        new_name: &Name,
+        new_name: Name,
     ) -> Result<Option<Reason>, AllocError>
         requires { HasRoom 3 self.old.draft }
-        ensures { IsEntered self.old self.new (entry.Rename dir name.now new_dir new_name.now) result }
+        ensures { IsEntered self.old self.new (entry.Rename dir name new_dir new_name) result }
     {
-        let (key, new_key) = ((dir, *name), (new_dir, *new_name));
+        let (key, new_key) = ((dir, name), (new_dir, new_name));
         let judge = EntryJudge {
             client: self.client,
             draft: &self.draft,
@@ -158,7 +158,7 @@ impl<A: Allocator + Copy> LogJudge<'_, A> {
         }
         let from = judge.target(&mut self.recorder, &key)?;
         let to = judge.target(&mut self.recorder, &new_key)?;
-        self.move_name(&key, &new_key, from, to)?;
+        self.move_name(key, new_key, from, to)?;
         Ok(None)
     }
 
@@ -166,8 +166,8 @@ impl<A: Allocator + Copy> LogJudge<'_, A> {
     /// Nothing changes where both names lead to one node.
     fn move_name(
         &mut self,
-        key: &(u32, Name),
-        new_key: &(u32, Name),
+        key: (u32, Name),
+        new_key: (u32, Name),
         from: Option<u32>,
         to: Option<u32>,
     ) -> Result<(), AllocError>
@@ -175,8 +175,8 @@ impl<A: Allocator + Copy> LogJudge<'_, A> {
         ensures goes { GoesOn self.old.recorder self.new.recorder }
         ensures client { self.new.client.now ≡ self.old.client.now }
         ensures among { OnOk result (ReadsAt self.old.recorder self.new.recorder (headers_renamed from to)) }
-        ensures shown { OnOk result (ShowsRename self.old self.new key.now.0 key.now.1 new_key.now.0 new_key.now.1 from to) }
-        ensures written { OnOk result (WritesRename self.old self.new key.now.0 key.now.1 new_key.now.0 new_key.now.1 from to) }
+        ensures shown { OnOk result (ShowsRename self.old self.new key.0 key.1 new_key.0 new_key.1 from to) }
+        ensures written { OnOk result (WritesRename self.old self.new key.0 key.1 new_key.0 new_key.1 from to) }
         ensures created { OnOk result (KeepsCreated self.old.draft self.new.draft) }
         ensures kept { OnOk result (KeepsHeaders self.old.draft self.new.draft) }
         ensures shifts { OnOk result (ShiftsFurther 3 self.old.draft self.new.draft) }
@@ -192,7 +192,7 @@ impl<A: Allocator + Copy> LogJudge<'_, A> {
             draft: &self.draft,
         };
         let kind = judge.kind(&mut self.recorder, moved)?;
-        self.remove_name(new_key, to)?;
+        self.remove_name((new_key.0, new_key.1), to)?;
         self.draft.move_name(key, new_key, moved, kind)?;
         Ok(())
     }

@@ -68,16 +68,11 @@ pub fn going_fault<A: Allocator + Copy>(
 
 impl<A: Allocator + Copy> LogJudge<'_, A> {
     /// Removes the name `name` from `dir`, or answers the reason why not.
-    pub fn unlink(
-        &mut self,
-        dir: u32,
-        name: &Name,
-        kind: Kind,
-    ) -> Result<Option<Reason>, AllocError>
+    pub fn unlink(&mut self, dir: u32, name: Name, kind: Kind) -> Result<Option<Reason>, AllocError>
         requires { HasRoom 3 self.old.draft }
-        ensures { IsEntered self.old self.new (entry.Unlink dir name.now (kind_of kind)) result }
+        ensures { IsEntered self.old self.new (entry.Unlink dir name (kind_of kind)) result }
     {
-        let key = (dir, *name);
+        let key = (dir, name);
         let judge = EntryJudge {
             client: self.client,
             draft: &self.draft,
@@ -87,22 +82,18 @@ impl<A: Allocator + Copy> LogJudge<'_, A> {
             return Ok(Some(reason));
         }
         let there = judge.target(&mut self.recorder, &key)?;
-        self.remove_name(&key, there)?;
+        self.remove_name(key, there)?;
         Ok(None)
     }
 
     /// Removes the name `key`, which leads to `there`. The node goes with its last name.
-    pub fn remove_name(
-        &mut self,
-        key: &(u32, Name),
-        there: Option<u32>,
-    ) -> Result<(), AllocError>
+    pub fn remove_name(&mut self, key: (u32, Name), there: Option<u32>) -> Result<(), AllocError>
         requires { HasRoom 1 self.old.draft }
         ensures goes { GoesOn self.old.recorder self.new.recorder }
         ensures client { self.new.client.now ≡ self.old.client.now }
         ensures among { OnOk result (ReadsAt self.old.recorder self.new.recorder (headers_unlinked there)) }
-        ensures shown { OnOk result (ShowsUnlink self.old self.new key.now.0 key.now.1 there) }
-        ensures written { OnOk result (WritesUnlink self.old self.new key.now.0 key.now.1 there) }
+        ensures shown { OnOk result (ShowsUnlink self.old self.new key.0 key.1 there) }
+        ensures written { OnOk result (WritesUnlink self.old self.new key.0 key.1 there) }
         ensures created { OnOk result (KeepsCreated self.old.draft self.new.draft) }
         ensures kept { OnOk result (KeepsHeaders self.old.draft self.new.draft) }
         ensures shifts { OnOk result (ShiftsFurther 1 self.old.draft self.new.draft) }

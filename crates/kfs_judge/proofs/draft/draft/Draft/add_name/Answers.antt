@@ -8,7 +8,7 @@ use Rattle.kfs_judge.proofs.draft.draft.Draft.add_name.Goals as goal
 pub returns-clause-shown : goal.returns-clause-shown
 returns-clause-shown g c s =
     let counted = c.in_ok-shift_count.ensures.shown s in
-    let named = c.in_ok-set_target.ensures.shown s ∙ ap (with_target c.args.key.now.0 c.args.key.now.1 (Some c.args.number)) counted in
+    let named = c.in_ok-set_target.ensures.shown s ∙ ap (with_target c.args.key.0 c.args.key.1 (Some c.args.number)) counted in
     c.in_ok-set_header.ensures.shown s ∙ ap (with_header c.args.number (option_map header_of c.args.header)) named
 
 pub returns-clause-written : goal.returns-clause-written

@@ -1,20 +1,16 @@
 -- Each step shows its change, one over the other.
 use Rattle.std.proofs.Common.{ap, ◌+◌, ◌∙◌}
-use Rattle.std.specs.Prelude.{◌||◌, ◌==◌}
 use Rattle.kfs_types.specs.Views.{kind_of}
 use Rattle.kfs_judge.specs.Draft.Overlay.{with_directory_in}
 use Rattle.kfs_judge.proofs.draft.draft.Draft.add_node.Goals as goal
 
 pub returns-clause-shown : goal.returns-clause-shown
-returns-clause-shown g c s = c.in_ok-set_directory_in.ensures.shown s ∙ ap (with_directory_in (kind_of c.args.header.kind) c.args.number c.args.key.now.0) (c.in_ok-add_name.ensures.shown s)
+returns-clause-shown g c s = c.in_ok-set_directory_in.ensures.shown s ∙ ap (with_directory_in (kind_of c.args.header.kind) c.args.number c.args.key.0) (c.in_ok-add_name.ensures.shown s)
 
 pub returns-clause-written : goal.returns-clause-written
 returns-clause-written g c among written name header =
     let placed = c.in_ok-set_directory_in.ensures.written among (c.in_ok-add_name.ensures.written among written name header) in
     record { names = placed.names; heads = placed.heads }
-
-pub returns-clause-created : goal.returns-clause-created
-returns-clause-created g c n = c.in_ok-add.ensures n ∙ ap (λ was. (c.args.number == n) || was) (c.in_ok-set_directory_in.ensures.created n ∙ c.in_ok-add_name.ensures.created n)
 
 pub returns-clause-shifts : goal.returns-clause-shifts
 returns-clause-shifts g c most bound =

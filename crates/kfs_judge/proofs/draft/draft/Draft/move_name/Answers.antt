@@ -13,10 +13,10 @@ shift_count-requires-2-clause-room g c = c.in_ok-shift_count.ensures.shifts 2147
 
 pub returns-clause-shown : goal.returns-clause-shown
 returns-clause-shown g c s =
-    let counted = c.in_ok-shift_count-2.ensures.shown s ∙ ap (with_more_names c.args.new_key.now.0 (pos 1)) (c.in_ok-shift_count.ensures.shown s) in
-    let unnamed = c.in_ok-set_target.ensures.shown s ∙ ap (with_target c.args.key.now.0 c.args.key.now.1 None) counted in
-    let named = c.in_ok-set_target-2.ensures.shown s ∙ ap (with_target c.args.new_key.now.0 c.args.new_key.now.1 (Some c.args.number)) unnamed in
-    c.in_ok-set_directory_in.ensures.shown s ∙ ap (with_directory_in (kind_of c.args.kind) c.args.number c.args.new_key.now.0) named
+    let counted = c.in_ok-shift_count-2.ensures.shown s ∙ ap (with_more_names c.args.new_key.0 (pos 1)) (c.in_ok-shift_count.ensures.shown s) in
+    let unnamed = c.in_ok-set_target.ensures.shown s ∙ ap (with_target c.args.key.0 c.args.key.1 None) counted in
+    let named = c.in_ok-set_target-2.ensures.shown s ∙ ap (with_target c.args.new_key.0 c.args.new_key.1 (Some c.args.number)) unnamed in
+    c.in_ok-set_directory_in.ensures.shown s ∙ ap (with_directory_in (kind_of c.args.kind) c.args.number c.args.new_key.0) named
 
 pub returns-clause-written : goal.returns-clause-written
 returns-clause-written g c among written old_name new_name =

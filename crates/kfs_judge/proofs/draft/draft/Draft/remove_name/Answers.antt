@@ -8,7 +8,7 @@ use Rattle.kfs_judge.proofs.draft.draft.Draft.remove_name.Goals as goal
 pub returns-clause-shown : goal.returns-clause-shown
 returns-clause-shown g c s =
     let counted = c.in_ok-shift_count.ensures.shown s in
-    let unnamed = c.in_ok-set_target.ensures.shown s ∙ ap (with_target c.args.key.now.0 c.args.key.now.1 None) counted in
+    let unnamed = c.in_ok-set_target.ensures.shown s ∙ ap (with_target c.args.key.0 c.args.key.1 None) counted in
     let placed = c.in_ok-set_parent.ensures.shown s ∙ ap (with_parent c.args.number None) unnamed in
     c.in_ok-set_header.ensures.shown s ∙ ap (with_header c.args.number (option_map header_of c.args.header)) placed
 

@@ -1,8 +1,9 @@
 -- The map of shifts shows its change.
 use Rattle.std.proofs.Common.{◌≡◌, ℤ, pos, negsuc, ◌+ℤ◌, ◌≤ℤ◌, to_z, of_z, arith, subst}
+use Rattle.std.specs.Ordering.{nat_cmp}
 use Rattle.std.specs.Int.{w32}
 use Rattle.std.proofs.lemmas.Int.{ints, to_z-of_z}
-use Rattle.kfs_judge.specs.Draft.Shifts.{IsShifted}
+use Rattle.kfs_judge.specs.Draft.Overlay.{shift_of, PutsAt}
 use Rattle.kfs_judge.proofs.DraftLemmas.Overlays.{count_shown, shifts_by_one}
 use Rattle.kfs_judge.proofs.draft.draft.Draft.shift_count.Goals as goal
 
@@ -19,8 +20,8 @@ count_names-requires g c =
 pub returns-clause-shown : goal.returns-clause-shown
 returns-clause-shown g c s =
     let same = read_back c.args.by c.requires.least c.requires.greatest in
-    let shifted = subst (IsShifted c.args.self.now.shifts c.count_names.new.shifts c.args.dir) same c.in_ok-count_names.ensures in
-    count_shown c.args.self.now c.count_names.new.shifts c.args.dir c.args.by shifted s
+    let puts = subst (λ by. PutsAt nat_cmp c.args.self.now.shifts c.count_names.new.shifts c.args.dir (shift_of c.args.self.now c.args.dir +ℤ by)) same c.in_ok-count_names.ensures in
+    count_shown c.args.self.now c.count_names.new.shifts c.args.dir c.args.by puts s
 
 pub returns-clause-written : goal.returns-clause-written
 returns-clause-written g c among written = record { names = written.names; heads = written.heads }
@@ -28,5 +29,5 @@ returns-clause-written g c among written = record { names = written.names; heads
 pub returns-clause-shifts : goal.returns-clause-shifts
 returns-clause-shifts g c =
     let same = read_back c.args.by c.requires.least c.requires.greatest in
-    let shifted = subst (IsShifted c.args.self.now.shifts c.count_names.new.shifts c.args.dir) same c.in_ok-count_names.ensures in
-    shifts_by_one c.args.self.now c.count_names.new.shifts c.args.dir c.args.by shifted c.requires.least c.requires.greatest
+    let puts = subst (λ by. PutsAt nat_cmp c.args.self.now.shifts c.count_names.new.shifts c.args.dir (shift_of c.args.self.now c.args.dir +ℤ by)) same c.in_ok-count_names.ensures in
+    shifts_by_one c.args.self.now c.count_names.new.shifts c.args.dir c.args.by puts c.requires.least c.requires.greatest

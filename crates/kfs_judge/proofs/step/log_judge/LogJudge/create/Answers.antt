@@ -17,13 +17,13 @@ use Rattle.kfs_judge.proofs.StepLemmas.Entered.{is_cut_short, has_fault}
 use Rattle.kfs_judge.proofs.step.log_judge.LogJudge.create.Goals as goal
 
 pub returns-in_err-fault : goal.returns-in_err-fault
-returns-in_err-fault g c = is_cut_short c.args.self.now _ (Create c.args.dir c.args.name.now c.args.number (kind_of c.args.kind) c.args.mode) (c.in_err-fault.ensures (kind_of c.args.kind) c.args.mode).goes refl _ c.from_residual.ensures.0
+returns-in_err-fault g c = is_cut_short c.args.self.now _ (Create c.args.dir c.args.name c.args.number (kind_of c.args.kind) c.args.mode) (c.in_err-fault.ensures (kind_of c.args.kind) c.args.mode).goes refl _ c.from_residual.ensures.0
 
 pub returns-in-Some : goal.returns-in-Some
-returns-in-Some g c = has_fault c.args.self.now _ (Create c.args.dir c.args.name.now c.args.number (kind_of c.args.kind) c.args.mode) (c.in_ok-fault.ensures (kind_of c.args.kind) c.args.mode).goes refl c.in-Some.reason (λ state agrees. (c.in_ok-fault.ensures (kind_of c.args.kind) c.args.mode).known state agrees ∙ ap (option_map reason_of) c.in-Some.is) (c.in_ok-fault.ensures (kind_of c.args.kind) c.args.mode).among
+returns-in-Some g c = has_fault c.args.self.now _ (Create c.args.dir c.args.name c.args.number (kind_of c.args.kind) c.args.mode) (c.in_ok-fault.ensures (kind_of c.args.kind) c.args.mode).goes refl c.in-Some.reason (λ state agrees. (c.in_ok-fault.ensures (kind_of c.args.kind) c.args.mode).known state agrees ∙ ap (option_map reason_of) c.in-Some.is) (c.in_ok-fault.ensures (kind_of c.args.kind) c.args.mode).among
 
 pub returns-in_err-add_node : goal.returns-in_err-add_node
-returns-in_err-add_node g c = is_cut_short c.args.self.now _ (Create c.args.dir c.args.name.now c.args.number (kind_of c.args.kind) c.args.mode) (c.in_ok-fault.ensures (kind_of c.args.kind) c.args.mode).goes refl _ c.from_residual-in_err-add_node.ensures.0
+returns-in_err-add_node g c = is_cut_short c.args.self.now _ (Create c.args.dir c.args.name c.args.number (kind_of c.args.kind) c.args.mode) (c.in_ok-fault.ensures (kind_of c.args.kind) c.args.mode).goes refl _ c.from_residual-in_err-add_node.ensures.0
 
 pub returns : goal.returns
 unfolding seen_after
@@ -35,13 +35,13 @@ returns g c = record {
   change = λ _. record {
     shown = λ state agrees.
         c.in_ok-add_node.ensures.shown state.sight
-        ∙ λ i. with_node c.args.dir c.args.name.now c.args.number (record { kind = kind_of c.args.kind; mode = c.args.mode; uid = c.uid.ensures i; gid = c.gid.ensures i; links = 1; size = 0 }) (over c.args.self.now.draft state.sight);
+        ∙ λ i. with_node c.args.dir c.args.name c.args.number (record { kind = kind_of c.args.kind; mode = c.args.mode; uid = c.uid.ensures i; gid = c.gid.ensures i; links = 1; size = 0 }) (over c.args.self.now.draft state.sight);
     written = λ state agrees among written.
         let p = entry_context_of c.args.self.now.client.now c.args.self.now.draft state in
-        let front = looked p (checks_of p (Create c.args.dir c.args.name.now c.args.number (kind_of c.args.kind) c.args.mode)) in
+        let front = looked p (checks_of p (Create c.args.dir c.args.name c.args.number (kind_of c.args.kind) c.args.mode)) in
         let clean = (c.in_ok-fault.ensures (kind_of c.args.kind) c.args.mode).known state agrees ∙ ap (option_map reason_of) c.in_default.is in
-        let looks = create_looks p c.args.dir c.args.name.now c.args.number (kind_of c.args.kind) c.args.mode clean in
-        c.in_ok-add_node.ensures.written (front ++ among) (written_wider c.args.self.now.draft among (front ++ among) (right_is_part front among) written) (left_is_part front among (NameIn c.args.dir c.args.name.now) looks.0) (left_is_part front among (HeaderOf c.args.number) looks.1);
+        let looks = create_looks p c.args.dir c.args.name c.args.number (kind_of c.args.kind) c.args.mode clean in
+        c.in_ok-add_node.ensures.written (front ++ among) (written_wider c.args.self.now.draft among (front ++ among) (right_is_part front among) written) (left_is_part front among (NameIn c.args.dir c.args.name) looks.0) (left_is_part front among (HeaderOf c.args.number) looks.1);
     created = λ numbers are n. c.in_ok-add_node.ensures.created n ∙ ap (λ was. (c.args.number == n) || was) (are n);
     kept = c.in_ok-add_node.ensures.kept;
     reached = λ n never. cc;

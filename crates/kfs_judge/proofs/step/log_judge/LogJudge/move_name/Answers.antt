@@ -54,10 +54,10 @@ returns-clause-among g c =
 
 pub returns-clause-shown : goal.returns-clause-shown
 returns-clause-shown g c state agrees =
-    let d = c.args.key.now.0 in
-    let m = c.args.key.now.1 in
-    let e = c.args.new_key.now.0 in
-    let k = c.args.new_key.now.1 in
+    let d = c.args.key.0 in
+    let m = c.args.key.1 in
+    let e = c.args.new_key.0 in
+    let k = c.args.new_key.1 in
     let s = c.in-Some.moved in
     let to = c.args.to in
     let old = over c.args.self.now.draft state.sight in

@@ -16,7 +16,7 @@ pub returns-clause-shown : goal.returns-clause-shown
 returns-clause-shown g c state agrees =
     let old = over c.args.self.now.draft state.sight in
     let same = c.unlinked.ensures ∙ ap (λ o. option_and_then unlinked o) (sym (c.in_ok-header.ensures.known state agrees)) in
-    c.in_ok-remove_name.ensures.shown state.sight ∙ (λ i. without_name c.args.key.now.0 c.args.key.now.1 c.in-Some.number (same i) old) ∙ ap (λ there. seen_unlinked c.args.key.now.0 c.args.key.now.1 there old) (sym c.in-Some.is)
+    c.in_ok-remove_name.ensures.shown state.sight ∙ (λ i. without_name c.args.key.0 c.args.key.1 c.in-Some.number (same i) old) ∙ ap (λ there. seen_unlinked c.args.key.0 c.args.key.1 there old) (sym c.in-Some.is)
 
 pub returns-clause-written : goal.returns-clause-written
 returns-clause-written g c among written name headers = c.in_ok-remove_name.ensures.written among written name (headers (HeaderOf c.in-Some.number) (subst (λ there. Contains (headers_unlinked there) (HeaderOf c.in-Some.number)) (sym c.in-Some.is) (first_is_in (HeaderOf c.in-Some.number) [])))

@@ -17,19 +17,19 @@ use Rattle.kfs_judge.proofs.StepLemmas.Entered.{is_cut_short, has_fault}
 use Rattle.kfs_judge.proofs.step.log_judge.LogJudge.rename.Goals as goal
 
 pub returns-in_err-fault : goal.returns-in_err-fault
-returns-in_err-fault g c = is_cut_short c.args.self.now _ (Rename c.args.dir c.args.name.now c.args.new_dir c.args.new_name.now) c.in_err-fault.ensures.goes refl _ c.from_residual.ensures.0
+returns-in_err-fault g c = is_cut_short c.args.self.now _ (Rename c.args.dir c.args.name c.args.new_dir c.args.new_name) c.in_err-fault.ensures.goes refl _ c.from_residual.ensures.0
 
 pub returns-in-Some : goal.returns-in-Some
-returns-in-Some g c = has_fault c.args.self.now _ (Rename c.args.dir c.args.name.now c.args.new_dir c.args.new_name.now) c.in_ok-fault.ensures.goes refl c.in-Some.reason (λ state agrees. c.in_ok-fault.ensures.known state agrees ∙ ap (option_map reason_of) c.in-Some.is) c.in_ok-fault.ensures.among
+returns-in-Some g c = has_fault c.args.self.now _ (Rename c.args.dir c.args.name c.args.new_dir c.args.new_name) c.in_ok-fault.ensures.goes refl c.in-Some.reason (λ state agrees. c.in_ok-fault.ensures.known state agrees ∙ ap (option_map reason_of) c.in-Some.is) c.in_ok-fault.ensures.among
 
 pub returns-in_err-from : goal.returns-in_err-from
-returns-in_err-from g c = is_cut_short c.args.self.now _ (Rename c.args.dir c.args.name.now c.args.new_dir c.args.new_name.now) (goes_then c.in_ok-fault.ensures.goes c.in_err-from.ensures.goes) refl _ c.from_residual-in_err-from.ensures.0
+returns-in_err-from g c = is_cut_short c.args.self.now _ (Rename c.args.dir c.args.name c.args.new_dir c.args.new_name) (goes_then c.in_ok-fault.ensures.goes c.in_err-from.ensures.goes) refl _ c.from_residual-in_err-from.ensures.0
 
 pub returns-in_err-to : goal.returns-in_err-to
-returns-in_err-to g c = is_cut_short c.args.self.now _ (Rename c.args.dir c.args.name.now c.args.new_dir c.args.new_name.now) (goes_then c.in_ok-fault.ensures.goes (goes_then c.in_ok-from.ensures.goes c.in_err-to.ensures.goes)) refl _ c.from_residual-in_err-to.ensures.0
+returns-in_err-to g c = is_cut_short c.args.self.now _ (Rename c.args.dir c.args.name c.args.new_dir c.args.new_name) (goes_then c.in_ok-fault.ensures.goes (goes_then c.in_ok-from.ensures.goes c.in_err-to.ensures.goes)) refl _ c.from_residual-in_err-to.ensures.0
 
 pub returns-in_err-move_name : goal.returns-in_err-move_name
-returns-in_err-move_name g c = is_cut_short c.args.self.now _ (Rename c.args.dir c.args.name.now c.args.new_dir c.args.new_name.now) (goes_then c.in_ok-fault.ensures.goes (goes_then c.in_ok-from.ensures.goes (goes_then c.in_ok-to.ensures.goes c.in_err-move_name.ensures.goes))) c.in_err-move_name.ensures.client _ c.from_residual-in_err-move_name.ensures.0
+returns-in_err-move_name g c = is_cut_short c.args.self.now _ (Rename c.args.dir c.args.name c.args.new_dir c.args.new_name) (goes_then c.in_ok-fault.ensures.goes (goes_then c.in_ok-from.ensures.goes (goes_then c.in_ok-to.ensures.goes c.in_err-move_name.ensures.goes))) c.in_err-move_name.ensures.client _ c.from_residual-in_err-move_name.ensures.0
 
 pub returns : goal.returns
 unfolding seen_after
@@ -39,9 +39,9 @@ returns g c = record {
   known = λ state agrees. c.in_ok-fault.ensures.known state ((goes_then c.in_ok-from.ensures.goes (goes_then c.in_ok-to.ensures.goes c.in_ok-move_name.ensures.goes)).grows state agrees) ∙ ap (option_map reason_of) c.in_default.is;
   among = λ state agrees.
       let d = c.args.dir in
-      let m = c.args.name.now in
+      let m = c.args.name in
       let e = c.args.new_dir in
-      let k = c.args.new_name.now in
+      let k = c.args.new_name in
       let p = entry_context_of c.args.self.now.client.now c.args.self.now.draft state in
       let clean = c.in_ok-fault.ensures.known state ((goes_then c.in_ok-from.ensures.goes (goes_then c.in_ok-to.ensures.goes c.in_ok-move_name.ensures.goes)).grows state agrees) ∙ ap (option_map reason_of) c.in_default.is in
       let at_to = c.in_ok-move_name.ensures.goes.grows state agrees in
@@ -58,12 +58,12 @@ returns g c = record {
         let at_to = c.in_ok-move_name.ensures.goes.grows state agrees in
         let at_from = c.in_ok-to.ensures.goes.grows state at_to in
         c.in_ok-move_name.ensures.shown state agrees
-        ∙ λ i. seen_renamed c.args.dir c.args.name.now c.args.new_dir c.args.new_name.now (sym (c.in_ok-from.ensures.known state at_from) i) (sym (c.in_ok-to.ensures.known state at_to) i) (over c.args.self.now.draft state.sight);
+        ∙ λ i. seen_renamed c.args.dir c.args.name c.args.new_dir c.args.new_name (sym (c.in_ok-from.ensures.known state at_from) i) (sym (c.in_ok-to.ensures.known state at_to) i) (over c.args.self.now.draft state.sight);
     written = λ state agrees among written.
         let d = c.args.dir in
-        let m = c.args.name.now in
+        let m = c.args.name in
         let e = c.args.new_dir in
-        let k = c.args.new_name.now in
+        let k = c.args.new_name in
         let p = entry_context_of c.args.self.now.client.now c.args.self.now.draft state in
         let clean = c.in_ok-fault.ensures.known state ((goes_then c.in_ok-from.ensures.goes (goes_then c.in_ok-to.ensures.goes c.in_ok-move_name.ensures.goes)).grows state agrees) ∙ ap (option_map reason_of) c.in_default.is in
         let at_to = c.in_ok-move_name.ensures.goes.grows state agrees in

@@ -22,16 +22,16 @@ pub remove_name-requires : goal.remove_name-requires
 remove_name-requires g c = shifts_wider c.args.self.now.draft 2147483644 2147483646 (omega arith) c.requires
 
 pub returns-in_err-fault : goal.returns-in_err-fault
-returns-in_err-fault g c = is_cut_short c.args.self.now _ (Unlink c.args.dir c.args.name.now (kind_of c.args.kind)) c.in_err-fault.ensures.goes refl _ c.from_residual.ensures.0
+returns-in_err-fault g c = is_cut_short c.args.self.now _ (Unlink c.args.dir c.args.name (kind_of c.args.kind)) c.in_err-fault.ensures.goes refl _ c.from_residual.ensures.0
 
 pub returns-in-Some : goal.returns-in-Some
-returns-in-Some g c = has_fault c.args.self.now _ (Unlink c.args.dir c.args.name.now (kind_of c.args.kind)) c.in_ok-fault.ensures.goes refl c.in-Some.reason (λ state agrees. c.in_ok-fault.ensures.known state agrees ∙ ap (option_map reason_of) c.in-Some.is) c.in_ok-fault.ensures.among
+returns-in-Some g c = has_fault c.args.self.now _ (Unlink c.args.dir c.args.name (kind_of c.args.kind)) c.in_ok-fault.ensures.goes refl c.in-Some.reason (λ state agrees. c.in_ok-fault.ensures.known state agrees ∙ ap (option_map reason_of) c.in-Some.is) c.in_ok-fault.ensures.among
 
 pub returns-in_err-there : goal.returns-in_err-there
-returns-in_err-there g c = is_cut_short c.args.self.now _ (Unlink c.args.dir c.args.name.now (kind_of c.args.kind)) (goes_then c.in_ok-fault.ensures.goes c.in_err-there.ensures.goes) refl _ c.from_residual-in_err-there.ensures.0
+returns-in_err-there g c = is_cut_short c.args.self.now _ (Unlink c.args.dir c.args.name (kind_of c.args.kind)) (goes_then c.in_ok-fault.ensures.goes c.in_err-there.ensures.goes) refl _ c.from_residual-in_err-there.ensures.0
 
 pub returns-in_err-remove_name : goal.returns-in_err-remove_name
-returns-in_err-remove_name g c = is_cut_short c.args.self.now _ (Unlink c.args.dir c.args.name.now (kind_of c.args.kind)) (goes_then c.in_ok-fault.ensures.goes (goes_then c.in_ok-there.ensures.goes c.in_err-remove_name.ensures.goes)) c.in_err-remove_name.ensures.client _ c.from_residual-in_err-remove_name.ensures.0
+returns-in_err-remove_name g c = is_cut_short c.args.self.now _ (Unlink c.args.dir c.args.name (kind_of c.args.kind)) (goes_then c.in_ok-fault.ensures.goes (goes_then c.in_ok-there.ensures.goes c.in_err-remove_name.ensures.goes)) c.in_err-remove_name.ensures.client _ c.from_residual-in_err-remove_name.ensures.0
 
 pub returns : goal.returns
 unfolding seen_after
@@ -41,7 +41,7 @@ returns g c = record {
   known = λ state agrees. c.in_ok-fault.ensures.known state (c.in_ok-there.ensures.goes.grows state (c.in_ok-remove_name.ensures.goes.grows state agrees)) ∙ ap (option_map reason_of) c.in_default.is;
   among = λ state agrees.
       let d = c.args.dir in
-      let m = c.args.name.now in
+      let m = c.args.name in
       let kind = kind_of c.args.kind in
       let p = entry_context_of c.args.self.now.client.now c.args.self.now.draft state in
       let clean = c.in_ok-fault.ensures.known state (c.in_ok-there.ensures.goes.grows state (c.in_ok-remove_name.ensures.goes.grows state agrees)) ∙ ap (option_map reason_of) c.in_default.is in
@@ -53,10 +53,10 @@ returns g c = record {
   change = λ _. record {
     shown = λ state agrees.
         let named = c.in_ok-remove_name.ensures.goes.grows state agrees in
-        c.in_ok-remove_name.ensures.shown state agrees ∙ ap (λ there. seen_unlinked c.args.dir c.args.name.now there (over c.args.self.now.draft state.sight)) (sym (c.in_ok-there.ensures.known state named));
+        c.in_ok-remove_name.ensures.shown state agrees ∙ ap (λ there. seen_unlinked c.args.dir c.args.name there (over c.args.self.now.draft state.sight)) (sym (c.in_ok-there.ensures.known state named));
     written = λ state agrees among written.
         let d = c.args.dir in
-        let m = c.args.name.now in
+        let m = c.args.name in
         let kind = kind_of c.args.kind in
         let p = entry_context_of c.args.self.now.client.now c.args.self.now.draft state in
         let clean = c.in_ok-fault.ensures.known state (c.in_ok-there.ensures.goes.grows state (c.in_ok-remove_name.ensures.goes.grows state agrees)) ∙ ap (option_map reason_of) c.in_default.is in
