@@ -29,7 +29,7 @@ use Rattle.kfs_server.specs.declared.asking.Decision.TheVariants.{Make, Refuse}
 -- ---- what an answer says
 
 module _ {R : Type 0} (f : R → rows.Told) where
-  told_of_option : Option R → rows.Told
+  abbrev told_of_option : Option R → rows.Told
   told_of_option None = rows.Moved 0
   told_of_option (Some x) = f x
 
@@ -37,7 +37,7 @@ module _ {R : Type 0} (f : R → rows.Told) where
   option_told None = tt
   option_told (Some x) = refl
 
-act_due : Result Done ActFault → rows.Told
+abbrev act_due : Result Done ActFault → rows.Told
 act_due (Ok done) = done_shown done
 act_due (Err fault) = told_of_option refusal_told (call_fault_of fault)
 
@@ -45,7 +45,7 @@ act_right : (answer : Result Done ActFault) → IsActTold answer (act_due answer
 act_right (Ok done) = refl
 act_right (Err fault) = option_told refusal_told (call_fault_of fault)
 
-told_due : Called → rows.Told
+abbrev told_due : Called → rows.Told
 told_due (Submitted reply) = told_of_option reply_told (reply_of reply)
 told_due (Acted reply) = act_due reply.answer
 
@@ -53,7 +53,7 @@ told_right : (called : Called) → IsTold called (told_due called)
 told_right (Submitted reply) = λ once. option_told reply_told (reply_of reply)
 told_right (Acted reply) = act_right reply.answer
 
-row_due : Called → rows.AnswerRow
+abbrev row_due : Called → rows.AnswerRow
 row_due called = record { position = docket_row called; told = told_due called }
 
 row_right : (called : Called) → IsAnswer called (row_due called)
@@ -61,7 +61,7 @@ row_right called = (refl, told_right called)
 
 -- ---- why there is none
 
-refusal_due : CallFault → Refusal
+abbrev refusal_due : CallFault → Refusal
 refusal_due (faults.BadCall (fields.BadField k)) = BadField k
 refusal_due (faults.BadCall fields.Trailing) = Trailing
 refusal_due (faults.BadCall fields.OutOfMemory) = OutOfMemory

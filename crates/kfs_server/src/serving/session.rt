@@ -1,5 +1,5 @@
 //! The input read, and its frames answered.
-ghost use Rattle.std.specs.Prelude.{◌≡◌, ℕ, List, length, IsTrue, IfOk, OnOk};
+ghost use Rattle.std.specs.Prelude.{◌≡◌, ℕ, List, length, IsErrOf, IsTrue, IfOk, OnOk};
 ghost use Rattle.std.specs.Io.KnownBytes.{IsAtEnd};
 ghost use Rattle.std.specs.List.{AllZip};
 ghost use Rattle.kfs_kept.specs.Keeping.{IsKept};
@@ -8,6 +8,8 @@ ghost use Rattle.kfs_server.specs.Frames.Begun.{IsBegun, IsFrameOf, IsPending};
 ghost use Rattle.kfs_server.specs.Frames.Frame.{Frame};
 ghost use Rattle.kfs_server.specs.Serving.Room.{HasRoom, IsAmple, IsRoom};
 ghost use Rattle.kfs_server.specs.Serving.Transcript.{IsServed, IsSession, IsTailWritten};
+ghost use Rattle.kfs_server.specs.declared.serving.fault.GroupFault.TheVariants as groups;
+ghost use Rattle.kfs_server.specs.declared.serving.fault.ServeFault.TheVariants as faults;
 
 use crate::frames::FrameReader;
 use crate::replies::{NumberedReply, Refusal, Reply, spell_reply, write_replies};
@@ -45,6 +47,7 @@ where
     ensures kept { IsKept D.seen D.may_leave kept.new }
     ensures session { Exchanges (I.remaining reader.old) (I.remaining reader.new) (O.contents writer.old) (O.contents writer.new) (IsSession D.may_leave D.moment D.left_since result kept.old kept.new) }
     ensures open { OnOk result (IsTrue kept.new.is_open) }
+    ensures failed { IsErrOf result (faults.Group groups.Failed) → IsTrue (D.has_failed kept.new.disk) }
     ensures end { OnOk result (IsAtEnd (I.remaining reader.new)) }
 {
     let mut chunk = new_chunk(alloc)?;
@@ -80,6 +83,7 @@ where
     ensures kept { IsKept D.seen D.may_leave kept.new }
     ensures session { Exchanges (I.remaining reader.old) (I.remaining reader.new) (O.contents writer.old) (O.contents writer.new) (IsSession D.may_leave D.moment D.left_since result kept.old kept.new) }
     ensures open { OnOk result (IsTrue kept.new.is_open) }
+    ensures failed { IsErrOf result (faults.Group groups.Failed) → IsTrue (D.has_failed kept.new.disk) }
     ensures end { OnOk result (IsAtEnd (I.remaining reader.new)) }
 {
     let mut frames = FrameReader::new(alloc);
@@ -115,6 +119,7 @@ where
     requires room { HasRoom room.old }
     ensures kept { IsKept D.seen D.may_leave kept.new }
     ensures open { OnOk result (IsTrue kept.new.is_open) }
+    ensures failed { IsErrOf result (faults.Group groups.Failed) → IsTrue (D.has_failed kept.new.disk) }
     ensures room { IsAmple room.new }
     ensures served { (frames : List Frame) → AllZip IsFrameOf room.old.group.items frames → Writes (O.contents writer.old) (O.contents writer.new) (IsServed D.may_leave D.moment D.left_since result kept.old kept.new frames) }
 {
@@ -143,6 +148,7 @@ where
     requires room { HasRoom room.old }
     ensures kept { IsKept D.seen D.may_leave kept.new }
     ensures open { OnOk result (IsTrue kept.new.is_open) }
+    ensures failed { IsErrOf result (faults.Group groups.Failed) → IsTrue (D.has_failed kept.new.disk) }
     ensures room { IsAmple room.new }
     ensures served { (frames : List Frame) → AllZip IsFrameOf room.old.group.items frames → Writes (O.contents writer.old) (O.contents writer.new) (IsServed D.may_leave D.moment D.left_since result kept.old kept.new frames) }
 {

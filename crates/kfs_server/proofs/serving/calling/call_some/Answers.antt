@@ -1,6 +1,8 @@
 use Rattle.std.proofs.Common.{◌≡◌, ℕ, List, [], length, map, Bor, inl, refl, sym, subst, rules}
 use Rattle.std.proofs.lemmas.List.{nil_from_length}
 use Rattle.std.specs.Prelude.{Result}
+use Rattle.kfs_call_desk.specs.declared.made.Called.{Called}
+use Rattle.kfs_call_desk.specs.declared.made.CallFault.{CallFault}
 use Rattle.kfs_journal.proofs.Moments.{started}
 use Rattle.kfs_kept.specs.Calls.Making.{Runs}
 use Rattle.kfs_kept.specs.Standing.{StandForBeforeOrAfter}
@@ -11,7 +13,7 @@ pub returns-then-is_empty-clause-answers : goal.returns-then-is_empty-clause-ans
 returns-then-is_empty-clause-answers g c =
     let zero : length c.args.calls.now ≡ 0 = search rules in
     let none : c.args.calls.now ≡ [] = nil_from_length c.args.calls.now zero in
-    rw (none, c.new.ensures) refl
+    rw none (subst (λ (xs : List (Result Called CallFault)). Runs c.args.kept.now.desk [] xs c.args.kept.now.desk) (sym c.new.ensures.items) refl)
 
 pub returns-then-is_empty-clause-acknowledged : goal.returns-then-is_empty-clause-acknowledged
 returns-then-is_empty-clause-acknowledged g c =

@@ -5,7 +5,7 @@ returns-in-Ok g c =
     let (input, text, consumed, appended, session) = c.in-Ok.ensures.session in
     (input, text, consumed, appended, (c.serve.new.kept, session))
 
-pub returns-in-Err : goal.returns-in-Err
-returns-in-Err g c =
+pub returns : goal.returns
+returns g c =
     let (input, text, consumed, appended, session) = c.in-Err.ensures.session in
     (input, text, consumed, appended, (c.serve.new.kept, session))

@@ -7,13 +7,13 @@ pub returns-in_err-write_whole : goal.returns-in_err-write_whole
 returns-in_err-write_whole g c = λ rest pending.
     let p = err_from_is_err_and c.from_residual.result c.from_residual.ensures.1 in
     let wrote = c.in_err-write_whole.ensures in
-    (wrote.0, wrote.1, rw (p.1, p.2) (wrote.2.0, inr (c.in-Some.number, c.in-Some.ensures rest pending, sym wrote.2.1 ∙ c.as_slice.ensures.value ∙ c.spell_reply-bytes.ensures)))
+    (wrote.0, wrote.1, rw p.1 (wrote.2.0, inr (c.in-Some.number, c.in-Some.ensures rest pending, sym wrote.2.1 ∙ c.as_slice.ensures.value ∙ c.spell_reply-bytes.ensures)))
 
 pub returns-in_err-flush : goal.returns-in_err-flush
 returns-in_err-flush g c = λ rest pending.
     let p = err_from_is_err_and c.from_residual-in_err-flush.result c.from_residual-in_err-flush.ensures.1 in
     let wrote = c.in_ok-write_whole.ensures in
-    (wrote.0, Appends-kept _ _ _ _ wrote.1 c.in_err-flush.ensures, rw (p.1, p.2) ([], inr (c.in-Some.number, c.in-Some.ensures rest pending, append-nil wrote.0 ∙ wrote.2 ∙ c.as_slice.ensures.value ∙ c.spell_reply-bytes.ensures)))
+    (wrote.0, Appends-kept _ _ _ _ wrote.1 c.in_err-flush.ensures, rw p.1 ([], inr (c.in-Some.number, c.in-Some.ensures rest pending, append-nil wrote.0 ∙ wrote.2 ∙ c.as_slice.ensures.value ∙ c.spell_reply-bytes.ensures)))
 
 pub returns : goal.returns
 returns g c = λ rest pending.

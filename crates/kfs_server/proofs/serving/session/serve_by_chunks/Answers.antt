@@ -11,7 +11,6 @@ reads-init g c =
     record {
       kept = c.requires.kept;
       is_open = c.requires.open;
-      chunk = c.requires.chunk;
       room = c.requires.room;
       begun = c.new-frames.ensures.begun;
       session = (
@@ -89,7 +88,6 @@ reads-preserved g c =
     let wrote = c.in_ok-answer_read.ensures.served step.frames step.are in record {
       kept = c.answer_read.ensures.kept;
       is_open = c.in_ok-answer_read.ensures.open;
-      chunk = c.reads.invariant.chunk;
       room = c.clear.ensures;
       begun = c.take.ensures.begun;
       session = (

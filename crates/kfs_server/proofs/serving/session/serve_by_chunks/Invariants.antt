@@ -1,4 +1,4 @@
-use Rattle.std.proofs.Common.{◌≡◌, ℕ, List, IsTrue, length}
+use Rattle.std.proofs.Common.{◌≡◌, ℕ, List, IsTrue}
 use Rattle.std.specs.Io.KnownBytes.{Appends, Consumes}
 use Rattle.kfs_kept.specs.Keeping.{IsKept}
 use Rattle.kfs_server.specs.Frames.Begun.{IsBegun}
@@ -10,7 +10,6 @@ abbrev pub invariant-reads : goal.invariant-reads
 invariant-reads g l = record {
   kept : IsKept g.D.Disk.seen g.D.Disk.may_leave l.kept;
   is_open : IsTrue l.kept.is_open;
-  chunk : length l.chunk ≡ 65536;
   room : IsRoom l.room;
   begun : IsBegun l.frames.begun;
   session : (input : List ℕ) × (text : List ℕ) × Consumes (g.I.Read.remaining l.fn.reader) (g.I.Read.remaining l.reader) input × Appends (g.O.Write.contents l.fn.writer) (g.O.Write.contents l.writer) text
