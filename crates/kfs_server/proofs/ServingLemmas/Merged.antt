@@ -58,5 +58,5 @@ replies_long [] [] [] said = refl
 replies_long [] (answer ∷ answers) [] said = refl
 replies_long [] [] (sent ∷ replies) said = absurd said
 replies_long [] (answer ∷ answers) (sent ∷ replies) said = absurd said
-replies_long (one ∷ decided) answers [] said = absurd said
-replies_long (one ∷ decided) answers (sent ∷ replies) said = ap suc (replies_long decided said.0 replies said.3)
+replies_long (first ∷ decided) answers [] said = absurd said
+replies_long (first ∷ decided) answers (sent ∷ replies) said = ap suc (replies_long decided said.0 replies said.3)
