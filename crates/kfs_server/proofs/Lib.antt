@@ -1,1 +1,2 @@
 pub mod FramesLemmas
+pub mod ServingLemmas

@@ -1,7 +1,7 @@
-//! A server of a kept desk: what it reads and writes.
+//! A server of a kept desk: frames in, kept answers out.
 //!
-//! Its folders: `frames` (frames from bytes that come in pieces) and `replies` (replies as bytes). `asking` decides what a
-//! frame asks for. docs/PROTOCOL.md has the layouts. No desk is served here yet.
+//! Its folders: `frames` (what comes in), `replies` (what goes out) and `serving` (frames answered by a kept desk).
+//! docs/PROTOCOL.md has the layouts.
 #![tactic(auto)]
 
 mod asking;
@@ -10,7 +10,11 @@ pub mod examples;
 mod frames;
 mod put;
 mod replies;
+mod serving;
 
 pub use asking::{Decided, Decision, decide_all};
 pub use frames::{BODY_LIMIT, BodyFault, FRONT, FrameReader, Incoming};
 pub use replies::{NumberedReply, REPLY_LIMIT, Refusal, Reply, spell_reply, write_replies};
+pub use serving::{
+    GroupFault, RunFault, ServeFault, answer_group, exit_status, run_new, run_opened, serve,
+};

@@ -55,6 +55,17 @@ same_frame f g xs ys a b e =
     let rest : xs ≡ ys = sym (drop_at f.body xs (length g.body) h.len_same) ∙ ap (λ (bs : List ℕ). drop (length g.body) bs) h.behind ∙ drop_at g.body ys (length g.body) refl in
     (λ i. record { number = h.number_same i; from = h.from_same i; body = body i }, rest)
 
+frame_long : (f : Frame) (more : List ℕ) → length (frame_bytes f ++ more) ≡ (12 + length f.body) + length more
+frame_long f more =
+    length-append (frame_bytes f) more
+    ∙ ap (λ (n : ℕ). n + length more) (length-append (head_bytes (length f.body) f.number f.from) f.body ∙ ap (λ (n : ℕ). n + length f.body) (head_long (length f.body) f.number f.from))
+
+-- no byte is less than a whole frame
+pub nothing_partial : IsPartial []
+nothing_partial f more fits e =
+    let long : 0 ≡ (12 + length f.body) + length more = ap length e ∙ frame_long f more in
+    absurd (omega (arith, long))
+
 front : (f : Frame) (fs : List Frame) (r : List ℕ) → stream_of (f ∷ fs) r ≡ frame_bytes f ++ stream_of fs r
 front f fs r = append_assoc (frame_bytes f) (flat_map frame_bytes fs) r
 
@@ -71,8 +82,7 @@ module _ {A : Type 0} where
   -- what has come of a frame that isn't whole is less than a whole one
   pub pending_partial : (begun : Begun A) (came : List ℕ) → IsBegun begun → IsPending begun came → IsPartial came
   pending_partial (InHead bytes) came few is f more fits e =
-      let long : length came ≡ (12 + length f.body) + length more =
-      ap length e ∙ length-append (frame_bytes f) more ∙ ap (λ (n : ℕ). n + length more) (length-append (head_bytes (length f.body) f.number f.from) f.body ∙ ap (λ (n : ℕ). n + length f.body) (head_long (length f.body) f.number f.from)) in
+      let long : length came ≡ (12 + length f.body) + length more = ap length e ∙ frame_long f more in
       let short : length came ≡ length bytes.items = ap length is in
       absurd (omega (arith, few, long, short))
   pending_partial (InBody head passed body) came few is f more fits e =

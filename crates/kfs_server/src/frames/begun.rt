@@ -138,8 +138,7 @@ fn take_body<A: Allocator>(
     requires fits { IsHead head.len head.number head.from }
     ensures begun { IsBegun result.begun }
     ensures fewer { length result.rest.now < length piece.entry.now }
-    ensures next { (came : List ℕ) → IsInBody head.len head.number head.from passed body came
-        → IsNextFrame (came ++ piece.entry.now) result.rest.now result.whole result.begun }
+    ensures next { (came : List ℕ) → IsInBody head.len head.number head.from passed body came → IsNextFrame (came ++ piece.entry.now) result.rest.now result.whole result.begun }
 {
     let count = piece.len().min(head.len as usize - passed);
     let (part, rest) = piece.split_at(count);
@@ -171,8 +170,7 @@ fn went_on<A: Allocator>(
     requires within { passed ≤ head.len }
     ensures same { result.rest.now ≡ rest.entry.now }
     ensures begun { IsBegun result.begun }
-    ensures next { (part : List ℕ) → length part ≡ passed → IsBody head.len body part
-        → IsNextFrame (head_bytes head.len head.number head.from ++ part ++ rest.entry.now) rest.entry.now result.whole result.begun }
+    ensures next { (part : List ℕ) → length part ≡ passed → IsBody head.len body part → IsNextFrame (head_bytes head.len head.number head.from ++ part ++ rest.entry.now) rest.entry.now result.whole result.begun }
 {
     if passed < head.len as usize {
         let begun = Begun::InBody { head, passed, body };

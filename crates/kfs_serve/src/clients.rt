@@ -1,0 +1,44 @@
+//! The clients of a first start, from the lines of a file.
+ghost use Rattle.std.specs.Prelude.{◌≡◌, Ok, Some, IfOk};
+ghost use Rattle.kfs_program_command.specs.Command.{Row, Setup, asked_by};
+
+use crate::fault::ProgramFault;
+use kfs_mode::Client;
+use kfs_program_command::{Command, OpeningCommand};
+use kfs_program_text::{Refusal, first_line};
+use std::alloc::Global;
+
+/// The clients of a text, one a line, each as the command `client` of `kfs` (docs/FORMATS.md). The last line may lack its end.
+pub fn clients_in(alloc: Global, text: &[u8]) -> Result<Vec<Client>, ProgramFault> {
+    let mut clients = Vec::new(alloc);
+    let mut rest = text;
+    // No text has more lines than bytes.
+    for index in 0..text.len() {
+        if rest.is_empty() {
+            break;
+        }
+        let (line, behind) = next_line(rest);
+        clients.push(client_in(alloc, line, index)?)?;
+        rest = behind;
+    }
+    Ok(clients)
+}
+
+/// The first line without its end, and what stands behind it.
+fn next_line(bytes: &[u8]) -> (&[u8], &[u8]) {
+    match first_line(bytes) {
+        Some((line, behind)) => (line, behind),
+        None => (bytes, &[]),
+    }
+}
+
+/// The client of a line, which has this index.
+fn client_in(alloc: Global, line: &[u8], index: usize) -> Result<Client, ProgramFault>
+    ensures { IfOk result (λ client. asked_by line.now ≡ Some (Setup (Row (Ok client)))) }
+{
+    match Command::read(alloc, line) {
+        Ok(Command::Opening(OpeningCommand::Client(Ok(client)))) => Ok(client),
+        Err(Refusal::OutOfMemory) => Err(ProgramFault::OutOfMemory),
+        _ => Err(ProgramFault::BadLine(index)),
+    }
+}

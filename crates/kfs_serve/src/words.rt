@@ -1,0 +1,63 @@
+//! The words of the command line.
+ghost use Rattle.std.specs.Prelude.{◌≡◌, IfSome, Some};
+ghost use Rattle.kfs_serve.specs.Words.{IsAskedFor, IsSizeOf, number_of};
+
+use kfs_image::TierSizes;
+use kfs_program_text::Words;
+
+/// What a first start takes.
+#[derive(Clone, Copy, Debug)]
+pub struct FirstStart<'a> {
+    /// The file of the clients.
+    pub clients: &'a str,
+    /// How many blocks of 4 KiB each tier has.
+    pub sizes: TierSizes,
+}
+
+/// What the words ask for.
+#[derive(Clone, Copy, Debug)]
+pub struct Asked<'a> {
+    /// The folder of the two files.
+    pub folder: &'a str,
+    /// How many rows the docket may have.
+    pub limit: u32,
+    /// What a first start takes; none where the files are there.
+    pub first: Option<FirstStart<'a>>,
+}
+
+/// What the words ask for: `open FOLDER LIMIT` or `new FOLDER LIMIT CLIENTS A B C`. The first word is the program's name.
+pub fn asked_of<'a>(words: &[&'a str]) -> Option<Asked<'a>>
+    ensures { IfSome result (λ asked. IsAskedFor words.now asked) }
+{
+    match *words {
+        [_, "open", folder, limit] => Some(Asked {
+            folder,
+            limit: number_in(limit)?,
+            first: None,
+        }),
+        [_, "new", folder, limit, clients, first, second, third] => {
+            let limit = number_in(limit)?;
+            let sizes = sizes_in(first, second, third)?;
+            Some(Asked {
+                folder,
+                limit,
+                first: Some(FirstStart { clients, sizes }),
+            })
+        }
+        _ => None,
+    }
+}
+
+/// Tier sizes, in blocks, in three words.
+fn sizes_in(first: &str, second: &str, third: &str) -> Option<TierSizes>
+    ensures { IfSome result (λ sizes. IsSizeOf first.now second.now third.now sizes) }
+{
+    TierSizes::new(number_in(first)?, number_in(second)?, number_in(third)?)
+}
+
+/// The word as a decimal number of 32 bits.
+fn number_in(word: &str) -> Option<u32>
+    ensures { IfSome result (λ number. number_of word.now ≡ Some number) }
+{
+    Words::new(word.as_bytes()).only_number32().ok()
+}

@@ -1,0 +1,6 @@
+pub mod Runs
+pub mod Merged
+pub mod Due
+pub mod Crashes
+pub mod Sessions
+pub mod Running

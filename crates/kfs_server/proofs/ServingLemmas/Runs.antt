@@ -1,0 +1,123 @@
+-- Calls that a desk has made one after another are frames that the machine has served.
+use Rattle.std.proofs.Common.{◌≡◌, inl, inr, ℕ, suc, List, [], ◌∷◌, ◌++◌, length, map, Result, Ok, Err, refl, sym, ap, subst, ◌∙◌, append-nil}
+use Rattle.std.specs.List.{AllZip}
+use Rattle.kfs_desk.specs.Machine.{Desk}
+use Rattle.kfs_call.specs.Call.{Call, IsCall, CallAnswer, call_bytes}
+use Rattle.kfs_call.specs.Layout as layouts
+use Rattle.kfs_call.specs.Readers.{call_read}
+use Rattle.kfs_call.proofs.CallLaws.{call_layout}
+use Rattle.kfs_call.specs.AnswerViews.{answer_shown}
+use Rattle.kfs_call.specs.declared.answer.AnswerRow.{AnswerRow}
+use Rattle.kfs_call.specs.declared.fault.FieldFault.TheVariants as fields
+use Rattle.kfs_call_desk.specs.Calls.{IsMade, IsRefusal}
+use Rattle.kfs_call_desk.specs.declared.made.Called.{Called}
+use Rattle.kfs_call_desk.specs.declared.made.CallFault.{CallFault}
+use Rattle.kfs_call_desk.specs.declared.made.CallFault.TheVariants as faults
+use Rattle.kfs_kept.specs.Calls.Making.{Runs}
+use Rattle.kfs_server.specs.Asking.{IsBad, IsDecided, IsDecidedFor}
+use Rattle.kfs_server.specs.Frames.Begun.{IsFrameOf}
+use Rattle.kfs_server.specs.Frames.Frame.{Frame}
+use Rattle.kfs_server.specs.declared.frames.frame.Incoming.{Incoming}
+use Rattle.kfs_server.specs.Replies.Views.{refusal_shown, reply_shown}
+use Rattle.kfs_server.specs.Replies.Reply as spelled
+use Rattle.kfs_server.specs.Serving.Group.{AreReplies, AreServed, IsReplied, IsReplyTo, call_in, calls_of, refused_for_memory}
+use Rattle.kfs_server.specs.Serving.Machine.{IsMadeFor, IsRefusedFor, Replies, Serves}
+use Rattle.kfs_server.specs.declared.asking.Decided.{Decided}
+use Rattle.kfs_server.specs.declared.asking.Decision.{Decision}
+use Rattle.kfs_server.specs.declared.asking.Decision.TheVariants.{Make, Refuse}
+use Rattle.kfs_server.specs.declared.replies.reply.NumberedReply.{NumberedReply}
+use Rattle.kfs_server.specs.declared.replies.reply.Refusal.{Refusal}
+use Rattle.kfs_server.specs.declared.replies.reply.Reply.{Reply}
+use Rattle.kfs_server.specs.declared.replies.reply.Reply.TheVariants.{Answered, Refused}
+
+abbrev read : Call × List ℕ → Result (Call × List ℕ) ℕ
+read x = Ok x
+
+ok_is : (x y : Call × List ℕ) → read x ≡ read y → x ≡ y
+ok_is x y e = cc
+
+-- bytes are those of one call
+pub same_call : (a b : Call) → IsCall a → IsCall b → call_bytes a ≡ call_bytes b → a ≡ b
+same_call a b fa fb e =
+    let pair = ok_is (a, []) (b, []) (sym (call_layout.again a [] fa) ∙ ap (λ (bs : List ℕ). call_read (bs ++ [])) e ∙ call_layout.again b [] fb) in
+    ap (λ (p : Call × List ℕ). p.0) pair
+
+-- a call that has no answer is refused for the same reason
+refused_right : (desk : Desk) (f : Frame) (bytes : List ℕ) (fault : CallFault) (refusal : Refusal) → bytes ≡ f.body → IsRefusal bytes desk fault → IsReplyTo (Err fault) (Refused refusal)
+    → IsRefusedFor desk f (refusal_shown refusal)
+refused_right desk f bytes (faults.BadCall (fields.BadField k)) refusal is why said =
+    subst (λ (r : Refusal). IsRefusedFor desk f (refusal_shown r)) (sym said) (inl (subst (λ (bs : List ℕ). CallAnswer bs (Err (layouts.BadField k))) is why))
+refused_right desk f bytes (faults.BadCall fields.Trailing) refusal is why said =
+    subst (λ (r : Refusal). IsRefusedFor desk f (refusal_shown r)) (sym said) (inl (subst (λ (bs : List ℕ). CallAnswer bs (Err layouts.Trailing)) is why))
+refused_right desk f bytes (faults.BadCall fields.OutOfMemory) refusal is why said = absurd why
+refused_right desk f bytes faults.OutOfMemory refusal is why said = subst (λ (r : Refusal). IsRefusedFor desk f (refusal_shown r)) (sym said) (inl tt)
+refused_right desk f bytes faults.DocketFull refusal is why said = subst (λ (r : Refusal). IsRefusedFor desk f (refusal_shown r)) (sym said) (inr (refl, why))
+
+never_answered : (fault : CallFault) (answer : AnswerRow) → IsReplyTo (Err fault) (Answered answer) → ⊥
+never_answered (faults.BadCall (fields.BadField k)) answer said = said
+never_answered (faults.BadCall fields.Trailing) answer said = said
+never_answered (faults.BadCall fields.OutOfMemory) answer said = said
+never_answered faults.OutOfMemory answer said = said
+never_answered faults.DocketFull answer said = said
+
+-- one frame more, and the calls that are left
+pub serves_step : (desk last : Desk) (f : Frame) (what : Decision) (calls : List (List ℕ)) (answers others : List (Result Called CallFault)) (reply : Reply) → IsDecided f what
+    → Runs desk (call_in what ++ calls) answers last → IsReplied what answers others reply → (next : Desk) × Replies desk f (reply_shown reply) next × Runs next calls others last
+serves_step desk last f (Make bytes) calls [] others reply decided runs said = absurd said
+serves_step desk last f (Make bytes) calls (Ok called ∷ answers) others (Answered answer) decided runs said =
+    let made = runs.1 in
+    let asked : Call = decided.1 in
+    let one : made.call ≡ asked = same_call made.call asked made.fits decided.2.fits (sym made.spelled ∙ decided.0 ∙ decided.2.spelled) in (
+      runs.0,
+      record { call = asked; asks = decided.2; yours = decided.3; called = called; made = subst (λ (call : Call). IsMade call desk called runs.0) one made.made; told = said.0 },
+      subst (λ (rest : List (Result Called CallFault)). Runs runs.0 calls rest last) (sym said.1) runs.2,
+    )
+serves_step desk last f (Make bytes) calls (Ok called ∷ answers) others (Refused refusal) decided runs said = absurd said.0
+serves_step desk last f (Make bytes) calls (Err fault ∷ answers) others (Answered answer) decided runs said = absurd (never_answered fault answer said.0)
+serves_step desk last f (Make bytes) calls (Err fault ∷ answers) others (Refused refusal) decided runs said =
+    (desk, (refused_right desk f bytes.now fault refusal decided.0 runs.0 said.0, refl), subst (λ (rest : List (Result Called CallFault)). Runs desk calls rest last) (sym said.1) runs.1)
+serves_step desk last f (Refuse refusal) calls answers others reply decided runs said =
+    (desk, subst (λ (r : Reply). Replies desk f (reply_shown r) desk) (sym said.0) (inl decided, refl), subst (λ (rest : List (Result Called CallFault)). Runs desk calls rest last) (sym said.1) runs)
+
+-- what is decided of a frame, under its number
+abbrev pub IsDecidedOf : Frame → Decided → Type 0
+IsDecidedOf f one = (one.number ≡ f.number) × IsDecided f one.what
+
+pub serves_all : (desk last : Desk) (frames : List Frame) (decided : List Decided) (answers : List (Result Called CallFault)) (replies : List NumberedReply) → AllZip IsDecidedOf frames decided
+    → Runs desk (calls_of decided) answers last → AreReplies decided answers replies → AreServed desk frames replies last
+serves_all desk last [] [] [] [] are runs said = record { numbers = tt; served = runs }
+serves_all desk last [] [] (answer ∷ answers) [] are runs said = absurd said
+serves_all desk last [] [] answers (sent ∷ replies) are runs said = absurd said
+serves_all desk last [] (one ∷ decided) answers replies are runs said = absurd are
+serves_all desk last (f ∷ frames) [] answers replies are runs said = absurd are
+serves_all desk last (f ∷ frames) (one ∷ decided) answers [] are runs said = absurd said
+serves_all desk last (f ∷ frames) (one ∷ decided) answers (sent ∷ replies) are runs said =
+    let step = serves_step desk last f one.what (calls_of decided) answers said.0 sent.reply are.0.1 runs said.2 in
+    let rest = serves_all step.0 last frames decided said.0 replies are.1 step.2 said.3 in
+    record { numbers = (said.1 ∙ are.0.0, rest.numbers); served = (step.0, step.1, rest.served) }
+
+-- what is decided of the code's frames is decided of the frames that they are
+pub decided_of : {A : Type 0} (group : List (Incoming A)) (frames : List Frame) (decided : List Decided) → AllZip IsFrameOf group frames → AllZip IsDecidedFor group decided → AllZip IsDecidedOf frames decided
+decided_of [] [] [] are is = tt
+decided_of [] [] (one ∷ decided) are is = absurd is
+decided_of [] (f ∷ frames) decided are is = absurd are
+decided_of (x ∷ group) [] decided are is = absurd are
+decided_of (x ∷ group) (f ∷ frames) [] are is = absurd is
+decided_of (x ∷ group) (f ∷ frames) (one ∷ decided) are is = (is.0 f are.0, decided_of group frames decided are.1 is.1)
+
+-- there is an answer for each call
+pub runs_long : (desk last : Desk) (calls : List (List ℕ)) (answers : List (Result Called CallFault)) → Runs desk calls answers last → length answers ≡ length calls
+runs_long desk last [] [] runs = refl
+runs_long desk last [] (answer ∷ answers) runs = absurd runs
+runs_long desk last (bytes ∷ calls) [] runs = absurd runs
+runs_long desk last (bytes ∷ calls) (Ok called ∷ answers) runs = ap suc (runs_long runs.0 last calls answers runs.2)
+runs_long desk last (bytes ∷ calls) (Err fault ∷ answers) runs = ap suc (runs_long desk last calls answers runs.1)
+
+-- frames that are all refused, since memory was
+pub all_refused : {A : Type 0} (desk : Desk) (group : List (Incoming A)) (frames : List Frame) → AllZip IsFrameOf group frames → AreServed desk frames (map refused_for_memory group) desk
+all_refused desk [] [] are = record { numbers = tt; served = refl }
+all_refused desk [] (f ∷ frames) are = absurd are
+all_refused desk (x ∷ group) [] are = absurd are
+all_refused desk (x ∷ group) (f ∷ frames) are =
+    let rest = all_refused desk group frames are.1 in
+    record { numbers = (are.0.number, rest.numbers); served = (desk, (inl tt, refl), rest.served) }

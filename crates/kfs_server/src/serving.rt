@@ -1,0 +1,14 @@
+//! Frames served by a kept desk, group by group. Begin with `serve`.
+mod calling;
+mod fault;
+mod group;
+mod merging;
+mod renewal;
+mod room;
+mod running;
+mod session;
+
+pub use self::fault::{GroupFault, RunFault, ServeFault};
+pub use self::group::answer_group;
+pub use self::running::{exit_status, run_new, run_opened};
+pub use self::session::serve;

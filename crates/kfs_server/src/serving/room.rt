@@ -1,0 +1,44 @@
+//! What a group takes in memory, taken once.
+ghost use Rattle.std.specs.Prelude.{◌≡◌, [], ◌≤◌, IfOk};
+ghost use Rattle.kfs_server.specs.Serving.Room.{IsAmple, IsRoom};
+
+use crate::frames::Incoming;
+use crate::replies::NumberedReply;
+use std::alloc::{AllocError, Allocator};
+
+/// How many bytes are read at once, and so how many frames a group has at most.
+pub const CHUNK: usize = 65_536;
+
+/// The most bytes of the replies to a group: 29 for each of its frames.
+const TEXT: usize = 1_900_544;
+
+/// What a group takes: its frames, the replies, and their bytes.
+#[derive(Drop)]
+pub struct Room<B: Allocator> {
+    pub group: Vec<Incoming<B>, B>,
+    pub replies: Vec<NumberedReply, B>,
+    pub text: Vec<u8, B>,
+}
+
+impl<B: Allocator + Copy> Room<B> {
+    /// Room for as many frames as a read brings at most. `Err` where memory is refused.
+    pub fn new(alloc: B) -> Result<Room<B>, AllocError>
+        ensures { IfOk result IsRoom }
+    {
+        Ok(Room {
+            group: Vec::with_capacity(alloc, CHUNK)?,
+            replies: Vec::with_capacity(alloc, CHUNK)?,
+            text: Vec::with_capacity(alloc, TEXT)?,
+        })
+    }
+
+    /// Drops what a group had, and keeps the room.
+    pub fn clear(&mut self)
+        requires { IsAmple self.old }
+        ensures { IsRoom self.new }
+    {
+        self.group.clear();
+        self.replies.clear();
+        self.text.clear();
+    }
+}

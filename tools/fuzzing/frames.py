@@ -1,0 +1,169 @@
+"""Frames with random calls, and the replies that are due to them (docs/PROTOCOL.md).
+
+A reply is a word or some: `NotYours`, `BadField(1)`, or the answer to a call as the line of `kfs run` has it, with its row.
+"""
+import random
+
+from .calls import CallMaker, CallSession, Drop, Lease, LeaseAt, Migrate, Submit, decode_call, decoded
+from .codec import Refused
+from .desk import hex_of
+
+FRONT = 0xFFFFFFFF
+BODY_LIMIT = 16_777_216
+# How often a frame is forged before the right one, has a byte changed, is cut or lengthened, is none, or is too long.
+FORGED, CHANGED, LONG = 0.3, 0.5, 0.0005
+ENTRY_REASONS = "NoSuchNode NotDirectory IsDirectory NoSuchName NameTaken NumberTaken NumberNotGranted NotEmpty BelowItself TooManyLinks TooBig NoSearch NoWrite NotOwner NoLease Sticky NotInGroup".split()
+LEASE_REASONS = "UnknownClient BadPath NoSuchName NotDirectory NoSearch Past LeaseHeld NoLeaseHeld Backwards NoSuchNode NotAllowed".split()
+MOVE_REASONS = "NotMapped OutOfRange NotFree Overlap TooManyMoves".split()
+
+
+# ---- Who asks, and what
+
+def owner_of(call):
+    """The client whose call it is, or the front."""
+    return call.client if isinstance(call, (Submit, Lease, Drop, LeaseAt)) else FRONT
+
+
+def owner_in(data):
+    """The same of bytes; of bytes that are no call the front."""
+    call = decoded(data)
+    return FRONT if call is None else owner_of(call)
+
+
+def opening_and_calls(seed, count):
+    """The lines `new` and `client` of a session that begins with a new image, the limit of its docket, and about so many calls
+    as bytes. Which places are free is known of the least alone, so no call moves a block to tier 0."""
+    for turn in range(1_000):
+        lines = CallMaker(f"{seed} {turn}").script(count)
+        if not lines[0].startswith(b"new ") or any(line.startswith(b"image ") for line in lines):
+            continue
+        first = [line for line in lines if line.startswith((b"new ", b"client "))]
+        limit = next(int(line.split(b" ")[1]) for line in lines if line.startswith(b"begin "))
+        calls = [b"" if line == b"call -" else bytes.fromhex(line[5:].decode()) for line in lines if line.startswith(b"call ")]
+        return first, limit, [data for data in calls if not is_unknown(data)]
+    raise ValueError("no seed begins with a new image")
+
+
+def is_unknown(data):
+    call = decoded(data)
+    return isinstance(call, Migrate) and any(tier == 0 for _, _, tier, _ in call.moves)
+
+
+def changed(chance, data):
+    """The bytes with one changed, cut off or added."""
+    at = chance.randrange(len(data) + 1)
+    match chance.randrange(4):
+        case 0:
+            return data[:at]
+        case 1:
+            return data + chance.randbytes(1 + chance.randrange(4))
+        case 2:
+            return data[:at] + bytes([chance.randrange(256)]) + data[at:]
+        case _:
+            return data[:at] + bytes([chance.randrange(256)]) + data[at + 1 :]
+
+
+def frames_of(seed, numbers, calls):
+    """Yields senders and bodies: the calls, and hostile frames before them."""
+    chance = random.Random(f"frames {seed}")
+    others = [*numbers, FRONT, 0, 0xFFFFFFFE]
+    for data in calls:
+        if chance.random() < FORGED:
+            yield chance.choice(others), data
+        if chance.random() < CHANGED:
+            wrong = changed(chance, data)
+            if not is_unknown(wrong):
+                yield chance.choice([owner_in(wrong), chance.choice(others)]), wrong
+        if chance.random() < LONG:
+            yield chance.choice(others), bytes(BODY_LIMIT + 1)
+        yield owner_in(data), data
+
+
+# ---- What is due
+
+class FrameSession(CallSession):
+    """A session that is asked by frames."""
+
+    def due(self, sender, body, said=None):
+        """Returns the reply that is due. `said` is the program's, for what is left open."""
+        if len(body) > BODY_LIMIT:
+            return "TooLong"
+        try:
+            call = decode_call(body)
+        except Refused as refused:
+            return str(refused)
+        if owner_of(call) != sender:
+            return "NotYours"
+        return self.expected(b"call " + hex_of(body).encode(), said and said.encode()).decode()
+
+
+# ---- What a reply says
+
+def fault_in(data):
+    """The code, the reason, the index and the detail of a fault."""
+    return data[0], data[1], int.from_bytes(data[2:10], "big"), int.from_bytes(data[10:14], "big")
+
+
+def spelling(reason, index, detail):
+    return ["BadHeader", f"BadEntry({index})", "Trailing", f"BadRow({detail},{index})"][reason - 1]
+
+
+def submission_fault(data):
+    code, reason, index, detail = fault_in(data)
+    match code:
+        case 1:
+            return "client unknown"
+        case 2:
+            return f"log {spelling(reason, index, detail)}"
+        case 3:
+            return "client wrong"
+        case 4:
+            return f"plan {spelling(reason, index, detail)}"
+        case 5:
+            name = ENTRY_REASONS[reason - 1]
+            return f"entry {index} {name}" + (f"({detail})" if name == "NoLease" else "")
+        case 6:
+            return f"plan {['Names', 'Nodes', 'Pieces'][reason - 1]}({index})"
+    raise ValueError(f"no fault: {data.hex()}")
+
+
+def lease_fault(data):
+    code, _, index, detail = fault_in(data)
+    name = LEASE_REASONS[code - 1]
+    if name == "LeaseHeld":
+        return f"{name}({detail})"
+    # Of a path the component is told.
+    return f"{name}({index})" if code in (3, 4, 5) else name
+
+
+def move_fault(data):
+    code, _, index, _ = fault_in(data)
+    name = MOVE_REASONS[code - 1]
+    return name if name == "TooManyMoves" else f"{name}({index})"
+
+
+def told_in(data):
+    """What an answer says behind its row."""
+    number = int.from_bytes(data[1:], "big")
+    match data[0]:
+        case 1:
+            return f"yes rejudged={data[1]} need={int.from_bytes(data[2:10], 'big')}"
+        case 2:
+            return f"no rejudged={data[1]} {submission_fault(data[2:])}"
+        case 3:
+            return f"noroom rejudged={data[1]} need={int.from_bytes(data[2:10], 'big')} free={int.from_bytes(data[10:14], 'big')}"
+        case 4 | 5 | 6 | 7:
+            return f"{['leased', 'dropped', 'ticked', 'moved'][data[0] - 4]} {number}"
+        case 8:
+            return f"refused {lease_fault(data[1:])}"
+        case 9:
+            return f"refused {move_fault(data[1:])}"
+    raise ValueError(f"no answer: {data.hex()}")
+
+
+def reply_text(reply):
+    """A reply of hosts/python/frames.py in words."""
+    if reply.refusal is not None:
+        name, index = reply.refusal
+        return f"{name}({index})" if name == "BadField" else name
+    return f"{int.from_bytes(reply.answer[:4], 'big')} {told_in(reply.answer[4:])}"
