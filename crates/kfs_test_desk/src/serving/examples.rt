@@ -227,18 +227,12 @@ fn a_desk_that_is_not_begun(rt: HostRuntime) {
 
 // ---- submissions at once
 
-/// Appends the Create of file 5. Whether there was memory.
-fn push_create<A: Allocator + Copy>(all: &mut Vec<Submission<A>, A>, alloc: A) -> Option<()> {
-    let create = submission(alloc, CREATE_LOG, CREATE_PLAN)?;
-    all.push(create).ok()
-}
-
 /// The Create of file 5, three times.
 fn creates<A: Allocator + Copy>(alloc: A) -> Option<Vec<Submission<A>, A>> {
     let mut all = Vec::new(alloc);
-    push_create(&mut all, alloc)?;
-    push_create(&mut all, alloc)?;
-    push_create(&mut all, alloc)?;
+    for _ in 0..3 {
+        all.push(submission(alloc, CREATE_LOG, CREATE_PLAN)?).ok()?;
+    }
     Some(all)
 }
 
