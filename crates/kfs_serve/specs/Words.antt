@@ -1,5 +1,5 @@
 -- What the words of the command line ask for.
-use Rattle.std.specs.Prelude.{◌≡◌, ℕ, List, length, slice_index_or, codes, Option, Some, None}
+use Rattle.std.specs.Prelude.{◌≡◌, ℕ, List, [], length, slice_index_or, codes, Option, Some, None}
 use Rattle.std.specs.Borrow.{Bor}
 use Rattle.kfs_model.specs.Placement.{TierSizes}
 use Rattle.kfs_program_text.specs.Cut.{cut, space}

@@ -1,9 +1,10 @@
 //! The clients of a first start, from the lines of a file.
 ghost use Rattle.std.specs.Prelude.{◌≡◌, Ok, Some, IfOk};
 ghost use Rattle.kfs_program_command.specs.Command.{Row, Setup, asked_by};
+ghost use Rattle.kfs_program_command.specs.Views.{opening_of};
 
 use crate::fault::ProgramFault;
-use kfs_mode::Client;
+use kfs_mode::{Client, ClientFault};
 use kfs_program_command::{Command, OpeningCommand};
 use kfs_program_text::{Refusal, first_line};
 use std::alloc::Global;
@@ -36,9 +37,32 @@ fn next_line(bytes: &[u8]) -> (&[u8], &[u8]) {
 fn client_in(alloc: Global, line: &[u8], index: usize) -> Result<Client, ProgramFault>
     ensures { IfOk result (λ client. asked_by line.now ≡ Some (Setup (Row (Ok client)))) }
 {
-    match Command::read(alloc, line) {
-        Ok(Command::Opening(OpeningCommand::Client(Ok(client)))) => Ok(client),
+    match client_row(alloc, line) {
+        Ok(Ok(client)) => Ok(client),
+        Ok(Err(_)) => Err(ProgramFault::BadLine(index)),
+        Err(Refusal::BadLine) => Err(ProgramFault::BadLine(index)),
         Err(Refusal::OutOfMemory) => Err(ProgramFault::OutOfMemory),
-        _ => Err(ProgramFault::BadLine(index)),
+    }
+}
+
+/// The client of a line, or why it is refused. Another line is bad.
+fn client_row(alloc: Global, line: &[u8]) -> Result<Result<Client, ClientFault>, Refusal>
+    ensures { IfOk result (λ row. asked_by line.now ≡ Some (Setup (Row row))) }
+{
+    match Command::read(alloc, line)? {
+        Command::Opening(command) => row_of(command),
+        Command::Image(_) => Err(Refusal::BadLine),
+        Command::Desk(_) => Err(Refusal::BadLine),
+    }
+}
+
+/// The client that the command has, or why it is refused. Another command is a bad line.
+fn row_of(command: OpeningCommand) -> Result<Result<Client, ClientFault>, Refusal>
+    ensures { IfOk result (λ row. opening_of command ≡ Row row) }
+{
+    match command {
+        OpeningCommand::Client(row) => Ok(row),
+        OpeningCommand::New(_) => Err(Refusal::BadLine),
+        OpeningCommand::Begin(_) => Err(Refusal::BadLine),
     }
 }
