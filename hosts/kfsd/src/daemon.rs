@@ -1,0 +1,342 @@
+//! From start to stop.
+
+use crate::config::{Config, ConfigFault};
+use crate::connection::{self, Shared};
+use crate::control;
+use crate::desk::{Desk, DeskFault};
+use crate::figures::Figures;
+use crate::folder::Folder;
+use crate::frames::Refusal;
+use crate::peer::uid_of;
+use crate::queue::Queue;
+use crate::users::{lines_of, Table};
+use nix::sys::resource::{getrlimit, setrlimit, Resource};
+use std::fs::{self, Permissions};
+use std::io::{self, Write};
+use std::os::unix::fs::{FileTypeExt, PermissionsExt};
+use std::path::{Path, PathBuf};
+use std::sync::Arc;
+use std::time::Duration;
+use thiserror::Error;
+use tokio::net::{UnixListener, UnixStream};
+use tokio::signal::unix::{signal, SignalKind};
+use tokio::sync::watch;
+use tokio::task::{JoinHandle, JoinSet};
+use tokio::time::{sleep, timeout};
+use tracing::{info, warn};
+
+/// How long a listener rests where the system has no descriptor left.
+const REST: Duration = Duration::from_millis(100);
+
+/// Descriptors beside those of connections.
+const OTHER_FILES: u64 = 64;
+
+/// Why kfsd ends before it is told to, or can't stop in time.
+#[derive(Debug, Error)]
+pub enum DaemonFault {
+    #[error(transparent)]
+    Config(#[from] ConfigFault),
+    #[error("{0}: {1}")]
+    Io(PathBuf, io::Error),
+    #[error("{0}: another kfsd has it, or the kfs_serve of one that was killed")]
+    Locked(PathBuf),
+    #[error("{0} isn't a socket")]
+    NotASocket(PathBuf),
+    #[error("at most {0} files may be open, and {1} connections are allowed: raise the one or lower connections_a_user")]
+    Files(u64, u64),
+    #[error("signals: {0}")]
+    Signals(io::Error),
+    #[error(transparent)]
+    Desk(#[from] DeskFault),
+    #[error("kfs_serve hasn't ended in time, and was killed; what was answered is kept")]
+    Killed,
+    #[error("kfsd itself: {0}")]
+    Task(#[from] tokio::task::JoinError),
+}
+
+impl DaemonFault {
+    /// The exit status: 3 where the desk's files have failed, 4 where `kfs_serve` doesn't run or doesn't end, and else 1.
+    pub fn status(&self) -> u8 {
+        match self {
+            DaemonFault::Desk(DeskFault::Files | DeskFault::HalfMade(_) | DeskFault::Folder(_)) => 3,
+            DaemonFault::Desk(DeskFault::Fruitless(_)) | DaemonFault::Killed | DaemonFault::Task(_) => 4,
+            _ => 1,
+        }
+    }
+}
+
+/// What runs beside the connections.
+struct Daemon {
+    config: Config,
+    path: PathBuf,
+    /// The clients that the desk has.
+    clients: String,
+    shared: Arc<Shared>,
+    table: watch::Sender<Arc<Table>>,
+    stopping: watch::Sender<bool>,
+    desk: JoinHandle<Result<(), DeskFault>>,
+}
+
+/// Runs until SIGTERM or SIGINT, and stops then.
+pub async fn run(path: &Path) -> Result<(), DaemonFault> {
+    let config = Config::read(path)?;
+    raise_files(&config)?;
+    let folder = lock(&config).await?;
+    let signals = Signals::new().map_err(DaemonFault::Signals)?;
+    let (mut daemon, mut ready) = Daemon::start(config, path, folder)?;
+    tokio::select! {
+        _ = ready.changed() => {}
+        ended = &mut daemon.desk => return Ok(ended??),
+    }
+    let sockets = Sockets::bind(&daemon.config)?;
+    info!("clients may connect to {}", daemon.config.socket.display());
+    daemon.serve(sockets, signals).await
+}
+
+impl Daemon {
+    fn start(config: Config, path: &Path, folder: Folder) -> Result<(Daemon, watch::Receiver<bool>), DaemonFault> {
+        let clients = folder.clients(&lines_of(&config.users)).map_err(|fault| DaemonFault::Io(folder.clients_path(), fault))?;
+        let first = table_of(&config, &clients, &Table::default());
+        let (table, tables) = watch::channel(Arc::new(first));
+        let (stopping, stops) = watch::channel(false);
+        let (is_ready, ready) = watch::channel(false);
+        let shared = Arc::new(Shared {
+            queue: Queue::default(),
+            figures: Figures::default(),
+            limits: config.limits,
+            table: tables,
+            stopping: stops,
+        });
+        let desk = Desk {
+            program: config.program.clone(),
+            folder: Arc::new(folder),
+            rows: config.rows,
+            tiers: config.tiers,
+        };
+        let of_desk = Arc::clone(&shared);
+        let desk = tokio::spawn(async move { desk.run(&of_desk.queue, &of_desk.figures, &is_ready).await });
+        Ok((Daemon { config, path: path.to_path_buf(), clients, shared, table, stopping, desk }, ready))
+    }
+
+    /// Serves connections until a signal says to stop, or the desk is lost.
+    async fn serve(mut self, sockets: Sockets, mut signals: Signals) -> Result<(), DaemonFault> {
+        let accepting = tokio::spawn(accept(sockets, Arc::clone(&self.shared)));
+        let lost = loop {
+            tokio::select! {
+                asked = signals.next() => match asked {
+                    Asked::Reload => self.reload(),
+                    Asked::Stop => break None,
+                },
+                ended = &mut self.desk => break Some(ended),
+            }
+        };
+        info!("stopping");
+        if lost.is_some() {
+            self.shared.queue.give_up();
+        }
+        self.stopping.send_replace(true);
+        if timeout(self.config.limits.stop_time(), accepting).await.is_err() {
+            warn!("some connections haven't ended in time");
+        }
+        match lost {
+            Some(ended) => Ok(ended??),
+            None => self.end_desk().await,
+        }
+    }
+
+    /// Ends the desk, once what waits is answered.
+    async fn end_desk(mut self) -> Result<(), DaemonFault> {
+        self.shared.queue.close();
+        match timeout(self.config.limits.stop_time(), &mut self.desk).await {
+            Ok(ended) => Ok(ended??),
+            Err(_) => {
+                // The process is killed where its task is dropped.
+                self.desk.abort();
+                let _ = self.desk.await;
+                Err(DaemonFault::Killed)
+            }
+        }
+    }
+
+    /// Reads the users anew. Where the file is wrong all stays as it is.
+    fn reload(&mut self) {
+        let config = match Config::read(&self.path) {
+            Ok(config) => config,
+            Err(fault) => return warn!("the users stay as they are: {fault}"),
+        };
+        if !config.differs_in_users_alone(&self.config) {
+            warn!("of the configuration the users alone are read anew; the rest is for the next start");
+        }
+        self.config.users = config.users;
+        let before = Arc::clone(&self.table.borrow());
+        self.table.send_replace(Arc::new(table_of(&self.config, &self.clients, &before)));
+        info!("users are read anew");
+    }
+}
+
+/// The table of a configuration's users. Those who aren't clients of the desk are named in the log, and kept out.
+fn table_of(config: &Config, clients: &str, before: &Table) -> Table {
+    let (table, strangers) = Table::new(&config.users, clients, &config.limits, before);
+    for user in strangers {
+        warn!("user {} is kept out: the desk was begun without `{}`, and takes no new client", user.uid, user.line());
+    }
+    table
+}
+
+/// Locks the folder. The `kfs_serve` of a daemon that was killed ends soon, since its input has ended.
+async fn lock(config: &Config) -> Result<Folder, DaemonFault> {
+    let waiting = async {
+        loop {
+            match Folder::lock(&config.folder) {
+                Ok(Some(folder)) => return Ok(folder),
+                Ok(None) => sleep(REST).await,
+                Err(fault) => return Err(DaemonFault::Io(config.folder.clone(), fault)),
+            }
+        }
+    };
+    match timeout(config.limits.stop_time(), waiting).await {
+        Ok(found) => found,
+        Err(_) => Err(DaemonFault::Locked(config.folder.clone())),
+    }
+}
+
+/// Lets as many files be open as may be, and looks whether all connections that are allowed fit.
+fn raise_files(config: &Config) -> Result<(), DaemonFault> {
+    let failed = |errno: nix::errno::Errno| DaemonFault::Io("RLIMIT_NOFILE".into(), errno.into());
+    let (_, most) = getrlimit(Resource::RLIMIT_NOFILE).map_err(failed)?;
+    setrlimit(Resource::RLIMIT_NOFILE, most, most).map_err(failed)?;
+    let wanted = config.users.len() as u64 * u64::from(config.limits.connections_a_user);
+    if wanted + OTHER_FILES > most {
+        return Err(DaemonFault::Files(most, wanted));
+    }
+    Ok(())
+}
+
+/// What a signal asks for.
+enum Asked {
+    Stop,
+    Reload,
+}
+
+struct Signals {
+    term: tokio::signal::unix::Signal,
+    int: tokio::signal::unix::Signal,
+    hup: tokio::signal::unix::Signal,
+}
+
+impl Signals {
+    fn new() -> io::Result<Signals> {
+        Ok(Signals {
+            term: signal(SignalKind::terminate())?,
+            int: signal(SignalKind::interrupt())?,
+            hup: signal(SignalKind::hangup())?,
+        })
+    }
+
+    async fn next(&mut self) -> Asked {
+        tokio::select! {
+            _ = self.term.recv() => Asked::Stop,
+            _ = self.int.recv() => Asked::Stop,
+            _ = self.hup.recv() => Asked::Reload,
+        }
+    }
+}
+
+/// A socket of a path, which goes with it.
+struct Socket {
+    listener: UnixListener,
+    path: PathBuf,
+}
+
+impl Socket {
+    /// Binds a path. The folder's lock is held, so a socket that is there is nobody's any more.
+    fn bind(path: &Path, mode: u32) -> Result<Socket, DaemonFault> {
+        let failed = |fault| DaemonFault::Io(path.to_path_buf(), fault);
+        match fs::symlink_metadata(path) {
+            Ok(found) if found.file_type().is_socket() => fs::remove_file(path).map_err(failed)?,
+            Ok(_) => return Err(DaemonFault::NotASocket(path.to_path_buf())),
+            Err(fault) if fault.kind() == io::ErrorKind::NotFound => {}
+            Err(fault) => return Err(failed(fault)),
+        }
+        let listener = UnixListener::bind(path).map_err(failed)?;
+        let socket = Socket { listener, path: path.to_path_buf() };
+        fs::set_permissions(path, Permissions::from_mode(mode)).map_err(failed)?;
+        Ok(socket)
+    }
+}
+
+impl Drop for Socket {
+    fn drop(&mut self) {
+        // Where it stays, the next start removes it.
+        let _ = fs::remove_file(&self.path);
+    }
+}
+
+struct Sockets {
+    clients: Socket,
+    control: Socket,
+}
+
+impl Sockets {
+    fn bind(config: &Config) -> Result<Sockets, DaemonFault> {
+        Ok(Sockets {
+            // Who may do what is looked up in the table of users, so each may connect.
+            clients: Socket::bind(&config.socket, 0o666)?,
+            control: Socket::bind(&config.control, 0o600)?,
+        })
+    }
+}
+
+/// Takes connections until kfsd stops, and returns when all have ended.
+async fn accept(sockets: Sockets, shared: Arc<Shared>) {
+    let mut stopping = shared.stopping.clone();
+    let mut tasks = JoinSet::new();
+    loop {
+        tokio::select! {
+            taken = sockets.clients.listener.accept() => match taken {
+                Ok((stream, _)) => take(stream, &shared, &mut tasks),
+                Err(fault) => rest(fault).await,
+            },
+            taken = sockets.control.listener.accept() => match taken {
+                Ok((stream, _)) => drop(tokio::spawn(control::serve(stream, Arc::clone(&shared)))),
+                Err(fault) => rest(fault).await,
+            },
+            Some(_) = tasks.join_next() => {}
+            _ = stopping.changed() => break,
+        }
+    }
+    drop(sockets);
+    while tasks.join_next().await.is_some() {}
+}
+
+async fn rest(fault: io::Error) {
+    warn!("no connection is taken: {fault}");
+    sleep(REST).await;
+}
+
+/// Has a connection served, where its user is listed and may have one more.
+fn take(stream: UnixStream, shared: &Arc<Shared>, tasks: &mut JoinSet<()>) {
+    let account = uid_of(&stream).ok().and_then(|uid| shared.table.borrow().of(uid));
+    let place = match account {
+        None => Err(Refusal::Unlisted),
+        Some(account) => account.connect(shared.limits.connections_a_user).ok_or(Refusal::TooMany),
+    };
+    match place {
+        Ok(place) => {
+            shared.figures.connections.add(1);
+            tasks.spawn(connection::serve(stream, place, Arc::clone(shared)));
+        }
+        Err(refusal) => {
+            shared.figures.turned_away.add(1);
+            turn_away(stream, refusal);
+        }
+    }
+}
+
+/// Tells why, and closes. A new connection has room for it.
+fn turn_away(stream: UnixStream, refusal: Refusal) {
+    if let Ok(mut stream) = stream.into_std() {
+        // It is told as far as it hears.
+        let _ = stream.write_all(&refusal.reply(0));
+    }
+}
