@@ -1,0 +1,168 @@
+"""Connections that hang harm none but themselves."""
+import contextlib
+import statistics
+import struct
+import threading
+import time
+
+from running import Daemon, Gone, frame, lease
+
+# How much memory kfsd may have in a run, with some of it for the allocator.
+MEMORY = 160 << 20
+CALLS = 300
+# 40 frames of 4 MiB go through 32 MiB seven at a time, and each seven have 4 seconds.
+SLOWEST = 28
+
+
+def latencies(connection, first):
+    """How long each of some calls takes, one after another, in seconds."""
+    found = []
+    for at in range(CALLS):
+        began = time.monotonic()
+        assert connection.ask(at, lease(connection.client, first + at)).answer
+        found.append(time.monotonic() - began)
+    return found
+
+
+def compare(name, before, during):
+    """Says both, and that the calls are about as fast: this is a machine that others use, so the bound is wide."""
+    middles = [1e6 * statistics.median(it) for it in (before, during)]
+    late = [1e6 * sorted(it)[int(0.99 * CALLS)] for it in (before, during)]
+    print(f"    {name}: median {middles[0]:.0f} us alone, {middles[1]:.0f} us beside them; 99 of 100 in {late[0]:.0f} and {late[1]:.0f} us")
+    assert middles[1] < 5 * middles[0] + 2000, "others' calls have become slow"
+
+
+def fill(connection, data):
+    """Sends as much as is taken within a while, again and again, and reads nothing. Returns how many bytes."""
+    count = 0
+    connection.socket.settimeout(0.3)
+    with contextlib.suppress(TimeoutError):
+        while count < 64 << 20:
+            count += connection.socket.send(data)
+    return count
+
+
+def readers_that_never_read(made):
+    """20 connections send calls and never read. They stop being read, others go on, and they are ended."""
+    with Daemon(*made, reply_seconds=4, frames_a_user=256).start() as daemon:
+        other = daemon.connect(9)
+        before = latencies(other, 10)
+        hanging = [daemon.connect(7) for _ in range(20)]
+        data = b"".join(frame(number, 7, lease(7, 10)) for number in range(1000))
+        taken = [fill(it, data) for it in hanging]
+        compare("readers that never read", before, latencies(other, 10_000))
+        # a socket's buffers hold much; kfsd itself holds what the limits say
+        assert max(taken) < 8 << 20, taken
+        assert daemon.resident() < MEMORY, daemon.resident()
+        daemon.wait_for(lambda: daemon.status()["user"][0]["connections"] == 0)
+        status = daemon.status()
+        assert status["connections"]["too_slow"] >= 1
+        assert status["user"][0]["frames_left"] == 256 and status["user"][0]["bytes_left"] == 32 << 20
+        assert daemon.connect(7).ask(1, lease(7, 10)).answer
+
+
+def long_frames_that_never_end(made):
+    """40 connections begin a frame of 4 MiB and send little of it: only their own user waits, until they are ended."""
+    with Daemon(*made, frame_seconds=4).start() as daemon:
+        other = daemon.connect(9)
+        before = latencies(other, 10)
+        hanging = [daemon.connect(7) for _ in range(40)]
+        for it in hanging:
+            it.socket.sendall(struct.pack(">III", 4 << 20, 1, 7) + bytes(10))
+        compare("frames that never end", before, latencies(other, 10_000))
+        assert daemon.status()["user"][0]["bytes_left"] < 5 << 20
+        assert daemon.resident() < MEMORY
+        began = time.monotonic()
+        # those that waited for room behind the first ones have their own time
+        for it in hanging:
+            assert it.is_ended()
+        assert time.monotonic() - began < SLOWEST
+        daemon.wait_for(lambda: daemon.status()["user"][0]["bytes_left"] == 32 << 20)
+
+
+def a_byte_now_and_then(made):
+    """Connections that send a byte every half second are ended when the frame's time is over."""
+    with Daemon(*made, frame_seconds=2).start() as daemon:
+        other = daemon.connect(9)
+        hanging = [daemon.connect(7) for _ in range(50)]
+        began = time.monotonic()
+        is_ended = False
+        while not is_ended:
+            assert time.monotonic() - began < 10, "it goes on for ever"
+            for it in hanging:
+                with contextlib.suppress(OSError):
+                    it.socket.send(b"\x00")
+            assert other.ask(1, lease(9, 10)).answer
+            time.sleep(0.5)
+            is_ended = daemon.status()["user"][0]["connections"] == 0
+        assert daemon.status()["connections"]["too_slow"] == 50
+
+
+def gone_in_the_middle(made):
+    """500 connections go in the middle of a head, of a body, or with replies under way. Nothing is left of them."""
+    with Daemon(*made).start() as daemon:
+        other = daemon.connect(9)
+        whole = frame(1, 7, lease(7, 10))
+        for at in range(500):
+            it = daemon.connect(7)
+            it.socket.sendall(whole * (at % 3) + whole[: at % len(whole)])
+            it.close()
+            if at % 50 == 0:
+                assert other.ask(1, lease(9, 10)).answer
+        daemon.wait_for(lambda: daemon.status()["user"][0]["connections"] == 0)
+        mine = daemon.status()["user"][0]
+        assert mine["frames_left"] == 1024 and mine["bytes_left"] == 32 << 20
+        assert daemon.status()["kfs_serve"]["starts"] == 1
+
+
+def idle_ones(made):
+    """Two users have 200 idle connections each, and a third one doesn't notice."""
+    with Daemon(*made).start() as daemon:
+        other = daemon.connect(9)
+        before, small = latencies(other, 10), daemon.resident()
+        idle = [daemon.connect(7 + at % 2) for at in range(400)]
+        daemon.wait_for(lambda: daemon.status()["connections"]["taken"] == 401)
+        compare("400 idle connections", before, latencies(other, 10_000))
+        each = (daemon.resident() - small) / len(idle)
+        print(f"    an idle connection takes about {each / 1024:.0f} KiB")
+        assert each < 64 << 10
+        assert idle[399].ask(1, lease(idle[399].client, 10)).answer
+
+
+def one_with_much_to_do(made):
+    """A user with 8 MiB of frames under way at any time: another one's calls go between them."""
+    with Daemon(*made).start() as daemon:
+        other, mine = daemon.connect(9), [daemon.connect(7) for _ in range(4)]
+        before = latencies(other, 10)
+        # a submission of a log that is none: 60,000 bytes are kept and refused
+        data = frame(1, 7, struct.pack(">BII", 1, 7, 60_000) + bytes(60_000) + bytes(4))
+        is_over = threading.Event()
+
+        def send(it):
+            with contextlib.suppress(OSError):
+                while not is_over.is_set():
+                    it.socket.sendall(data)
+
+        def read(it):
+            with contextlib.suppress(Gone, OSError):
+                while True:
+                    it.next()
+
+        threads = [threading.Thread(target=work, args=(it,)) for it in mine for work in (send, read)]
+        for it in threads:
+            it.start()
+        try:
+            during = latencies(other, 10_000)
+        finally:
+            is_over.set()
+            for it in mine:
+                it.socket.shutdown(2)
+            for it in threads:
+                it.join()
+        middles = [1e6 * statistics.median(it) for it in (before, during)]
+        print(f"    a user with 4 connections full of frames of 60 kB: median {middles[0]:.0f} us alone, {middles[1]:.0f} us beside it")
+        assert daemon.resident() < MEMORY
+        assert max(during) < 1, "a call waited for all of another's"
+
+
+TESTS = [readers_that_never_read, long_frames_that_never_end, a_byte_now_and_then, gone_in_the_middle, idle_ones, one_with_much_to_do]
