@@ -83,10 +83,10 @@ pub async fn run(path: &Path) -> Result<(), DaemonFault> {
     raise_files(&config)?;
     let folder = lock(&config).await?;
     let signals = Signals::new().map_err(DaemonFault::Signals)?;
-    let (mut daemon, mut ready) = Daemon::start(config, path, folder)?;
-    tokio::select! {
-        _ = ready.changed() => {}
-        ended = &mut daemon.desk => return Ok(ended??),
+    let (daemon, mut ready) = Daemon::start(config, path, folder)?;
+    // Where the desk has ended before it was open, nobody changes this any more.
+    if ready.changed().await.is_err() {
+        return Ok(daemon.desk.await??);
     }
     let sockets = Sockets::bind(&daemon.config)?;
     info!("clients may connect to {}", daemon.config.socket.display());

@@ -74,6 +74,15 @@ impl Flight {
     fn askers(&self) -> MutexGuard<'_, VecDeque<(u32, Asker)>> {
         self.0.lock().unwrap_or_else(PoisonError::into_inner)
     }
+
+    /// Who waits for the reply of this number, which has to be the oldest one's.
+    fn take(&self, number: u32) -> Option<Asker> {
+        let mut askers = self.askers();
+        match askers.front() {
+            Some((oldest, _)) if *oldest == number => askers.pop_front().map(|(_, asker)| asker),
+            _ => None,
+        }
+    }
 }
 
 impl Desk {
@@ -208,11 +217,8 @@ async fn write_calls(mut to: ChildStdin, queue: &Queue, flight: &Flight, figures
 /// Hands answers out until the output of `kfs_serve` ends.
 async fn read_replies(from: &mut (impl AsyncRead + Unpin), flight: &Flight, figures: &Figures) -> io::Result<()> {
     while let Some(reply) = read_reply(from).await? {
-        let oldest = flight.askers().pop_front();
-        let asker = match oldest {
-            Some((number, asker)) if number == reply.number => asker,
-            _ => return Err(io::Error::new(io::ErrorKind::InvalidData, format!("a reply to frame {}", reply.number))),
-        };
+        let wrong = || io::Error::new(io::ErrorKind::InvalidData, format!("a reply to frame {}", reply.number));
+        let asker = flight.take(reply.number).ok_or_else(wrong)?;
         figures.answered.add(1);
         // Where the connection is gone nobody hears it.
         let _ = asker.to.send(Answer::Said(reply));

@@ -8,6 +8,8 @@ from running import Daemon, Gone, frame, lease, user
 
 USERS = [user(3000 + at, 20 + at) for at in range(8)]
 WINDOW = 16
+# So many calls of a client, with 30 bytes each in the journal, are kept there: it isn't begun anew below 2^20 bytes.
+MOST = 3_400
 
 
 class Client:
@@ -15,7 +17,7 @@ class Client:
 
     def __init__(self, daemon, client):
         self.daemon, self.client, self.next_end = daemon, client, 1
-        self.sent, self.answered, self.unknown, self.gone = collections.Counter(), [], 0, 0
+        self.sent, self.answered, self.unknown, self.gone = [], [], 0, 0
         self.is_over = threading.Event()
         self.again, self.fault = [], None
         self.thread = threading.Thread(target=self.run)
@@ -29,7 +31,7 @@ class Client:
 
     def run(self):
         try:
-            while not self.is_over.is_set():
+            while not self.is_over.is_set() and self.next_end < MOST:
                 with self.daemon.lock:
                     connection = self.daemon.connect_or_none(self.client)
                 if connection is None:
@@ -41,9 +43,9 @@ class Client:
 
     def talk(self, connection):
         """Sends bursts until this ends, or the connection does."""
-        while not self.is_over.is_set():
+        while not self.is_over.is_set() and self.next_end < MOST:
             calls, place = self.calls(), 0
-            self.sent.update(calls)
+            self.sent += calls
             try:
                 connection.socket.sendall(b"".join(frame(at, self.client, call) for at, call in enumerate(calls)))
                 while place < len(calls):
@@ -66,7 +68,7 @@ class Client:
 
 
 class Shared(Daemon):
-    """A daemon that threads connect to. The user of the process is changed by one of them at a time."""
+    """A daemon that threads connect to. Who holds the lock is the user of the process, so nobody else may act meanwhile."""
 
     lock = threading.Lock()
 
@@ -78,12 +80,12 @@ class Shared(Daemon):
 
 
 def look(daemon, clients, known):
-    """Looks whether what was answered up to a moment is kept, as often as it was sent at most, and in its client's order."""
+    """Looks whether what was answered up to a moment is kept, and each call as often as it was sent at most."""
     kept = daemon.kept()
     counts = collections.Counter(kept)
     lost = [call for call in known if not counts[call]]
     assert not lost, f"{len(lost)} answered calls are lost, {lost[0].hex()} first"
-    sent = sum((it.sent for it in clients), collections.Counter())
+    sent = collections.Counter(call for it in clients for call in list(it.sent))
     assert not counts - sent, "a call was made more often than it was sent"
     return kept
 
@@ -100,11 +102,12 @@ def run_with_kills(daemon, kills, kill):
         it.thread.start()
     try:
         for _ in range(kills):
-            time.sleep(chance.uniform(0.05, 0.4))
+            time.sleep(chance.uniform(0.02, 0.2))
             known = answered_by(clients)
-            kill()
-            look(daemon, clients, known)
-        time.sleep(0.3)
+            with daemon.lock:
+                kill()
+                look(daemon, clients, known)
+        time.sleep(0.1)
     finally:
         for it in clients:
             it.is_over.set()

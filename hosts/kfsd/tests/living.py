@@ -117,7 +117,7 @@ def wrong_configurations(made):
     with Daemon(*made, users=[user(1, 7), user(2, 7)]) as daemon:
         daemon.begin()
         assert daemon.ended() == 1 and "client 7 is there twice" in daemon.said()
-    with Daemon(*made, users=[user(1, 7, (5, 4))]) as daemon:
+    with Daemon(*made, users=[user(1, 7, (0, 0))]) as daemon:
         daemon.begin()
         assert daemon.ended() == 1 and "status 1" in daemon.said()
         assert os.listdir(daemon.folder) and "first.kdjl" not in os.listdir(daemon.folder)

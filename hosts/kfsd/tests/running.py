@@ -42,8 +42,8 @@ def lease(client, end, path=b"/", writes=False):
     return struct.pack(">BIBQH", 2, client, writes, end, len(path)) + path
 
 
-def user(uid, client, grant=(0, 0), gid=None):
-    """A user of the configuration."""
+def user(uid, client, grant=(1, 0), gid=None):
+    """A user of the configuration, without numbers to give where it says no grant."""
     return {"uid": uid, "gid": uid if gid is None else gid, "client": client, "grant": list(grant)}
 
 
