@@ -82,20 +82,33 @@ pub async fn run(path: &Path) -> Result<(), DaemonFault> {
     let config = Config::read(path)?;
     raise_files(&config)?;
     let folder = lock(&config).await?;
-    let signals = Signals::new().map_err(DaemonFault::Signals)?;
+    let mut signals = Signals::new().map_err(DaemonFault::Signals)?;
     let (daemon, mut ready) = Daemon::start(config, path, folder)?;
-    // Where the desk has ended before it was open, nobody changes this any more.
-    if ready.changed().await.is_err() {
-        return Ok(daemon.desk.await??);
+    if !is_opened(&mut ready, &mut signals).await {
+        return daemon.end_desk().await;
     }
     let sockets = Sockets::bind(&daemon.config)?;
     info!("clients may connect to {}", daemon.config.socket.display());
     daemon.serve(sockets, signals).await
 }
 
+/// Waits until the desk is open. False where it has ended, or a signal says to stop.
+async fn is_opened(ready: &mut watch::Receiver<bool>, signals: &mut Signals) -> bool {
+    loop {
+        tokio::select! {
+            // Where the desk has ended, nobody changes this any more.
+            changed = ready.changed() => return changed.is_ok(),
+            asked = signals.next() => if matches!(asked, Asked::Stop) {
+                return false;
+            },
+        }
+    }
+}
+
 impl Daemon {
     fn start(config: Config, path: &Path, folder: Folder) -> Result<(Daemon, watch::Receiver<bool>), DaemonFault> {
-        let clients = folder.clients(&lines_of(&config.users)).map_err(|fault| DaemonFault::Io(folder.clients_path(), fault))?;
+        let clients =
+            folder.clients(&lines_of(&config.users)).map_err(|fault| DaemonFault::Io(folder.clients_path(), fault))?;
         let first = table_of(&config, &clients, &Table::default());
         let (table, tables) = watch::channel(Arc::new(first));
         let (stopping, stops) = watch::channel(false);
@@ -107,14 +120,14 @@ impl Daemon {
             table: tables,
             stopping: stops,
         });
-        let desk = Desk {
-            program: config.program.clone(),
-            folder: Arc::new(folder),
-            rows: config.rows,
-            tiers: config.tiers,
-        };
+        let desk = Desk { program: config.program.clone(), folder: Arc::new(folder), rows: config.rows, tiers: config.tiers };
         let of_desk = Arc::clone(&shared);
-        let desk = tokio::spawn(async move { desk.run(&of_desk.queue, &of_desk.figures, &is_ready).await });
+        let desk = tokio::spawn(async move {
+            let ended = desk.run(&of_desk.queue, &of_desk.figures, &is_ready).await;
+            // Nobody answers any more.
+            of_desk.queue.give_up();
+            ended
+        });
         Ok((Daemon { config, path: path.to_path_buf(), clients, shared, table, stopping, desk }, ready))
     }
 
@@ -131,9 +144,6 @@ impl Daemon {
             }
         };
         info!("stopping");
-        if lost.is_some() {
-            self.shared.queue.give_up();
-        }
         self.stopping.send_replace(true);
         if timeout(self.config.limits.stop_time(), accepting).await.is_err() {
             warn!("some connections haven't ended in time");

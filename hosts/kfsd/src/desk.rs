@@ -1,9 +1,9 @@
 //! `kfs_serve`: the process, its two pipes, and a new one where it ends before its time.
 
 use crate::figures::Figures;
-use crate::folder::{Found, Folder};
+use crate::folder::{Folder, Found};
 use crate::frames::{read_reply, Head, Reply};
-use crate::queue::{Answer, Asker, Queue};
+use crate::queue::{Answer, Batch, Queue, Sent};
 use crate::users::FRONT;
 use std::collections::VecDeque;
 use std::ffi::OsString;
@@ -15,12 +15,13 @@ use std::time::Duration;
 use thiserror::Error;
 use tokio::io::{AsyncRead, AsyncWrite, AsyncWriteExt, BufReader};
 use tokio::process::{Child, ChildStdin, ChildStdout, Command};
-use tokio::sync::watch;
+use tokio::sync::{watch, Notify};
 use tokio::time::{sleep, timeout};
 use tracing::{info, warn};
 
-/// How many bytes of frames are written at once. `kfs_serve` reads as many.
-const BATCH: usize = 65_536;
+/// How many bytes of frames may be sent and not answered, or one frame more. `kfs_serve` reads as many at once. What is
+/// behind them waits here, where clients take turns.
+const WINDOW: usize = 65_536;
 
 /// How many processes may end one after another without an answer to the first frame.
 const FRUITLESS: u32 = 5;
@@ -66,22 +67,58 @@ struct Ended {
     has_begun: bool,
 }
 
-/// Frames that were sent and aren't answered, in their order.
+/// Frames that were sent and aren't answered, in their order, and how many bytes they have.
 #[derive(Debug, Default)]
-struct Flight(Mutex<VecDeque<(u32, Asker)>>);
+struct Under {
+    sent: VecDeque<Sent>,
+    bytes: usize,
+}
+
+#[derive(Debug, Default)]
+struct Flight {
+    under: Mutex<Under>,
+    /// Tells the one who sends that there is room.
+    room: Notify,
+}
 
 impl Flight {
-    fn askers(&self) -> MutexGuard<'_, VecDeque<(u32, Asker)>> {
-        self.0.lock().unwrap_or_else(PoisonError::into_inner)
+    fn under(&self) -> MutexGuard<'_, Under> {
+        self.under.lock().unwrap_or_else(PoisonError::into_inner)
     }
 
-    /// Who waits for the reply of this number, which has to be the oldest one's.
-    fn take(&self, number: u32) -> Option<Asker> {
-        let mut askers = self.askers();
-        match askers.front() {
-            Some((oldest, _)) if *oldest == number => askers.pop_front().map(|(_, asker)| asker),
-            _ => None,
+    /// How many frames aren't answered.
+    fn count(&self) -> usize {
+        self.under().sent.len()
+    }
+
+    /// Waits until there is room, and tells how many bytes of it.
+    async fn room(&self) -> usize {
+        loop {
+            let room = WINDOW.saturating_sub(self.under().bytes);
+            if room > 0 {
+                return room;
+            }
+            self.room.notified().await;
         }
+    }
+
+    /// Adds what is about to be sent.
+    fn add(&self, sent: Vec<Sent>) {
+        let mut under = self.under();
+        under.bytes += sent.iter().map(|one| one.length).sum::<usize>();
+        under.sent.extend(sent);
+    }
+
+    /// Who waits for the reply of this number, which has to be the oldest frame's.
+    fn take(&self, number: u32) -> Option<Sent> {
+        let mut under = self.under();
+        if under.sent.front()?.number != number {
+            return None;
+        }
+        let sent = under.sent.pop_front()?;
+        under.bytes -= sent.length;
+        self.room.notify_one();
+        Some(sent)
     }
 }
 
@@ -124,7 +161,7 @@ impl Desk {
         let status = end(&mut child, &self.program).await?;
         figures.process.set(0);
         // Dropped, each asker hears that nobody knows.
-        figures.unknown.add(flight.askers().len());
+        figures.unknown.add(flight.count());
         Ok(Ended { status, is_done: is_done && status.success(), has_begun })
     }
 
@@ -195,7 +232,7 @@ async fn talk(to: ChildStdin, from: &mut (impl AsyncRead + Unpin), queue: &Queue
     };
     let read = if is_sent { reading.await } else { timeout(LAST_MOMENT, reading).await.unwrap_or(Ok(())) };
     say_why(read);
-    is_sent && flight.askers().is_empty()
+    is_sent && flight.count() == 0
 }
 
 fn say_why(read: io::Result<()>) {
@@ -206,10 +243,10 @@ fn say_why(read: io::Result<()>) {
 
 /// Sends calls until the queue has ended. Then the input of `kfs_serve` ends, too.
 async fn write_calls(mut to: ChildStdin, queue: &Queue, flight: &Flight, figures: &Figures) -> io::Result<()> {
-    while let Some(batch) = queue.next(BATCH).await {
-        figures.sent.add(batch.askers.len());
-        flight.askers().extend(batch.askers);
-        to.write_all(&batch.bytes).await?;
+    while let Some(Batch { bytes, sent }) = queue.next(flight.room().await).await {
+        figures.sent.add(sent.len());
+        flight.add(sent);
+        to.write_all(&bytes).await?;
     }
     Ok(())
 }
@@ -218,10 +255,10 @@ async fn write_calls(mut to: ChildStdin, queue: &Queue, flight: &Flight, figures
 async fn read_replies(from: &mut (impl AsyncRead + Unpin), flight: &Flight, figures: &Figures) -> io::Result<()> {
     while let Some(reply) = read_reply(from).await? {
         let wrong = || io::Error::new(io::ErrorKind::InvalidData, format!("a reply to frame {}", reply.number));
-        let asker = flight.take(reply.number).ok_or_else(wrong)?;
+        let sent = flight.take(reply.number).ok_or_else(wrong)?;
         figures.answered.add(1);
         // Where the connection is gone nobody hears it.
-        let _ = asker.to.send(Answer::Said(reply));
+        let _ = sent.asker.to.send(Answer::Said(reply));
     }
     Ok(())
 }

@@ -30,7 +30,7 @@ pub struct Folder {
 impl Folder {
     /// Locks a folder; none where another daemon has it, or the `kfs_serve` of one that was killed.
     pub fn lock(path: &Path) -> io::Result<Option<Folder>> {
-        let lock = OpenOptions::new().create(true).write(true).mode(0o600).open(path.join("lock"))?;
+        let lock = OpenOptions::new().create(true).truncate(false).write(true).mode(0o600).open(path.join("lock"))?;
         match flock(lock.as_raw_fd(), FlockArg::LockExclusiveNonblock) {
             Ok(()) => {}
             Err(Errno::EWOULDBLOCK) => return Ok(None),

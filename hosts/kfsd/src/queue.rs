@@ -50,13 +50,22 @@ impl Call {
     }
 }
 
+/// A frame that is sent.
+#[derive(Debug)]
+pub struct Sent {
+    pub number: u32,
+    /// How many bytes it has.
+    pub length: usize,
+    pub asker: Asker,
+}
+
 /// Calls that are sent at once.
 #[derive(Debug, Default)]
 pub struct Batch {
     /// The frames.
     pub bytes: Vec<u8>,
-    /// Who asks, in their order, each with its frame's number.
-    pub askers: Vec<(u32, Asker)>,
+    /// Each of them, in their order.
+    pub sent: Vec<Sent>,
 }
 
 /// The calls of a client, and how many bytes it may send still in its turn.
@@ -126,7 +135,7 @@ impl Queue {
         lines.turns.clear();
         lines.count = 0;
         drop(lines);
-        left.into_iter().flat_map(|(_, line)| line.calls).for_each(never_sent);
+        left.into_values().flat_map(|line| line.calls).for_each(never_sent);
         self.changed.notify_one();
     }
 
@@ -165,14 +174,14 @@ impl Lines {
 
     fn batch(&mut self, most: usize) -> Batch {
         let mut batch = Batch::default();
-        while let Some(call) = self.pop(most.saturating_sub(batch.bytes.len()), batch.askers.is_empty()) {
+        while let Some(call) = self.pop(most.saturating_sub(batch.bytes.len()), batch.sent.is_empty()) {
             let number = self.next_number;
             self.next_number = number.wrapping_add(1);
             // Bodies have at most 16,777,216 bytes.
             let head = Head { length: call.body.len() as u32, number, from: call.client };
             batch.bytes.extend_from_slice(&head.bytes());
             batch.bytes.extend_from_slice(&call.body);
-            batch.askers.push((number, call.asker));
+            batch.sent.push(Sent { number, length: HEAD + call.body.len(), asker: call.asker });
         }
         batch
     }
@@ -240,7 +249,7 @@ mod tests {
         }
         let batch = queue.next(TURN).await.unwrap();
         assert_eq!(clients_in(&batch.bytes), [(7, 0), (7, 1), (7, 2), (7, 3), (7, 4)]);
-        assert_eq!(batch.askers.iter().map(|(number, _)| *number).collect::<Vec<_>>(), [0, 1, 2, 3, 4]);
+        assert_eq!(batch.sent.iter().map(|sent| sent.number).collect::<Vec<_>>(), [0, 1, 2, 3, 4]);
         assert!(queue.is_empty());
     }
 

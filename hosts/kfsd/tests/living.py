@@ -171,7 +171,17 @@ def a_desk_that_hangs_is_killed_at_the_end(made):
         assert status == 4 and time_taken < 10, (status, time_taken)
 
 
+def stops_before_it_is_open(made):
+    """A stop is heard while kfs_serve opens its files, too."""
+    with pretender(Daemon(*made, stop_seconds=1), "open(sys.argv[2] + '/begun', 'w').close(); time.sleep(1000)") as daemon:
+        daemon.begin()
+        daemon.wait_for(lambda: os.path.exists(f"{daemon.folder}/begun"))
+        status, time_taken = daemon.stop()
+        assert status == 4 and time_taken < 10, (status, time_taken)
+
+
 TESTS = [
     stops_cleanly, stops_in_time, sockets_are_guarded, one_daemon_a_folder, users_are_read_anew, wrong_configurations,
     files_that_failed_end_it, a_desk_that_never_opens_ends_it, a_desk_that_talks_nonsense_is_replaced, a_desk_that_hangs_is_killed_at_the_end,
+    stops_before_it_is_open,
 ]
