@@ -6,8 +6,8 @@ use std::collections::{HashMap, VecDeque};
 use std::sync::{Mutex, MutexGuard, PoisonError};
 use tokio::sync::{oneshot, Notify, OwnedSemaphorePermit};
 
-/// How many bytes a client may send in one turn. A longer frame waits for some turns.
-const TURN: usize = 65_536;
+/// How many bytes a client may send in one turn, each frame with its cost. A longer frame waits for some turns.
+const TURN: usize = 8192;
 
 /// What a connection has taken of its own limit and of its user's, given back once this is gone.
 #[derive(Debug)]
@@ -218,6 +218,8 @@ mod tests {
     use std::sync::Arc;
     use tokio::sync::Semaphore;
 
+    const MOST: usize = 65_536;
+
     fn permits() -> Permits {
         let all = Arc::new(Semaphore::new(2));
         let one = || Arc::clone(&all).try_acquire_owned().unwrap();
@@ -247,7 +249,7 @@ mod tests {
         for length in 0..5 {
             queue.push(call(7, length).0);
         }
-        let batch = queue.next(TURN).await.unwrap();
+        let batch = queue.next(MOST).await.unwrap();
         assert_eq!(clients_in(&batch.bytes), [(7, 0), (7, 1), (7, 2), (7, 3), (7, 4)]);
         assert_eq!(batch.sent.iter().map(|sent| sent.number).collect::<Vec<_>>(), [0, 1, 2, 3, 4]);
         assert!(queue.is_empty());
@@ -262,24 +264,44 @@ mod tests {
         queue.push(call(8, 10).0);
         let mut before = 0;
         loop {
-            let batch = queue.next(TURN).await.unwrap();
+            let batch = queue.next(MOST).await.unwrap();
             let clients = clients_in(&batch.bytes);
             if clients.contains(&(8, 10)) {
                 break;
             }
             before += clients.len();
         }
-        assert!(before <= 2, "{before} of the other's frames went first");
+        assert_eq!(before, 0, "so many of the other's frames went first");
+    }
+
+    #[tokio::test]
+    async fn small_frames_of_many_clients_take_turns() {
+        let queue = Queue::default();
+        for client in 0..20 {
+            (0..1000).for_each(|_| queue.push(call(client, 20).0));
+        }
+        queue.push(call(99, 20).0);
+        let mut before = [0; 20];
+        'all: while let Some(batch) = queue.next(MOST).await {
+            for (client, _) in clients_in(&batch.bytes) {
+                match before.get_mut(client as usize) {
+                    Some(count) => *count += 1,
+                    None => break 'all,
+                }
+            }
+        }
+        // 8,192 bytes of frames that cost 276 each
+        assert_eq!(before, [29; 20]);
     }
 
     #[tokio::test]
     async fn a_frame_longer_than_a_batch_goes_alone() {
         let queue = Queue::default();
-        queue.push(call(7, 10 * TURN).0);
+        queue.push(call(7, 10 * MOST).0);
         queue.push(call(8, 5).0);
-        let (first, second) = (queue.next(TURN).await.unwrap(), queue.next(TURN).await.unwrap());
+        let (first, second) = (queue.next(MOST).await.unwrap(), queue.next(MOST).await.unwrap());
         assert_eq!(clients_in(&first.bytes), [(8, 5)]);
-        assert_eq!(clients_in(&second.bytes), [(7, 10 * TURN as u32)]);
+        assert_eq!(clients_in(&second.bytes), [(7, 10 * MOST as u32)]);
     }
 
     #[tokio::test]
@@ -290,8 +312,8 @@ mod tests {
         let (late, answer) = call(7, 2);
         queue.push(late);
         assert_eq!(answer.await, Ok(Answer::NeverSent));
-        assert!(queue.next(TURN).await.is_some());
-        assert!(queue.next(TURN).await.is_none());
+        assert!(queue.next(MOST).await.is_some());
+        assert!(queue.next(MOST).await.is_none());
     }
 
     #[tokio::test]
@@ -301,6 +323,6 @@ mod tests {
         queue.push(one);
         queue.give_up();
         assert_eq!(answer.await, Ok(Answer::NeverSent));
-        assert!(queue.next(TURN).await.is_none());
+        assert!(queue.next(MOST).await.is_none());
     }
 }

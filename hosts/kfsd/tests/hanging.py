@@ -7,7 +7,7 @@ import struct
 import threading
 import time
 
-from running import Daemon, frame, lease
+from running import READY, Daemon, frame, lease, pretender
 
 # How much memory kfsd may have in a run, with some of it for the allocator.
 MEMORY = 160 << 20
@@ -163,4 +163,55 @@ def one_with_much_to_do(made):
                 os.waitpid(child, 0)
 
 
-TESTS = [readers_that_never_read, long_frames_that_never_end, a_byte_now_and_then, gone_in_the_middle, idle_ones, one_with_much_to_do]
+def settled(daemon, read):
+    """What a figure is once it doesn't change any more."""
+    before, now = None, read(daemon.status())
+    while before != now:
+        time.sleep(0.3)
+        before, now = now, read(daemon.status())
+    return now
+
+
+def frames_are_limited(made):
+    """At a desk that never answers: so many frames of a connection and of a user are under way, and those of another user beside."""
+    with pretender(Daemon(*made, frames_a_connection=10, frames_a_user=15, stop_seconds=1), READY + "time.sleep(1000)").start() as daemon:
+        mine = [daemon.connect(7) for _ in range(2)]
+        data = b"".join(frame(number, 7, lease(7, 10)) for number in range(100))
+        mine[0].socket.sendall(data)
+        assert settled(daemon, lambda status: status["frames"]["sent"]) == 10
+        mine[1].socket.sendall(data)
+        assert settled(daemon, lambda status: status["frames"]["sent"]) == 15
+        assert daemon.status()["user"][0]["frames_left"] == 0
+        other = daemon.connect(9)
+        other.send(1, lease(9, 10))
+        assert settled(daemon, lambda status: status["frames"]["sent"]) == 16
+        # gone, they have their places until the desk has answered, or has ended
+        for it in mine:
+            it.close()
+        assert settled(daemon, lambda status: status["user"][0]["frames_left"]) == 0
+        daemon.kill_desk()
+        assert other.reply().refusal == ("Unknown", 0)
+        daemon.wait_for(lambda: daemon.status()["user"][0]["connections"] == 0)
+        daemon.kill_desk()
+        daemon.wait_for(lambda: daemon.status()["user"][0]["frames_left"] == 15)
+
+
+def bytes_are_limited(made):
+    """At a desk that reads nothing: so many bytes of a connection and of a user wait in kfsd, and it takes no more."""
+    limits = {"frame_bytes": 100_000, "bytes_a_connection": 200_000, "bytes_a_user": 300_000, "frames_a_user": 100, "stop_seconds": 1}
+    with pretender(Daemon(*made, **limits), READY + "time.sleep(1000)").start() as daemon:
+        data = frame(1, 7, bytes(50_000 - 12))
+        cost = len(data) - 12 + 256
+        mine = [daemon.connect(7) for _ in range(3)]
+        taken = [fill(mine[0], data)]
+        # the window takes two frames; of the rest three fit
+        assert settled(daemon, lambda status: status["frames"]["sent"]) == 2
+        assert daemon.status()["user"][0]["bytes_left"] == 300_000 - 3 * cost
+        taken += [fill(it, data) for it in mine[1:]]
+        assert settled(daemon, lambda status: status["kfs_serve"]["waiting_calls"]) == 5
+        # less than a frame is left, and it waits for the next one
+        assert daemon.status()["user"][0]["bytes_left"] == 0
+        assert max(taken) < 1 << 20, taken
+
+
+TESTS = [frames_are_limited, bytes_are_limited, readers_that_never_read, long_frames_that_never_end, a_byte_now_and_then, gone_in_the_middle, idle_ones, one_with_much_to_do]

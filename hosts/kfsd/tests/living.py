@@ -5,7 +5,7 @@ import socket
 import stat
 import sys
 
-from running import Daemon, Gone, frame, lease, user
+from running import READY, Daemon, Gone, frame, lease, pretender, user
 
 
 def stops_cleanly(made):
@@ -121,18 +121,6 @@ def wrong_configurations(made):
         daemon.begin()
         assert daemon.ended() == 1 and "status 1" in daemon.said()
         assert os.listdir(daemon.folder) and "first.kdjl" not in os.listdir(daemon.folder)
-
-
-def pretender(daemon, text):
-    """Has a script stand where kfs_serve does."""
-    daemon.program = f"{daemon.room}/pretender"
-    with open(daemon.program, "w", encoding="utf-8") as it:
-        it.write(f"#!{sys.executable}\nimport os, struct, sys, time\n{text}\n")
-    os.chmod(daemon.program, 0o755)
-    return daemon
-
-
-READY = 'sys.stdin.buffer.read(12); sys.stdout.buffer.write(bytes.fromhex("00000006ffffffff020300000000")); sys.stdout.flush()\n'
 
 
 def files_that_failed_end_it(made):

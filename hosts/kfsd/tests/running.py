@@ -206,3 +206,16 @@ class Daemon:
     def kept(self):
         """The calls in the file that counts."""
         return kept_in(self.folder)[1]
+
+
+def pretender(daemon, text):
+    """Has a script stand where kfs_serve does."""
+    daemon.program = f"{daemon.room}/pretender"
+    with open(daemon.program, "w", encoding="utf-8") as it:
+        it.write(f"#!{sys.executable}\nimport os, struct, sys, time\n{text}\n")
+    os.chmod(daemon.program, 0o755)
+    return daemon
+
+
+# A pretender that is asked whether it is open, and says so.
+READY = 'sys.stdin.buffer.read(12); sys.stdout.buffer.write(bytes.fromhex("00000006ffffffff020300000000")); sys.stdout.flush()\n'
