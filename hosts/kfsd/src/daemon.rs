@@ -60,9 +60,15 @@ impl DaemonFault {
         match self {
             DaemonFault::Desk(DeskFault::Files | DeskFault::HalfMade(_) | DeskFault::Folder(_)) => 3,
             DaemonFault::Desk(DeskFault::Fruitless(_)) | DaemonFault::Killed | DaemonFault::Task(_) => 4,
+            // A program that isn't there is the configuration's fault, and one that can't be run for now isn't.
+            DaemonFault::Desk(DeskFault::Process(_, fault)) if !is_wrong_path(fault) => 4,
             _ => 1,
         }
     }
+}
+
+fn is_wrong_path(fault: &io::Error) -> bool {
+    matches!(fault.kind(), io::ErrorKind::NotFound | io::ErrorKind::PermissionDenied)
 }
 
 /// What runs beside the connections.

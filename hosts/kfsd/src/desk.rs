@@ -8,7 +8,7 @@ use crate::users::FRONT;
 use std::collections::VecDeque;
 use std::ffi::OsString;
 use std::io;
-use std::path::PathBuf;
+use std::path::{Path, PathBuf};
 use std::process::{ExitStatus, Stdio};
 use std::sync::{Arc, Mutex, MutexGuard, PoisonError};
 use std::time::Duration;
@@ -35,8 +35,8 @@ const LAST_MOMENT: Duration = Duration::from_secs(5);
 /// Why there is no desk any more.
 #[derive(Debug, Error)]
 pub enum DeskFault {
-    #[error("{0} can't be started: {1}")]
-    NotStarted(PathBuf, io::Error),
+    #[error("{0} can't be run: {1}")]
+    Process(PathBuf, io::Error),
     #[error("the folder: {0}")]
     Folder(io::Error),
     #[error("{0} has one of the two files. A crash has cut the first start short: where nothing was ever answered, remove it")]
@@ -172,10 +172,10 @@ impl Desk {
             .stdout(Stdio::piped())
             .kill_on_drop(true)
             .spawn()
-            .map_err(|fault| DeskFault::NotStarted(self.program.clone(), fault))?;
+            .map_err(|fault| DeskFault::Process(self.program.clone(), fault))?;
         match (child.stdin.take(), child.stdout.take()) {
             (Some(to), Some(from)) => Ok((child, to, from)),
-            _ => Err(DeskFault::NotStarted(self.program.clone(), io::ErrorKind::BrokenPipe.into())),
+            _ => Err(DeskFault::Process(self.program.clone(), io::ErrorKind::BrokenPipe.into())),
         }
     }
 
@@ -264,8 +264,8 @@ async fn read_replies(from: &mut (impl AsyncRead + Unpin), flight: &Flight, figu
 }
 
 /// Waits for the end of a process whose pipes are at their end, and ends it where it doesn't by itself.
-async fn end(child: &mut Child, program: &std::path::Path) -> Result<ExitStatus, DeskFault> {
-    let not_ended = |fault| DeskFault::NotStarted(program.to_path_buf(), fault);
+async fn end(child: &mut Child, program: &Path) -> Result<ExitStatus, DeskFault> {
+    let not_ended = |fault| DeskFault::Process(program.to_path_buf(), fault);
     if let Ok(status) = timeout(LAST_MOMENT, child.wait()).await {
         return status.map_err(not_ended);
     }

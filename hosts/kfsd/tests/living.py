@@ -1,11 +1,14 @@
 """Start, stop, other users, and faults of kfs_serve."""
 import os
+import shutil
 import signal
 import socket
 import stat
+import subprocess
 import sys
+import tomllib
 
-from running import READY, Daemon, Gone, frame, lease, pretender, user
+from running import READY, TOP, Daemon, Gone, frame, lease, pretender, user
 
 
 def stops_cleanly(made):
@@ -79,12 +82,46 @@ def one_daemon_a_folder(made):
         assert daemon.connect(7).ask(1, lease(7, 10)).answer
 
 
+def runs_without_privilege(made):
+    """As a user of its own it serves other users, and that user may ask for its state."""
+    with Daemon(*made) as daemon:
+        daemon.runs_as, daemon.binaries = 65534, daemon.room
+        for name in ("kfsd", "kfsctl"):
+            shutil.copy(f"{made[0]}/{name}", daemon.room)
+        shutil.copy(daemon.program, f"{daemon.room}/kfs_serve")
+        daemon.program = f"{daemon.room}/kfs_serve"
+        for path in (daemon.room, daemon.folder):
+            os.chown(path, 65534, 65534)
+        daemon.start()
+        assert daemon.connect(7).ask(1, lease(7, 10)).answer
+        asked = subprocess.run([f"{daemon.room}/kfsctl", "--control", f"{daemon.room}/control", "status"], check=True, capture_output=True, user=65534, group=65534)
+        assert b"[kfs_serve]" in asked.stdout
+        assert daemon.stop()[0] == 0
+
+
 def reload(daemon):
     """Has the users read anew."""
     count = daemon.said().count("users are read anew") + daemon.said().count("users stay as they are")
     daemon.put_config()
     daemon.process.send_signal(signal.SIGHUP)
     daemon.wait_for(lambda: daemon.said().count("users are read anew") + daemon.said().count("users stay as they are") > count)
+
+
+def the_example_is_right(made):
+    """The example of a configuration is one, and says what else is taken."""
+    with open(f"{TOP}/hosts/kfsd/kfsd.toml", encoding="utf-8") as it:
+        text = it.read()
+    example = tomllib.loads(text)
+    with Daemon(*made) as daemon:
+        daemon.users, daemon.tiers, daemon.limits = example["user"], example["tiers"], example["limits"]
+        daemon.start()
+        assert daemon.connect(7).ask(1, lease(7, 10)).answer
+        shown = daemon.status()["user"][0]
+        assert daemon.stop()[0] == 0
+        daemon.limits = {}
+        daemon.start()
+        assert daemon.connect(7).ask(1, lease(7, 10)).answer
+        assert daemon.status()["user"][0] == shown
 
 
 def users_are_read_anew(made):
@@ -117,6 +154,9 @@ def wrong_configurations(made):
     with Daemon(*made, users=[user(1, 7), user(2, 7)]) as daemon:
         daemon.begin()
         assert daemon.ended() == 1 and "client 7 is there twice" in daemon.said()
+    with Daemon(made[0], "/nowhere/kfs_serve") as daemon:
+        daemon.begin()
+        assert daemon.ended() == 1 and "can't be run" in daemon.said()
     with Daemon(*made, users=[user(1, 7, (0, 0))]) as daemon:
         daemon.begin()
         assert daemon.ended() == 1 and "status 1" in daemon.said()
@@ -169,7 +209,7 @@ def stops_before_it_is_open(made):
 
 
 TESTS = [
-    stops_cleanly, stops_in_time, sockets_are_guarded, one_daemon_a_folder, users_are_read_anew, wrong_configurations,
+    runs_without_privilege, stops_cleanly, stops_in_time, sockets_are_guarded, one_daemon_a_folder, the_example_is_right, users_are_read_anew, wrong_configurations,
     files_that_failed_end_it, a_desk_that_never_opens_ends_it, a_desk_that_talks_nonsense_is_replaced, a_desk_that_hangs_is_killed_at_the_end,
     stops_before_it_is_open,
 ]

@@ -2,6 +2,7 @@
 import contextlib
 import importlib.machinery
 import importlib.util
+import json
 import os
 import shutil
 import signal
@@ -120,7 +121,7 @@ class Daemon:
         self.folder, self.program = f"{self.room}/desk", program
         os.mkdir(self.folder, 0o700)
         self.log = f"{self.room}/log"
-        self.process = None
+        self.process, self.runs_as = None, None
 
     def __enter__(self):
         return self
@@ -139,7 +140,7 @@ class Daemon:
         lines += [f'folder = "{self.folder}"', f'program = "{self.program}"', f"tiers = {list(self.tiers)}", "[limits]"]
         lines += [f"{name} = {value}" for name, value in self.limits.items()]
         for it in self.users:
-            lines += ["[[user]]", *(f"{name} = {value}" for name, value in it.items())]
+            lines += ["[[user]]", *(f"{name} = {json.dumps(value)}" for name, value in it.items())]
         with open(f"{self.room}/kfsd.toml", "w", encoding="utf-8") as it:
             it.write("\n".join(lines) + "\n")
 
@@ -147,7 +148,7 @@ class Daemon:
         """Starts it, without waiting."""
         self.put_config()
         with open(self.log, "ab") as log:
-            self.process = subprocess.Popen([f"{self.binaries}/kfsd", "--verbose", "--config", f"{self.room}/kfsd.toml"], stdin=subprocess.DEVNULL, stdout=log, stderr=log)
+            self.process = subprocess.Popen([f"{self.binaries}/kfsd", "--verbose", "--config", f"{self.room}/kfsd.toml"], stdin=subprocess.DEVNULL, stdout=log, stderr=log, user=self.runs_as, group=self.runs_as)
 
     def start(self):
         """Starts it, and waits until clients may connect."""

@@ -1,6 +1,7 @@
 """Who may say what, and that each frame has its reply, in order."""
 import contextlib
 import random
+import resource
 import struct
 import threading
 
@@ -85,21 +86,24 @@ def replies_keep_their_order(made):
 
 
 def many_at_once(made):
-    """200 connections of 20 users, each with 40 calls under way: each is made once, and answered to who made it."""
-    users = [user(2000 + at, 50 + at) for at in range(20)]
+    """1,000 connections of 50 users, each with 10 calls under way: each is made once, and answered to who made it."""
+    soft, hard = resource.getrlimit(resource.RLIMIT_NOFILE)
+    resource.setrlimit(resource.RLIMIT_NOFILE, (min(hard, max(soft, 4096)), hard))
+    users = [user(2000 + at, 50 + at) for at in range(50)]
     with Daemon(*made, users=users).start() as daemon:
-        connections = [daemon.connect(50 + at % 20) for at in range(200)]
+        connections = [daemon.connect(50 + at % 50) for at in range(1000)]
         expected = []
         for at, it in enumerate(connections):
-            calls = [lease(it.client, 1000 + at * 40 + each) for each in range(40)]
+            calls = [lease(it.client, 1000 + at * 10 + each) for each in range(10)]
             expected += calls
             it.socket.sendall(b"".join(frame(each, it.client, call) for each, call in enumerate(calls)))
         rows = []
         for it in connections:
-            replies = [it.reply() for _ in range(40)]
-            assert [reply.number for reply in replies] == list(range(40))
+            replies = [it.reply() for _ in range(10)]
+            assert [reply.number for reply in replies] == list(range(10))
             rows += [int.from_bytes(reply.answer[:4], "big") for reply in replies]
-        assert sorted(rows) == list(range(8000)), "a row is missing or twice there"
+        assert sorted(rows) == list(range(10_000)), "a row is missing or twice there"
+        print(f"    kfsd has {daemon.resident() / (1 << 20):.0f} MiB with 1,000 connections")
         assert daemon.stop()[0] == 0
         assert sorted(daemon.kept()) == sorted(expected)
 
