@@ -63,6 +63,17 @@ def readers_that_never_read(made):
         assert daemon.connect(7).ask(1, lease(7, 10)).answer
 
 
+def a_slow_reader(made):
+    """A connection reads a byte now and then. Another one's calls go on, and at last it has all of its replies, in order."""
+    with Daemon(*made, frames_a_connection=8).start() as daemon:
+        slow, other = daemon.connect(7), daemon.connect(9)
+        slow.socket.sendall(b"".join(frame(number, 7, lease(7, 10)) for number in range(500)))
+        for at in range(100):
+            slow.left += slow.socket.recv(1)
+            assert other.ask(at, lease(9, 10)).answer
+        assert [slow.next()[0] for _ in range(500)] == list(range(500))
+
+
 def long_frames_that_never_end(made):
     """20 connections begin a frame of 4 MiB and send little of it: only their own user waits, until they are ended."""
     with Daemon(*made, frame_seconds=2).start() as daemon:
@@ -214,4 +225,4 @@ def bytes_are_limited(made):
         assert max(taken) < 1 << 20, taken
 
 
-TESTS = [frames_are_limited, bytes_are_limited, readers_that_never_read, long_frames_that_never_end, a_byte_now_and_then, gone_in_the_middle, idle_ones, one_with_much_to_do]
+TESTS = [frames_are_limited, bytes_are_limited, readers_that_never_read, a_slow_reader, long_frames_that_never_end, a_byte_now_and_then, gone_in_the_middle, idle_ones, one_with_much_to_do]

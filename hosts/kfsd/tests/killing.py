@@ -1,10 +1,13 @@
 """Kills in the middle. After each of them every answered call is found again, and none is there more often than it was sent."""
 import collections
 import random
+import struct
 import threading
 import time
 
-from running import Daemon, Gone, frame, lease, user
+from running import Daemon, Gone, frame, kept_in, lease, user
+
+from benchmarks import files_made
 
 USERS = [user(3000 + at, 20 + at) for at in range(8)]
 WINDOW = 16
@@ -152,6 +155,55 @@ def kfsd_killed(made):
         say("4 kills of kfsd", clients)
 
 
+def submission(at):
+    """The call that creates a file of a name and a number of its own in the root, for client 7."""
+    log, plan = files_made([b"file%d" % at], 2 + at)
+    return struct.pack(">BII", 1, 7, len(log)) + log + struct.pack(">I", len(plan)) + plan
+
+
+def fill_journal(connection, is_over, wrong):
+    """Sends long submissions that are refused, so that the journal is begun anew now and then."""
+    call = struct.pack(">BII", 1, connection.client, 60_000) + bytes(60_000) + bytes(4)
+    while not is_over.is_set():
+        reply = connection.ask(1, call)
+        if reply.refusal != ("Unknown", 0) and reply.answer[4:5] != bytes([NO]):
+            wrong.append(reply)
+
+
+YES, NO, FILES = 1, 2, 200
+
+
+def files_created_under_kills(made):
+    """200 files are created while kfs_serve is killed 8 times and begins its journal anew. Each of them is there once."""
+    with Shared(*made, users=[user(1000, 7, (2, 999)), user(1001, 8)]).start() as daemon:
+        seven, is_over, wrong = daemon.connect(7), threading.Event(), []
+        assert seven.ask(0, lease(7, 1 << 40, writes=True)).answer
+        filling = threading.Thread(target=fill_journal, args=(daemon.connect(8), is_over, wrong))
+        filling.start()
+        unknown, landed = 0, 0
+        for at in range(FILES):
+            reply = seven.ask(at, submission(at))
+            if reply.refusal == ("Unknown", 0):
+                unknown += 1
+                # asked again, its name and number are taken where it has landed
+                reply = seven.ask(at, submission(at))
+                landed += reply.answer[4] == NO
+            else:
+                assert reply.answer[4] == YES, (at, reply)
+            if at % 25 == 12:
+                daemon.kill_desk()
+        is_over.set()
+        filling.join()
+        assert not wrong, wrong[0]
+        assert daemon.status()["kfs_serve"]["starts"] == 9
+        assert all(seven.ask(at, submission(at)).answer[4] == NO for at in range(FILES)), "a file isn't there"
+        assert seven.ask(0, submission(FILES)).answer[4] == YES
+        number, _ = kept_in(daemon.folder)
+        assert number > 0, "no journal was begun anew"
+        assert daemon.stop()[0] == 0
+        print(f"    {unknown} submissions were answered Unknown, of which {landed} had landed; the journal was begun anew {number} times")
+
+
 def a_restart_keeps_what_was_answered(made):
     """Stopped and started again, the desk stands as it was: another client's lease is in the way still."""
     with Daemon(*made).start() as daemon:
@@ -167,4 +219,4 @@ def a_restart_keeps_what_was_answered(made):
         assert eight.ask(3, lease(8, 100, writes=True)).answer[4] == 8
 
 
-TESTS = [kfs_serve_killed, kfsd_killed, a_restart_keeps_what_was_answered]
+TESTS = [kfs_serve_killed, kfsd_killed, files_created_under_kills, a_restart_keeps_what_was_answered]
