@@ -26,7 +26,7 @@ const WINDOW: usize = 65_536;
 /// How many processes may end one after another without an answer to the first frame.
 const FRUITLESS: u32 = 5;
 
-/// How long the first new start waits. Each further one in a row waits twice as long.
+/// How long a new start waits. Behind each process in a row that has answered nothing it waits twice as long.
 const PAUSE: Duration = Duration::from_millis(50);
 
 /// How long a process whose pipes have ended may take to end, too.
@@ -133,12 +133,12 @@ impl Desk {
                 return Ok(());
             }
             fault_of(ended.status)?;
-            fruitless = if ended.has_begun { 1 } else { fruitless + 1 };
-            if fruitless > FRUITLESS {
+            fruitless = if ended.has_begun { 0 } else { fruitless + 1 };
+            if fruitless == FRUITLESS {
                 return Err(DeskFault::Fruitless(ended.status));
             }
             warn!("kfs_serve has ended before its input did: {}", ended.status);
-            sleep(PAUSE * 2u32.pow(fruitless - 1)).await;
+            sleep(PAUSE * 2u32.pow(fruitless)).await;
         }
     }
 

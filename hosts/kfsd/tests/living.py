@@ -174,9 +174,10 @@ def files_that_failed_end_it(made):
 
 def a_desk_that_never_opens_ends_it(made):
     """Five processes that end before they have begun, one after another, are enough."""
-    with pretender(Daemon(*made), "sys.exit(4)") as daemon:
+    with pretender(Daemon(*made), "open(sys.argv[2] + '/begun', 'a').write('x'); sys.exit(4)") as daemon:
         daemon.begin()
         assert daemon.ended() == 4 and "one after another" in daemon.said()
+        assert os.path.getsize(f"{daemon.folder}/begun") == 5
 
 
 def a_desk_that_talks_nonsense_is_replaced(made):
