@@ -85,8 +85,7 @@ struct Daemon {
 
 /// Runs until SIGTERM or SIGINT, and stops then.
 pub async fn run(path: &Path) -> Result<(), DaemonFault> {
-    let config = Config::read(path)?;
-    raise_files(&config)?;
+    let config = read_config(path)?;
     let folder = lock(&config).await?;
     let mut signals = Signals::new().map_err(DaemonFault::Signals)?;
     let (daemon, mut ready) = Daemon::start(config, path, folder)?;
@@ -96,6 +95,13 @@ pub async fn run(path: &Path) -> Result<(), DaemonFault> {
     let sockets = Sockets::bind(&daemon.config)?;
     info!("clients may connect to {}", daemon.config.socket.display());
     daemon.serve(sockets, signals).await
+}
+
+/// Reads a configuration, and looks whether as many files may be open as it wants.
+fn read_config(path: &Path) -> Result<Config, DaemonFault> {
+    let config = Config::read(path)?;
+    raise_files(&config)?;
+    Ok(config)
 }
 
 /// Waits until the desk is open. False where it has ended, or a signal says to stop.
@@ -176,7 +182,7 @@ impl Daemon {
 
     /// Reads the users anew. Where the file is wrong all stays as it is.
     fn reload(&mut self) {
-        let config = match Config::read(&self.path) {
+        let config = match read_config(&self.path) {
             Ok(config) => config,
             Err(fault) => return warn!("the users stay as they are: {fault}"),
         };

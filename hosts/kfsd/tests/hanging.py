@@ -129,17 +129,17 @@ def gone_in_the_middle(made):
 
 
 def idle_ones(made):
-    """Two users have 200 idle connections each, and a third one doesn't notice."""
-    with Daemon(*made).start() as daemon:
+    """Two users have 1,000 idle connections each, and a third one doesn't notice."""
+    with Daemon(*made, connections_a_user=1000).start() as daemon:
         other = daemon.connect(9)
         before, small = latencies(other, 10), daemon.resident()
-        idle = [daemon.connect(7 + at % 2) for at in range(400)]
-        daemon.wait_for(lambda: daemon.status()["connections"]["taken"] == 401)
-        compare("400 idle connections", before, latencies(other, 10_000))
+        idle = [daemon.connect(7 + at % 2) for at in range(2000)]
+        daemon.wait_for(lambda: daemon.status()["connections"]["taken"] == 2001)
+        compare("2,000 idle connections", before, latencies(other, 10_000))
         each = (daemon.resident() - small) / len(idle)
         print(f"    an idle connection takes about {each / 1024:.0f} KiB")
         assert each < 64 << 10
-        assert idle[399].ask(1, lease(idle[399].client, 10)).answer
+        assert idle[-1].ask(1, lease(idle[-1].client, 10)).answer
 
 
 def busy(daemon, data):

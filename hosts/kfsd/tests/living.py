@@ -151,6 +151,9 @@ def wrong_configurations(made):
     with Daemon(*made, frame_bytes=1 << 25) as daemon:
         daemon.begin()
         assert daemon.ended() == 1 and "frame_bytes" in daemon.said()
+    with Daemon(*made, connections_a_user=1 << 30) as daemon:
+        daemon.begin()
+        assert daemon.ended() == 1 and "files may be open" in daemon.said()
     with Daemon(*made, users=[user(1, 7), user(2, 7)]) as daemon:
         daemon.begin()
         assert daemon.ended() == 1 and "client 7 is there twice" in daemon.said()

@@ -1,7 +1,6 @@
 """Who may say what, and that each frame has its reply, in order."""
 import contextlib
 import random
-import resource
 import struct
 import threading
 
@@ -87,8 +86,6 @@ def replies_keep_their_order(made):
 
 def many_at_once(made):
     """1,000 connections of 50 users, each with 10 calls under way: each is made once, and answered to who made it."""
-    soft, hard = resource.getrlimit(resource.RLIMIT_NOFILE)
-    resource.setrlimit(resource.RLIMIT_NOFILE, (min(hard, max(soft, 4096)), hard))
     users = [user(2000 + at, 50 + at) for at in range(50)]
     with Daemon(*made, users=users).start() as daemon:
         connections = [daemon.connect(50 + at % 50) for at in range(1000)]
