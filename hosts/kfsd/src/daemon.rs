@@ -1,32 +1,27 @@
 //! From start to stop.
 
 use crate::config::{Config, ConfigFault};
-use crate::connection::{self, Shared};
-use crate::control;
+use crate::connection::Shared;
 use crate::desk::{Desk, DeskFault};
 use crate::figures::Figures;
 use crate::folder::Folder;
-use crate::frames::Refusal;
-use crate::peer::uid_of;
 use crate::queue::Queue;
+use crate::sockets::{accept, Sockets};
 use crate::users::{lines_of, Table};
 use nix::sys::resource::{getrlimit, setrlimit, Resource};
-use std::fs::{self, Permissions};
-use std::io::{self, Write};
-use std::os::unix::fs::{FileTypeExt, PermissionsExt};
+use std::io;
 use std::path::{Path, PathBuf};
 use std::sync::Arc;
 use std::time::Duration;
 use thiserror::Error;
-use tokio::net::{UnixListener, UnixStream};
 use tokio::signal::unix::{signal, SignalKind};
 use tokio::sync::watch;
-use tokio::task::{JoinHandle, JoinSet};
+use tokio::task::JoinHandle;
 use tokio::time::{sleep, timeout};
 use tracing::{info, warn};
 
-/// How long a listener rests where the system has no descriptor left.
-const REST: Duration = Duration::from_millis(100);
+/// How long to wait before the lock of a folder is tried again.
+const AGAIN: Duration = Duration::from_millis(100);
 
 /// Descriptors beside those of connections.
 const OTHER_FILES: u64 = 64;
@@ -211,7 +206,7 @@ async fn lock(config: &Config) -> Result<Folder, DaemonFault> {
         loop {
             match Folder::lock(&config.folder) {
                 Ok(Some(folder)) => return Ok(folder),
-                Ok(None) => sleep(REST).await,
+                Ok(None) => sleep(AGAIN).await,
                 Err(fault) => return Err(DaemonFault::Io(config.folder.clone(), fault)),
             }
         }
@@ -261,104 +256,5 @@ impl Signals {
             _ = self.int.recv() => Asked::Stop,
             _ = self.hup.recv() => Asked::Reload,
         }
-    }
-}
-
-/// A socket of a path, which goes with it.
-struct Socket {
-    listener: UnixListener,
-    path: PathBuf,
-}
-
-impl Socket {
-    /// Binds a path. The folder's lock is held, so a socket that is there is nobody's any more.
-    fn bind(path: &Path, mode: u32) -> Result<Socket, DaemonFault> {
-        let failed = |fault| DaemonFault::Io(path.to_path_buf(), fault);
-        match fs::symlink_metadata(path) {
-            Ok(found) if found.file_type().is_socket() => fs::remove_file(path).map_err(failed)?,
-            Ok(_) => return Err(DaemonFault::NotASocket(path.to_path_buf())),
-            Err(fault) if fault.kind() == io::ErrorKind::NotFound => {}
-            Err(fault) => return Err(failed(fault)),
-        }
-        let listener = UnixListener::bind(path).map_err(failed)?;
-        let socket = Socket { listener, path: path.to_path_buf() };
-        fs::set_permissions(path, Permissions::from_mode(mode)).map_err(failed)?;
-        Ok(socket)
-    }
-}
-
-impl Drop for Socket {
-    fn drop(&mut self) {
-        // Where it stays, the next start removes it.
-        let _ = fs::remove_file(&self.path);
-    }
-}
-
-struct Sockets {
-    clients: Socket,
-    control: Socket,
-}
-
-impl Sockets {
-    fn bind(config: &Config) -> Result<Sockets, DaemonFault> {
-        Ok(Sockets {
-            // Who may do what is looked up in the table of users, so each may connect.
-            clients: Socket::bind(&config.socket, 0o666)?,
-            control: Socket::bind(&config.control, 0o600)?,
-        })
-    }
-}
-
-/// Takes connections until kfsd stops, and returns when all have ended.
-async fn accept(sockets: Sockets, shared: Arc<Shared>) {
-    let mut stopping = shared.stopping.clone();
-    let mut tasks = JoinSet::new();
-    loop {
-        tokio::select! {
-            taken = sockets.clients.listener.accept() => match taken {
-                Ok((stream, _)) => take(stream, &shared, &mut tasks),
-                Err(fault) => rest(fault).await,
-            },
-            taken = sockets.control.listener.accept() => match taken {
-                Ok((stream, _)) => drop(tokio::spawn(control::serve(stream, Arc::clone(&shared)))),
-                Err(fault) => rest(fault).await,
-            },
-            Some(_) = tasks.join_next() => {}
-            _ = stopping.changed() => break,
-        }
-    }
-    drop(sockets);
-    while tasks.join_next().await.is_some() {}
-}
-
-async fn rest(fault: io::Error) {
-    warn!("no connection is taken: {fault}");
-    sleep(REST).await;
-}
-
-/// Has a connection served, where its user is listed and may have one more.
-fn take(stream: UnixStream, shared: &Arc<Shared>, tasks: &mut JoinSet<()>) {
-    let account = uid_of(&stream).ok().and_then(|uid| shared.table.borrow().of(uid));
-    let place = match account {
-        None => Err(Refusal::Unlisted),
-        Some(account) => account.connect(shared.limits.connections_a_user).ok_or(Refusal::TooMany),
-    };
-    match place {
-        Ok(place) => {
-            shared.figures.connections.add(1);
-            tasks.spawn(connection::serve(stream, place, Arc::clone(shared)));
-        }
-        Err(refusal) => {
-            shared.figures.turned_away.add(1);
-            turn_away(stream, refusal);
-        }
-    }
-}
-
-/// Tells why, and closes. A new connection has room for it.
-fn turn_away(stream: UnixStream, refusal: Refusal) {
-    if let Ok(mut stream) = stream.into_std() {
-        // It is told as far as it hears.
-        let _ = stream.write_all(&refusal.reply(0));
     }
 }

@@ -80,7 +80,8 @@ impl Refusal {
 /// A whole reply, with this behind its head.
 pub fn reply(number: u32, said: &[u8]) -> Vec<u8> {
     let mut bytes = Vec::with_capacity(REPLY_HEAD + said.len());
-    bytes.extend_from_slice(&u32::try_from(said.len()).unwrap_or(u32::MAX).to_be_bytes());
+    // What is said has at most `REPLY_LIMIT` bytes.
+    bytes.extend_from_slice(&(said.len() as u32).to_be_bytes());
     bytes.extend_from_slice(&number.to_be_bytes());
     bytes.extend_from_slice(said);
     bytes

@@ -16,4 +16,5 @@ pub mod folder;
 pub mod frames;
 pub mod peer;
 pub mod queue;
+pub mod sockets;
 pub mod users;

@@ -203,6 +203,9 @@ def frames_are_limited(made):
         daemon.kill_desk()
         assert other.reply().refusal == ("Unknown", 0)
         daemon.wait_for(lambda: daemon.status()["user"][0]["connections"] == 0)
+        # what was read meanwhile is at the next process
+        daemon.wait_for(lambda: daemon.said().count("kfs_serve is ready") == 2)
+        settled(daemon, lambda status: status["frames"]["sent"])
         daemon.kill_desk()
         daemon.wait_for(lambda: daemon.status()["user"][0]["frames_left"] == 15)
 

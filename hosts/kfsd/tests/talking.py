@@ -6,6 +6,7 @@ import threading
 
 from running import FRONT, HELLO, Daemon, frame, lease, user
 
+LONGEST = 16_777_216
 TICK = struct.pack(">BQ", 4, 10)
 
 
@@ -66,6 +67,22 @@ def long_and_cut_frames(made):
             cut.socket.sendall(bytes(count))
             cut.socket.shutdown(1)
             assert cut.is_ended()
+
+
+def the_longest_frames(made):
+    """With the greatest limit the longest call is made, and one byte more is too long."""
+    with Daemon(*made, frame_bytes=LONGEST, bytes_a_connection=LONGEST + 256, bytes_a_user=LONGEST + 256).start() as daemon:
+        seven = daemon.connect(7)
+        log = LONGEST - 13
+        call = struct.pack(">BII", 1, 7, log) + bytes(log) + bytes(4)
+        assert len(call) == LONGEST
+        # 02: No, since these bytes are no log
+        assert seven.ask(1, call).answer[4] == 2
+        assert seven.ask(2, call + b"x").refusal == ("TooLong", 0)
+        assert seven.ask(3, b"\x63" * LONGEST).refusal == ("BadField", 0)
+        assert seven.ask(4, lease(7, 10)).answer
+        print(f"    kfsd has {daemon.resident() / (1 << 20):.0f} MiB behind frames of 16 MiB")
+        assert daemon.stop()[0] == 0
 
 
 def replies_keep_their_order(made):
@@ -155,4 +172,4 @@ def random_streams(made):
         assert set(daemon.kept()) == {lease(9, 10)}
 
 
-TESTS = [a_client_is_named_by_the_kernel, a_stranger_is_refused, long_and_cut_frames, replies_keep_their_order, many_at_once, random_frames, random_streams]
+TESTS = [a_client_is_named_by_the_kernel, a_stranger_is_refused, long_and_cut_frames, the_longest_frames, replies_keep_their_order, many_at_once, random_frames, random_streams]
