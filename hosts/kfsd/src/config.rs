@@ -39,7 +39,7 @@ pub struct Config {
     pub program: PathBuf,
     /// How many blocks of 4 KiB each tier has, for the first start.
     pub tiers: [u32; 3],
-    /// How many rows the docket may have between two starts of `kfs_serve`.
+    /// How many rows the docket may have.
     #[serde(default = "most_rows")]
     pub rows: u32,
     #[serde(default)]

@@ -175,6 +175,18 @@ def files_that_failed_end_it(made):
         assert daemon.ended() == 3 and "have failed" in daemon.said()
 
 
+def files_that_are_not_whole_end_it(made):
+    """One of the two files, two empty ones, or files without the list of their clients: kfsd says so and touches nothing."""
+    for names, status, word in ((["clients", "first.kdjl"], 3, "one of the two files"), (["first.kdjl", "second.kdjl", "clients"], 3, "have failed"), (["first.kdjl", "second.kdjl"], 1, "clients: No such file")):
+        with Daemon(*made) as daemon:
+            for name in names:
+                with open(f"{daemon.folder}/{name}", "wb"):
+                    pass
+            daemon.begin()
+            assert daemon.ended() == status and word in daemon.said(), (names, status)
+            assert sorted(os.listdir(daemon.folder)) == sorted([*names, "lock"])
+
+
 def a_desk_that_never_opens_ends_it(made):
     """Five processes that end before they have begun, one after another, are enough."""
     with pretender(Daemon(*made), "open(sys.argv[2] + '/begun', 'a').write('x'); sys.exit(4)") as daemon:
@@ -214,6 +226,6 @@ def stops_before_it_is_open(made):
 
 TESTS = [
     runs_without_privilege, stops_cleanly, stops_in_time, sockets_are_guarded, one_daemon_a_folder, the_example_is_right, users_are_read_anew, wrong_configurations,
-    files_that_failed_end_it, a_desk_that_never_opens_ends_it, a_desk_that_talks_nonsense_is_replaced, a_desk_that_hangs_is_killed_at_the_end,
+    files_that_failed_end_it, files_that_are_not_whole_end_it, a_desk_that_never_opens_ends_it, a_desk_that_talks_nonsense_is_replaced, a_desk_that_hangs_is_killed_at_the_end,
     stops_before_it_is_open,
 ]
