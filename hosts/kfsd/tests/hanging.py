@@ -57,9 +57,9 @@ def readers_that_never_read(made):
         assert max(taken) < 8 << 20, taken
         assert daemon.resident() < MEMORY, daemon.resident()
         daemon.wait_for(lambda: daemon.status()["user"][0]["connections"] == 0)
-        status = daemon.status()
-        assert status["connections"]["too_slow"] >= 1
-        assert status["user"][0]["frames_left"] == 256 and status["user"][0]["bytes_left"] == 32 << 20
+        assert daemon.status()["connections"]["too_slow"] >= 1
+        daemon.wait_for(lambda: daemon.frames_left() == 256)
+        assert daemon.status()["user"][0]["bytes_left"] == 32 << 20
         assert daemon.connect(7).ask(1, lease(7, 10)).answer
 
 
@@ -123,8 +123,8 @@ def gone_in_the_middle(made):
             if at % 50 == 0:
                 assert other.ask(1, lease(9, 10)).answer
         daemon.wait_for(lambda: daemon.status()["user"][0]["connections"] == 0)
-        mine = daemon.status()["user"][0]
-        assert mine["frames_left"] == 1024 and mine["bytes_left"] == 32 << 20
+        daemon.wait_for(lambda: daemon.frames_left() == 1024)
+        assert daemon.status()["user"][0]["bytes_left"] == 32 << 20
         assert daemon.status()["kfs_serve"]["starts"] == 1
 
 
@@ -192,14 +192,15 @@ def frames_are_limited(made):
         assert settled(daemon, lambda status: status["frames"]["sent"]) == 10
         mine[1].socket.sendall(data)
         assert settled(daemon, lambda status: status["frames"]["sent"]) == 15
-        assert daemon.status()["user"][0]["frames_left"] == 0
+        assert daemon.frames_left() == 0
         other = daemon.connect(9)
         other.send(1, lease(9, 10))
         assert settled(daemon, lambda status: status["frames"]["sent"]) == 16
         # gone, they have their places until the desk has answered, or has ended
         for it in mine:
             it.close()
-        assert settled(daemon, lambda status: status["user"][0]["frames_left"]) == 0
+        time.sleep(0.5)
+        assert daemon.frames_left() == 0
         daemon.kill_desk()
         assert other.reply().refusal == ("Unknown", 0)
         daemon.wait_for(lambda: daemon.status()["user"][0]["connections"] == 0)
@@ -207,7 +208,7 @@ def frames_are_limited(made):
         daemon.wait_for(lambda: daemon.said().count("kfs_serve is ready") == 2)
         settled(daemon, lambda status: status["frames"]["sent"])
         daemon.kill_desk()
-        daemon.wait_for(lambda: daemon.status()["user"][0]["frames_left"] == 15)
+        daemon.wait_for(lambda: daemon.frames_left() == 15)
 
 
 def bytes_are_limited(made):

@@ -131,7 +131,7 @@ def kfs_serve_killed(made):
     """kfs_serve is killed 12 times under load of 8 users. Their connections stay, and each call under way is told."""
     with Shared(*made, users=USERS).start() as daemon:
         clients = run_with_kills(daemon, 12, daemon.kill_desk)
-        assert daemon.status()["kfs_serve"]["starts"] > 8
+        daemon.wait_for(lambda: daemon.status()["kfs_serve"]["starts"] == 13)
         assert all(it.gone == 0 for it in clients), "a connection ended"
         assert daemon.status()["frames"]["unknown"] == sum(it.unknown for it in clients)
         assert daemon.stop()[0] == 0

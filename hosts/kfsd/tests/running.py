@@ -1,5 +1,4 @@
 """A running kfsd, connections to it as any user, and what its files keep."""
-import contextlib
 import importlib.machinery
 import importlib.util
 import json
@@ -182,11 +181,34 @@ class Daemon:
         return tomllib.loads(subprocess.run(words, check=True, capture_output=True, text=True, timeout=SOON).stdout)
 
     def kill_desk(self):
-        """Kills kfs_serve."""
-        with contextlib.suppress(ProcessLookupError):
-            pid = self.status()["kfs_serve"]["process"]
-            if pid:
-                os.kill(pid, signal.SIGKILL)
+        """Kills kfs_serve, once it runs."""
+        self.wait_for(self.has_killed_desk)
+
+    def has_killed_desk(self):
+        """Kills the process that kfsd names, where it is a child of kfsd. Returns whether it was."""
+        pid = self.status()["kfs_serve"]["process"]
+        if pid == 0:
+            return False
+        try:
+            # by this the process is meant, and not another one that has its number by then
+            held = os.pidfd_open(pid)
+        except ProcessLookupError:
+            return False
+        try:
+            with open(f"/proc/{pid}/stat", encoding="ascii", errors="replace") as it:
+                state, parent = it.read().rpartition(")")[2].split()[:2]
+            is_mine = state != "Z" and int(parent) == self.process.pid
+            if is_mine:
+                signal.pidfd_send_signal(held, signal.SIGKILL)
+            return is_mine
+        except (FileNotFoundError, ProcessLookupError):
+            return False
+        finally:
+            os.close(held)
+
+    def frames_left(self, client=7):
+        """How many frames more a user may have under way."""
+        return next(it["frames_left"] for it in self.status()["user"] if it["client"] == client)
 
     def stop(self):
         """Tells it to stop. Returns its status, and how long that took."""
