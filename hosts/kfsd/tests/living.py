@@ -5,7 +5,6 @@ import signal
 import socket
 import stat
 import subprocess
-import sys
 import tomllib
 
 from running import READY, TOP, Daemon, Gone, frame, lease, pretender, user

@@ -60,7 +60,6 @@ class Connection:
     def __init__(self, path, uid, client):
         self.client = client
         self.socket = socket.socket(socket.AF_UNIX)
-        self.socket.settimeout(SOON)
         self.left = b""
         own = os.geteuid()
         if uid != own:
@@ -70,6 +69,8 @@ class Connection:
         finally:
             if uid != own:
                 os.seteuid(own)
+        # not before: with a time, a connection isn't waited for where many are in line
+        self.socket.settimeout(SOON)
 
     def send(self, number, body, sender=None):
         self.socket.sendall(frame(number, self.client if sender is None else sender, body))
