@@ -195,7 +195,7 @@ impl<R: AsyncRead + Unpin> Reader<'_, R> {
         }
         let (to, answer) = oneshot::channel();
         let asker = Asker { to, frame: Arc::clone(&frame) };
-        self.shared.queue.push(Call { client, body, bytes: Some(bytes), asker });
+        self.shared.queue.push(Call { client, body, bytes, asker });
         self.put(head, frame, Said::Waits(answer)).await
     }
 

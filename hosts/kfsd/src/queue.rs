@@ -32,7 +32,7 @@ pub struct Call {
     pub client: u32,
     pub body: Vec<u8>,
     /// The bytes that it takes, until it is sent.
-    pub bytes: Option<Permits>,
+    pub bytes: Permits,
     pub asker: Asker,
 }
 
@@ -229,7 +229,7 @@ mod tests {
     fn call(client: u32, length: usize) -> (Call, oneshot::Receiver<Answer>) {
         let (to, answer) = oneshot::channel();
         let asker = Asker { to, frame: Arc::new(permits()) };
-        (Call { client, body: vec![7; length], bytes: Some(permits()), asker }, answer)
+        (Call { client, body: vec![7; length], bytes: permits(), asker }, answer)
     }
 
     /// The clients of the frames in these bytes, with the length of each body.
