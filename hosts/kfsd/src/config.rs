@@ -1,0 +1,212 @@
+//! The file that an administrator writes.
+
+use crate::frames::BODY_LIMIT;
+use crate::users::{User, UsersFault};
+use serde::Deserialize;
+use std::path::{Path, PathBuf};
+use std::time::Duration;
+use thiserror::Error;
+
+/// What a head and the bookkeeping of a frame count for, beside its body.
+pub const FRAME_COST: u32 = 256;
+
+/// Why a configuration isn't taken.
+#[derive(Debug, Error)]
+pub enum ConfigFault {
+    #[error("{0} can't be read: {1}")]
+    Unread(PathBuf, std::io::Error),
+    #[error("{0}: {1}")]
+    Toml(PathBuf, toml::de::Error),
+    #[error("limits: {0}")]
+    Limit(&'static str),
+    #[error("socket and control are one path")]
+    OneSocket,
+    #[error(transparent)]
+    Users(#[from] UsersFault),
+}
+
+/// The whole file.
+#[derive(Clone, Debug, Deserialize)]
+#[serde(deny_unknown_fields)]
+pub struct Config {
+    /// Where clients connect.
+    pub socket: PathBuf,
+    /// Where `kfsctl` connects.
+    pub control: PathBuf,
+    /// The folder of the two files, which kfsd has for itself.
+    pub folder: PathBuf,
+    /// The program `kfs_serve`.
+    pub program: PathBuf,
+    /// How many blocks of 4 KiB each tier has, for the first start.
+    pub tiers: [u32; 3],
+    /// How many rows the docket may have.
+    #[serde(default = "most_rows")]
+    pub rows: u32,
+    #[serde(default)]
+    pub limits: Limits,
+    #[serde(default, rename = "user")]
+    pub users: Vec<User>,
+}
+
+fn most_rows() -> u32 {
+    u32::MAX
+}
+
+/// What clients may take, and how long they may take for it.
+#[derive(Clone, Copy, Debug, Deserialize, PartialEq, Eq)]
+#[serde(default, deny_unknown_fields)]
+pub struct Limits {
+    /// Connections of a user.
+    pub connections_a_user: u32,
+    /// The longest body. A longer one is passed over and refused.
+    pub frame_bytes: u32,
+    /// Frames of a connection, and of a user, that have come and whose replies aren't written yet.
+    pub frames_a_connection: u32,
+    pub frames_a_user: u32,
+    /// Bytes of a connection, and of a user, in frames that come or wait for `kfs_serve`.
+    pub bytes_a_connection: u32,
+    pub bytes_a_user: u32,
+    /// How long a frame may take from its first byte to its last.
+    pub frame_seconds: u64,
+    /// How long a reply may wait for its reader.
+    pub reply_seconds: u64,
+    /// How long a stop may wait for what is under way.
+    pub stop_seconds: u64,
+}
+
+impl Default for Limits {
+    fn default() -> Limits {
+        Limits {
+            connections_a_user: 256,
+            frame_bytes: 4 << 20,
+            frames_a_connection: 64,
+            frames_a_user: 1024,
+            bytes_a_connection: 8 << 20,
+            bytes_a_user: 32 << 20,
+            frame_seconds: 30,
+            reply_seconds: 30,
+            stop_seconds: 20,
+        }
+    }
+}
+
+impl Limits {
+    /// How long a frame may take.
+    pub fn frame_time(&self) -> Duration {
+        Duration::from_secs(self.frame_seconds)
+    }
+
+    /// How long a reply may wait.
+    pub fn reply_time(&self) -> Duration {
+        Duration::from_secs(self.reply_seconds)
+    }
+
+    /// How long a stop may wait.
+    pub fn stop_time(&self) -> Duration {
+        Duration::from_secs(self.stop_seconds)
+    }
+
+    fn check(&self) -> Result<(), ConfigFault> {
+        let longest = self.frame_bytes.saturating_add(FRAME_COST);
+        let wrong = [
+            (self.connections_a_user == 0, "no connection is allowed"),
+            (self.frames_a_connection == 0 || self.frames_a_user == 0, "no frame is allowed"),
+            (self.frame_bytes > BODY_LIMIT, "frame_bytes is over 16,777,216"),
+            (self.bytes_a_connection < longest, "bytes_a_connection is less than a longest frame and 256"),
+            (self.bytes_a_user < longest, "bytes_a_user is less than a longest frame and 256"),
+            (self.frame_seconds == 0 || self.reply_seconds == 0, "no time is left for a frame or a reply"),
+        ];
+        match wrong.iter().find(|(is_wrong, _)| *is_wrong) {
+            Some((_, why)) => Err(ConfigFault::Limit(why)),
+            None => Ok(()),
+        }
+    }
+}
+
+impl Config {
+    /// The configuration in a file.
+    pub fn read(path: &Path) -> Result<Config, ConfigFault> {
+        let text = std::fs::read_to_string(path).map_err(|fault| ConfigFault::Unread(path.to_path_buf(), fault))?;
+        Config::of_text(&text, path)
+    }
+
+    fn of_text(text: &str, path: &Path) -> Result<Config, ConfigFault> {
+        let config: Config = toml::from_str(text).map_err(|fault| ConfigFault::Toml(path.to_path_buf(), fault))?;
+        config.limits.check()?;
+        if config.socket == config.control {
+            return Err(ConfigFault::OneSocket);
+        }
+        crate::users::check(&config.users)?;
+        Ok(config)
+    }
+
+    /// Whether all but the users is the same.
+    pub fn differs_in_users_alone(&self, other: &Config) -> bool {
+        self.socket == other.socket
+            && self.control == other.control
+            && self.folder == other.folder
+            && self.program == other.program
+            && self.tiers == other.tiers
+            && self.rows == other.rows
+            && self.limits == other.limits
+    }
+}
+
+#[cfg(test)]
+mod tests {
+    use super::*;
+
+    const SMALL: &str = r#"
+        socket = "/run/s"
+        control = "/run/c"
+        folder = "/var/lib/kfsd"
+        program = "/usr/lib/kfs_serve"
+        tiers = [4, 16, 64]
+        [[user]]
+        uid = 1000
+        gid = 1000
+        client = 7
+        grant = [2, 99]
+    "#;
+
+    fn read(text: &str) -> Result<Config, ConfigFault> {
+        Config::of_text(text, Path::new("kfsd.toml"))
+    }
+
+    #[test]
+    fn what_is_left_out_has_its_default() {
+        let config = read(SMALL).unwrap();
+        assert_eq!(config.rows, u32::MAX);
+        assert_eq!(config.limits, Limits::default());
+        assert_eq!(config.users[0].groups, Vec::<u32>::new());
+        assert!(!config.users[0].privileged);
+    }
+
+    #[test]
+    fn the_default_limits_are_right() {
+        assert!(Limits::default().check().is_ok());
+    }
+
+    #[test]
+    fn an_unknown_name_is_refused() {
+        assert!(matches!(read(&format!("sockets = 1\n{SMALL}")), Err(ConfigFault::Toml(..))));
+        assert!(matches!(read(&format!("{SMALL}\nprivilege = true")), Err(ConfigFault::Toml(..))));
+    }
+
+    #[test]
+    fn limits_below_a_frame_are_refused() {
+        let text = format!("{SMALL}\n[limits]\nframe_bytes = 1000\nbytes_a_user = 1255");
+        assert!(matches!(read(&text), Err(ConfigFault::Limit(_))));
+        let text = format!("{SMALL}\n[limits]\nframe_bytes = 1000\nbytes_a_user = 1256");
+        assert!(read(&text).is_ok());
+    }
+
+    #[test]
+    fn other_users_are_told_from_another_folder() {
+        let one = read(SMALL).unwrap();
+        let two = read(&SMALL.replace("1000", "1001")).unwrap();
+        let three = read(&SMALL.replace("/var/lib/kfsd", "/srv")).unwrap();
+        assert!(one.differs_in_users_alone(&two));
+        assert!(!one.differs_in_users_alone(&three));
+    }
+}

@@ -1,0 +1,243 @@
+//! One connection: frames are read, stamped and handed to the desk, and their replies are written in the same order.
+//!
+//! What it waits for is its own: its reader's bytes, its writer's room, and places of its own user. So it holds up no other user.
+
+use crate::config::{Limits, FRAME_COST};
+use crate::figures::Figures;
+use crate::frames::{asked, reply, welcome, Asked, Head, Refusal, HEAD};
+use crate::queue::{Answer, Asker, Call, Permits, Queue};
+use crate::users::{Account, Place, Table};
+use std::io;
+use std::sync::Arc;
+use std::time::Duration;
+use tokio::io::{sink, AsyncRead, AsyncReadExt, AsyncWrite, AsyncWriteExt, BufReader};
+use tokio::net::UnixStream;
+use tokio::sync::{mpsc, oneshot, watch, AcquireError, Semaphore};
+use tokio::time::timeout;
+use tracing::debug;
+
+/// How many bytes of small frames are read at once.
+const BUFFER: usize = 4096;
+
+/// What all connections share.
+#[derive(Debug)]
+pub struct Shared {
+    pub queue: Queue,
+    pub figures: Figures,
+    pub limits: Limits,
+    /// The users that may be connected now.
+    pub table: watch::Receiver<Arc<Table>>,
+    /// Whether no frame is read any more.
+    pub stopping: watch::Receiver<bool>,
+}
+
+/// Why no frame is read any more.
+enum End {
+    /// The input has ended, or can't be read.
+    Input,
+    /// A frame takes too long.
+    Slow,
+    /// kfsd is at fault.
+    Limits,
+}
+
+impl From<io::Error> for End {
+    fn from(_fault: io::Error) -> End {
+        End::Input
+    }
+}
+
+impl From<tokio::time::error::Elapsed> for End {
+    fn from(_fault: tokio::time::error::Elapsed) -> End {
+        End::Slow
+    }
+}
+
+impl From<AcquireError> for End {
+    fn from(_fault: AcquireError) -> End {
+        End::Limits
+    }
+}
+
+impl<T> From<mpsc::error::SendError<T>> for End {
+    fn from(_fault: mpsc::error::SendError<T>) -> End {
+        End::Input
+    }
+}
+
+/// The place of a frame's reply.
+struct Slot {
+    number: u32,
+    said: Said,
+    /// The frame is under way until its reply is written.
+    _frame: Arc<Permits>,
+}
+
+enum Said {
+    /// The whole reply.
+    Here(Vec<u8>),
+    /// It comes from the desk.
+    Waits(oneshot::Receiver<Answer>),
+}
+
+/// Serves a connection to its end.
+pub async fn serve(stream: UnixStream, place: Place, shared: Arc<Shared>) {
+    let limits = &shared.limits;
+    let (from, to) = stream.into_split();
+    // There is room for as many as may be under way, so a reader doesn't wait here.
+    let (slots, waiting) = mpsc::channel(limits.frames_a_connection as usize);
+    let mut reader = Reader {
+        from: BufReader::with_capacity(BUFFER, from),
+        slots,
+        account: Arc::clone(&place.account),
+        frames: Arc::new(Semaphore::new(limits.frames_a_connection as usize)),
+        bytes: Arc::new(Semaphore::new(limits.bytes_a_connection as usize)),
+        shared: &shared,
+    };
+    let reading = async {
+        let end = tokio::select! {
+            end = reader.read_all() => end,
+            () = closing(&shared, &place.account) => End::Input,
+        };
+        drop(reader);
+        end
+    };
+    let writing = write_replies(to, waiting, limits.reply_time());
+    tokio::pin!(reading, writing);
+    let is_slow = tokio::select! {
+        written = &mut writing => written.is_err(),
+        end = &mut reading => writing.await.is_err() || matches!(end, End::Slow),
+    };
+    if is_slow {
+        shared.figures.too_slow.add(1);
+        debug!("a connection of user {} was too slow", place.account.user.uid);
+    }
+}
+
+/// Returns when the user isn't listed any more, or kfsd stops.
+async fn closing(shared: &Shared, account: &Arc<Account>) {
+    let (mut table, mut stopping) = (shared.table.clone(), shared.stopping.clone());
+    loop {
+        let is_listed = match table.borrow_and_update().of(account.user.uid) {
+            Some(now) => Arc::ptr_eq(&now, account),
+            None => false,
+        };
+        if !is_listed || *stopping.borrow_and_update() {
+            return;
+        }
+        let is_gone = tokio::select! {
+            changed = table.changed() => changed.is_err(),
+            changed = stopping.changed() => changed.is_err(),
+        };
+        if is_gone {
+            return;
+        }
+    }
+}
+
+/// The half of a connection that frames come from.
+struct Reader<'a, R> {
+    from: BufReader<R>,
+    slots: mpsc::Sender<Slot>,
+    account: Arc<Account>,
+    frames: Arc<Semaphore>,
+    bytes: Arc<Semaphore>,
+    shared: &'a Shared,
+}
+
+impl<R: AsyncRead + Unpin> Reader<'_, R> {
+    /// Reads frames until there is no more to read.
+    async fn read_all(&mut self) -> End {
+        loop {
+            if let Err(end) = self.read_one().await {
+                return end;
+            }
+        }
+    }
+
+    /// Reads a frame, and has it answered.
+    async fn read_one(&mut self) -> Result<(), End> {
+        let head = self.read_head().await?;
+        let frame = Arc::new(take(&self.frames, &self.account.frames, 1).await?);
+        let time = self.shared.limits.frame_time();
+        if head.length > self.shared.limits.frame_bytes {
+            let passed = timeout(time, tokio::io::copy(&mut (&mut self.from).take(head.length.into()), &mut sink())).await?;
+            let is_whole = matches!(passed, Ok(count) if count == u64::from(head.length));
+            return self.refuse(head, frame, if is_whole { Refusal::TooLong } else { Refusal::CutShort }).await;
+        }
+        let bytes = take(&self.bytes, &self.account.bytes, head.length + FRAME_COST).await?;
+        let mut body = vec![0; head.length as usize];
+        if timeout(time, self.from.read_exact(&mut body)).await?.is_err() {
+            return self.refuse(head, frame, Refusal::CutShort).await;
+        }
+        self.answer(head, body, bytes, frame).await
+    }
+
+    /// Reads a head. It may be long until the first byte comes.
+    async fn read_head(&mut self) -> Result<Head, End> {
+        let mut head = [0; HEAD];
+        self.from.read_exact(&mut head[..1]).await?;
+        timeout(self.shared.limits.frame_time(), self.from.read_exact(&mut head[1..])).await??;
+        Ok(Head::of(head))
+    }
+
+    /// Answers a frame that is whole, or hands it to the desk.
+    async fn answer(&self, head: Head, body: Vec<u8>, bytes: Permits, frame: Arc<Permits>) -> Result<(), End> {
+        let client = self.account.user.client;
+        let what = asked(&body);
+        let is_own = head.from == client && what != Asked::OfFront && !matches!(what, Asked::Of(other) if other != client);
+        if !is_own {
+            return self.refuse(head, frame, Refusal::NotYours).await;
+        }
+        if what == Asked::Hello {
+            let said = welcome(head.number, client, self.account.user.grant);
+            return self.put(head, frame, Said::Here(said)).await;
+        }
+        let (to, answer) = oneshot::channel();
+        let asker = Asker { to, frame: Arc::clone(&frame) };
+        self.shared.queue.push(Call { client, body, bytes, asker });
+        self.put(head, frame, Said::Waits(answer)).await
+    }
+
+    async fn refuse(&self, head: Head, frame: Arc<Permits>, refusal: Refusal) -> Result<(), End> {
+        self.put(head, frame, Said::Here(refusal.reply(head.number))).await
+    }
+
+    /// Puts the reply of a frame behind those before it.
+    async fn put(&self, head: Head, frame: Arc<Permits>, said: Said) -> Result<(), End> {
+        if matches!(said, Said::Here(_)) {
+            self.shared.figures.answered_here.add(1);
+        }
+        self.slots.send(Slot { number: head.number, said, _frame: frame }).await?;
+        Ok(())
+    }
+}
+
+/// Takes so many places of the connection, and then of its user, when they are free.
+async fn take(of_connection: &Arc<Semaphore>, of_user: &Arc<Semaphore>, count: u32) -> Result<Permits, AcquireError> {
+    let of_connection = Arc::clone(of_connection).acquire_many_owned(count).await?;
+    let of_user = Arc::clone(of_user).acquire_many_owned(count).await?;
+    Ok(Permits { of_connection, of_user })
+}
+
+/// Writes replies in the order of their frames, each as soon as it is there.
+async fn write_replies(
+    mut to: impl AsyncWrite + Unpin,
+    mut waiting: mpsc::Receiver<Slot>,
+    time: Duration,
+) -> Result<(), tokio::time::error::Elapsed> {
+    while let Some(slot) = waiting.recv().await {
+        let bytes = match slot.said {
+            Said::Here(bytes) => bytes,
+            Said::Waits(answer) => match answer.await {
+                Ok(Answer::Said(found)) => reply(slot.number, &found.said),
+                Ok(Answer::NeverSent) => Refusal::Stopping.reply(slot.number),
+                Err(_) => Refusal::Unknown.reply(slot.number),
+            },
+        };
+        if timeout(time, to.write_all(&bytes)).await?.is_err() {
+            break;
+        }
+    }
+    Ok(())
+}

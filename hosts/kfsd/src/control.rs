@@ -1,0 +1,48 @@
+//! The socket of `kfsctl`: one line that asks, and a text that answers.
+
+use crate::connection::Shared;
+use crate::figures::status;
+use crate::peer::{is_administrator, uid_of};
+use std::io;
+use std::sync::Arc;
+use std::time::Duration;
+use tokio::io::{AsyncBufReadExt, AsyncReadExt, AsyncWriteExt, BufReader};
+use tokio::net::UnixStream;
+use tokio::time::timeout;
+use tracing::debug;
+
+/// How long one question may take.
+const TIME: Duration = Duration::from_secs(5);
+
+/// The most bytes of a question.
+const LINE: u64 = 64;
+
+/// Answers one question, where an administrator asks.
+pub async fn serve(stream: UnixStream, shared: Arc<Shared>) {
+    match timeout(TIME, answer(stream, &shared)).await {
+        Ok(Ok(())) => {}
+        Ok(Err(fault)) => debug!("control: {fault}"),
+        Err(_) => debug!("control: too slow"),
+    }
+}
+
+async fn answer(mut stream: UnixStream, shared: &Shared) -> io::Result<()> {
+    if !is_administrator(uid_of(&stream)?) {
+        return stream.write_all(b"# not allowed\n").await;
+    }
+    let mut line = String::new();
+    BufReader::new((&mut stream).take(LINE)).read_line(&mut line).await?;
+    let text = match line.as_str() {
+        "status\n" => status_of(shared),
+        _ => "# unknown\n".to_string(),
+    };
+    stream.write_all(text.as_bytes()).await
+}
+
+fn status_of(shared: &Shared) -> String {
+    let table = Arc::clone(&shared.table.borrow());
+    match status(&shared.figures, &table, shared.queue.len()) {
+        Ok(text) => text,
+        Err(fault) => format!("# {fault}\n"),
+    }
+}

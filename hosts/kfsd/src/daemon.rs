@@ -1,0 +1,260 @@
+//! From start to stop.
+
+use crate::config::{Config, ConfigFault};
+use crate::connection::Shared;
+use crate::desk::{Desk, DeskFault};
+use crate::figures::Figures;
+use crate::folder::Folder;
+use crate::queue::Queue;
+use crate::sockets::{accept, Sockets};
+use crate::users::{lines_of, Table};
+use nix::sys::resource::{getrlimit, setrlimit, Resource};
+use std::io;
+use std::path::{Path, PathBuf};
+use std::sync::Arc;
+use std::time::Duration;
+use thiserror::Error;
+use tokio::signal::unix::{signal, SignalKind};
+use tokio::sync::watch;
+use tokio::task::JoinHandle;
+use tokio::time::{sleep, timeout};
+use tracing::{info, warn};
+
+/// How long to wait before the lock of a folder is tried again.
+const AGAIN: Duration = Duration::from_millis(100);
+
+/// Descriptors beside those of connections.
+const OTHER_FILES: u64 = 64;
+
+/// Why kfsd ends before it is told to, or can't stop in time.
+#[derive(Debug, Error)]
+pub enum DaemonFault {
+    #[error(transparent)]
+    Config(#[from] ConfigFault),
+    #[error("{0}: {1}")]
+    Io(PathBuf, io::Error),
+    #[error("{0}: another kfsd has it, or the kfs_serve of one that was killed")]
+    Locked(PathBuf),
+    #[error("{0} isn't a socket")]
+    NotASocket(PathBuf),
+    #[error("at most {0} files may be open, and {1} connections are allowed: raise the one or lower connections_a_user")]
+    Files(u64, u64),
+    #[error("signals: {0}")]
+    Signals(io::Error),
+    #[error(transparent)]
+    Desk(#[from] DeskFault),
+    #[error("kfs_serve hasn't ended in time, and was killed; what was answered is kept")]
+    Killed,
+    #[error("kfsd itself: {0}")]
+    Task(#[from] tokio::task::JoinError),
+}
+
+impl DaemonFault {
+    /// The exit status: 3 where the desk's files have failed, 4 where `kfs_serve` doesn't run or doesn't end, and else 1.
+    pub fn status(&self) -> u8 {
+        match self {
+            DaemonFault::Desk(DeskFault::Files | DeskFault::HalfMade(_) | DeskFault::Folder(_)) => 3,
+            DaemonFault::Desk(DeskFault::Fruitless(_)) | DaemonFault::Killed | DaemonFault::Task(_) => 4,
+            // A program that isn't there is the configuration's fault, and one that can't be run for now isn't.
+            DaemonFault::Desk(DeskFault::Process(_, fault)) if !is_wrong_path(fault) => 4,
+            _ => 1,
+        }
+    }
+}
+
+fn is_wrong_path(fault: &io::Error) -> bool {
+    matches!(fault.kind(), io::ErrorKind::NotFound | io::ErrorKind::PermissionDenied)
+}
+
+/// What runs beside the connections.
+struct Daemon {
+    config: Config,
+    path: PathBuf,
+    /// The clients that the desk has.
+    clients: String,
+    shared: Arc<Shared>,
+    table: watch::Sender<Arc<Table>>,
+    stopping: watch::Sender<bool>,
+    desk: JoinHandle<Result<(), DeskFault>>,
+}
+
+/// Runs until SIGTERM or SIGINT, and stops then.
+pub async fn run(path: &Path) -> Result<(), DaemonFault> {
+    let config = read_config(path)?;
+    let folder = lock(&config).await?;
+    let mut signals = Signals::new().map_err(DaemonFault::Signals)?;
+    let (daemon, mut ready) = Daemon::start(config, path, folder)?;
+    if !is_opened(&mut ready, &mut signals).await {
+        return daemon.end_desk().await;
+    }
+    let sockets = Sockets::bind(&daemon.config)?;
+    info!("clients may connect to {}", daemon.config.socket.display());
+    daemon.serve(sockets, signals).await
+}
+
+/// Reads a configuration, and looks whether as many files may be open as it wants.
+fn read_config(path: &Path) -> Result<Config, DaemonFault> {
+    let config = Config::read(path)?;
+    raise_files(&config)?;
+    Ok(config)
+}
+
+/// Waits until the desk is open. False where it has ended, or a signal says to stop.
+async fn is_opened(ready: &mut watch::Receiver<bool>, signals: &mut Signals) -> bool {
+    loop {
+        tokio::select! {
+            // Where the desk has ended, nobody changes this any more.
+            changed = ready.changed() => return changed.is_ok(),
+            asked = signals.next() => if matches!(asked, Asked::Stop) {
+                return false;
+            },
+        }
+    }
+}
+
+impl Daemon {
+    fn start(config: Config, path: &Path, folder: Folder) -> Result<(Daemon, watch::Receiver<bool>), DaemonFault> {
+        let clients =
+            folder.clients(&lines_of(&config.users)).map_err(|fault| DaemonFault::Io(folder.clients_path(), fault))?;
+        let first = table_of(&config, &clients, &Table::default());
+        let (table, tables) = watch::channel(Arc::new(first));
+        let (stopping, stops) = watch::channel(false);
+        let (is_ready, ready) = watch::channel(false);
+        let shared = Arc::new(Shared {
+            queue: Queue::default(),
+            figures: Figures::default(),
+            limits: config.limits,
+            table: tables,
+            stopping: stops,
+        });
+        let desk = Desk { program: config.program.clone(), folder: Arc::new(folder), rows: config.rows, tiers: config.tiers };
+        let of_desk = Arc::clone(&shared);
+        let desk = tokio::spawn(async move {
+            let ended = desk.run(&of_desk.queue, &of_desk.figures, &is_ready).await;
+            // Nobody answers any more.
+            of_desk.queue.give_up();
+            ended
+        });
+        Ok((Daemon { config, path: path.to_path_buf(), clients, shared, table, stopping, desk }, ready))
+    }
+
+    /// Serves connections until a signal says to stop, or the desk is lost.
+    async fn serve(mut self, sockets: Sockets, mut signals: Signals) -> Result<(), DaemonFault> {
+        let accepting = tokio::spawn(accept(sockets, Arc::clone(&self.shared)));
+        let lost = loop {
+            tokio::select! {
+                asked = signals.next() => match asked {
+                    Asked::Reload => self.reload(),
+                    Asked::Stop => break None,
+                },
+                ended = &mut self.desk => break Some(ended),
+            }
+        };
+        info!("stopping");
+        self.stopping.send_replace(true);
+        if timeout(self.config.limits.stop_time(), accepting).await.is_err() {
+            warn!("some connections haven't ended in time");
+        }
+        match lost {
+            Some(ended) => Ok(ended??),
+            None => self.end_desk().await,
+        }
+    }
+
+    /// Ends the desk, once what waits is answered.
+    async fn end_desk(mut self) -> Result<(), DaemonFault> {
+        self.shared.queue.close();
+        match timeout(self.config.limits.stop_time(), &mut self.desk).await {
+            Ok(ended) => Ok(ended??),
+            Err(_) => {
+                // The process is killed where its task is dropped.
+                self.desk.abort();
+                let _ = self.desk.await;
+                Err(DaemonFault::Killed)
+            }
+        }
+    }
+
+    /// Reads the users anew. Where the file is wrong all stays as it is.
+    fn reload(&mut self) {
+        let config = match read_config(&self.path) {
+            Ok(config) => config,
+            Err(fault) => return warn!("the users stay as they are: {fault}"),
+        };
+        if !config.differs_in_users_alone(&self.config) {
+            warn!("of the configuration the users alone are read anew; the rest is for the next start");
+        }
+        self.config.users = config.users;
+        let before = Arc::clone(&self.table.borrow());
+        self.table.send_replace(Arc::new(table_of(&self.config, &self.clients, &before)));
+        info!("users are read anew");
+    }
+}
+
+/// The table of a configuration's users. Those who aren't clients of the desk are named in the log, and kept out.
+fn table_of(config: &Config, clients: &str, before: &Table) -> Table {
+    let (table, strangers) = Table::new(&config.users, clients, &config.limits, before);
+    for user in strangers {
+        warn!("user {} is kept out: the desk was begun without `{}`, and takes no new client", user.uid, user.line());
+    }
+    table
+}
+
+/// Locks the folder. The `kfs_serve` of a daemon that was killed ends soon, since its input has ended.
+async fn lock(config: &Config) -> Result<Folder, DaemonFault> {
+    let waiting = async {
+        loop {
+            match Folder::lock(&config.folder) {
+                Ok(Some(folder)) => return Ok(folder),
+                Ok(None) => sleep(AGAIN).await,
+                Err(fault) => return Err(DaemonFault::Io(config.folder.clone(), fault)),
+            }
+        }
+    };
+    match timeout(config.limits.stop_time(), waiting).await {
+        Ok(found) => found,
+        Err(_) => Err(DaemonFault::Locked(config.folder.clone())),
+    }
+}
+
+/// Lets as many files be open as may be, and looks whether all connections that are allowed fit.
+fn raise_files(config: &Config) -> Result<(), DaemonFault> {
+    let failed = |errno: nix::errno::Errno| DaemonFault::Io("RLIMIT_NOFILE".into(), errno.into());
+    let (_, most) = getrlimit(Resource::RLIMIT_NOFILE).map_err(failed)?;
+    setrlimit(Resource::RLIMIT_NOFILE, most, most).map_err(failed)?;
+    let wanted = config.users.len() as u64 * u64::from(config.limits.connections_a_user);
+    if wanted + OTHER_FILES > most {
+        return Err(DaemonFault::Files(most, wanted));
+    }
+    Ok(())
+}
+
+/// What a signal asks for.
+enum Asked {
+    Stop,
+    Reload,
+}
+
+struct Signals {
+    term: tokio::signal::unix::Signal,
+    int: tokio::signal::unix::Signal,
+    hup: tokio::signal::unix::Signal,
+}
+
+impl Signals {
+    fn new() -> io::Result<Signals> {
+        Ok(Signals {
+            term: signal(SignalKind::terminate())?,
+            int: signal(SignalKind::interrupt())?,
+            hup: signal(SignalKind::hangup())?,
+        })
+    }
+
+    async fn next(&mut self) -> Asked {
+        tokio::select! {
+            _ = self.term.recv() => Asked::Stop,
+            _ = self.int.recv() => Asked::Stop,
+            _ = self.hup.recv() => Asked::Reload,
+        }
+    }
+}

@@ -1,0 +1,290 @@
+//! `kfs_serve`: the process, its two pipes, and a new one where it ends before its time.
+
+use crate::figures::Figures;
+use crate::folder::{Folder, Found};
+use crate::frames::{read_reply, Head, Reply};
+use crate::queue::{Answer, Batch, Queue, Sent};
+use crate::users::FRONT;
+use std::collections::VecDeque;
+use std::ffi::OsString;
+use std::io;
+use std::path::{Path, PathBuf};
+use std::process::{ExitStatus, Stdio};
+use std::sync::{Arc, Mutex, MutexGuard, PoisonError};
+use std::time::Duration;
+use thiserror::Error;
+use tokio::io::{AsyncRead, AsyncWrite, AsyncWriteExt, BufReader};
+use tokio::process::{Child, ChildStdin, ChildStdout, Command};
+use tokio::sync::{watch, Notify};
+use tokio::time::{sleep, timeout};
+use tracing::{info, warn};
+
+/// How many bytes of frames may be sent and not answered, or one frame more. `kfs_serve` reads as many at once. What is
+/// behind them waits here, where clients take turns.
+const WINDOW: usize = 65_536;
+
+/// How many processes may end one after another without an answer to the first frame.
+const FRUITLESS: u32 = 5;
+
+/// How long a new start waits. Behind each process in a row that has answered nothing it waits twice as long.
+const PAUSE: Duration = Duration::from_millis(50);
+
+/// How long a process whose pipes have ended may take to end, too.
+const LAST_MOMENT: Duration = Duration::from_secs(5);
+
+/// Why there is no desk any more.
+#[derive(Debug, Error)]
+pub enum DeskFault {
+    #[error("{0} can't be run: {1}")]
+    Process(PathBuf, io::Error),
+    #[error("the folder: {0}")]
+    Folder(io::Error),
+    #[error("{0} has one of the two files. A crash has cut the first start short: where nothing was ever answered, remove it")]
+    HalfMade(PathBuf),
+    #[error("kfs_serve takes neither its words nor its clients (status {0})")]
+    Words(i32),
+    #[error("the files of the desk, or their disk, have failed (status 3 of kfs_serve): see docs/OPERATIONS.md")]
+    Files,
+    #[error("{FRUITLESS} processes of kfs_serve have ended one after another without an answer; the last one: {0}")]
+    Fruitless(ExitStatus),
+}
+
+/// What a start of `kfs_serve` takes.
+#[derive(Clone, Debug)]
+pub struct Desk {
+    pub program: PathBuf,
+    pub folder: Arc<Folder>,
+    pub rows: u32,
+    pub tiers: [u32; 3],
+}
+
+/// How a process of `kfs_serve` ended.
+struct Ended {
+    status: ExitStatus,
+    /// Whether it ended because its input did, with all frames answered.
+    is_done: bool,
+    /// Whether it answered the first frame.
+    has_begun: bool,
+}
+
+/// Frames that were sent and aren't answered, in their order, and how many bytes they have.
+#[derive(Debug, Default)]
+struct Under {
+    sent: VecDeque<Sent>,
+    bytes: usize,
+}
+
+#[derive(Debug, Default)]
+struct Flight {
+    under: Mutex<Under>,
+    /// Tells the one who sends that there is room.
+    room: Notify,
+}
+
+impl Flight {
+    fn under(&self) -> MutexGuard<'_, Under> {
+        self.under.lock().unwrap_or_else(PoisonError::into_inner)
+    }
+
+    /// How many frames aren't answered.
+    fn count(&self) -> usize {
+        self.under().sent.len()
+    }
+
+    /// Waits until there is room, and tells how many bytes of it.
+    async fn room(&self) -> usize {
+        loop {
+            let room = WINDOW.saturating_sub(self.under().bytes);
+            if room > 0 {
+                return room;
+            }
+            self.room.notified().await;
+        }
+    }
+
+    /// Adds what is about to be sent.
+    fn add(&self, sent: Vec<Sent>) {
+        let mut under = self.under();
+        under.bytes += sent.iter().map(|one| one.length).sum::<usize>();
+        under.sent.extend(sent);
+    }
+
+    /// Who waits for the reply of this number, which has to be the oldest frame's.
+    fn take(&self, number: u32) -> Option<Sent> {
+        let mut under = self.under();
+        if under.sent.front()?.number != number {
+            return None;
+        }
+        let sent = under.sent.pop_front()?;
+        under.bytes -= sent.length;
+        self.room.notify_one();
+        Some(sent)
+    }
+}
+
+impl Desk {
+    /// Has `kfs_serve` answer the calls of the queue, until the queue is closed and empty. `ready` becomes true when the
+    /// files are open for the first time.
+    pub async fn run(&self, queue: &Queue, figures: &Figures, ready: &watch::Sender<bool>) -> Result<(), DeskFault> {
+        let mut fruitless = 0;
+        loop {
+            let ended = self.once(queue, figures, ready).await?;
+            if ended.is_done {
+                return Ok(());
+            }
+            fault_of(ended.status)?;
+            fruitless = if ended.has_begun { 0 } else { fruitless + 1 };
+            if fruitless == FRUITLESS {
+                return Err(DeskFault::Fruitless(ended.status));
+            }
+            warn!("kfs_serve has ended before its input did: {}", ended.status);
+            sleep(PAUSE * 2u32.pow(fruitless)).await;
+        }
+    }
+
+    /// Starts a process, and has it answer calls until it ends.
+    async fn once(&self, queue: &Queue, figures: &Figures, ready: &watch::Sender<bool>) -> Result<Ended, DeskFault> {
+        let (mut child, mut to, from) = self.start()?;
+        figures.starts.add(1);
+        figures.process.set(child.id().map_or(0, u64::from));
+        let mut from = BufReader::new(from);
+        let flight = Flight::default();
+        let has_begun = is_open(&mut to, &mut from).await;
+        let mut is_done = false;
+        if has_begun {
+            info!("kfs_serve is ready");
+            ready.send_replace(true);
+            is_done = talk(to, &mut from, queue, &flight, figures).await;
+        } else {
+            drop(to);
+        }
+        let status = end(&mut child, &self.program).await?;
+        figures.process.set(0);
+        // Dropped, each asker hears that nobody knows.
+        figures.unknown.add(flight.count());
+        Ok(Ended { status, is_done: is_done && status.success(), has_begun })
+    }
+
+    fn start(&self) -> Result<(Child, ChildStdin, ChildStdout), DeskFault> {
+        let mut child = Command::new(&self.program)
+            .args(self.words()?)
+            .stdin(Stdio::piped())
+            .stdout(Stdio::piped())
+            .kill_on_drop(true)
+            .spawn()
+            .map_err(|fault| DeskFault::Process(self.program.clone(), fault))?;
+        match (child.stdin.take(), child.stdout.take()) {
+            (Some(to), Some(from)) => Ok((child, to, from)),
+            _ => Err(DeskFault::Process(self.program.clone(), io::ErrorKind::BrokenPipe.into())),
+        }
+    }
+
+    /// `open` where both files are there, and `new` where there is none.
+    fn words(&self) -> Result<Vec<OsString>, DeskFault> {
+        let folder = self.folder.path();
+        let mut words: Vec<OsString> = vec!["open".into(), folder.into(), self.rows.to_string().into()];
+        match self.folder.files().map_err(DeskFault::Folder)? {
+            Found::Both => Ok(words),
+            Found::One => Err(DeskFault::HalfMade(folder.to_path_buf())),
+            Found::None => {
+                words[0] = "new".into();
+                words.push(self.folder.clients_path().into());
+                words.extend(self.tiers.iter().map(|blocks| blocks.to_string().into()));
+                Ok(words)
+            }
+        }
+    }
+}
+
+/// What a status says that a new start wouldn't mend.
+fn fault_of(status: ExitStatus) -> Result<(), DeskFault> {
+    match status.code() {
+        Some(code @ (1 | 2)) => Err(DeskFault::Words(code)),
+        Some(3) => Err(DeskFault::Files),
+        _ => Ok(()),
+    }
+}
+
+/// Sends an empty frame, which changes nothing, and waits for its refusal. Before it no frame of a client is sent.
+async fn is_open(to: &mut (impl AsyncWrite + Unpin), from: &mut (impl AsyncRead + Unpin)) -> bool {
+    let head = Head { length: 0, number: FRONT, from: FRONT };
+    if to.write_all(&head.bytes()).await.is_err() {
+        return false;
+    }
+    matches!(read_reply(from).await, Ok(Some(Reply { number: FRONT, .. })))
+}
+
+/// Sends calls and hands their answers out. Answers whether the queue has ended, and all calls were answered.
+async fn talk(to: ChildStdin, from: &mut (impl AsyncRead + Unpin), queue: &Queue, flight: &Flight, figures: &Figures) -> bool {
+    let writing = write_calls(to, queue, flight, figures);
+    let reading = read_replies(from, flight, figures);
+    tokio::pin!(writing, reading);
+    let is_sent = tokio::select! {
+        sent = &mut writing => match sent {
+            Ok(()) => true,
+            // What it has answered is in the pipe still.
+            Err(_) => false,
+        },
+        read = &mut reading => {
+            say_why(read);
+            return false;
+        }
+    };
+    let read = if is_sent { reading.await } else { timeout(LAST_MOMENT, reading).await.unwrap_or(Ok(())) };
+    say_why(read);
+    is_sent && flight.count() == 0
+}
+
+fn say_why(read: io::Result<()>) {
+    if let Err(fault) = read {
+        warn!("kfs_serve isn't understood: {fault}");
+    }
+}
+
+/// Sends calls until the queue has ended. Then the input of `kfs_serve` ends, too.
+async fn write_calls(mut to: ChildStdin, queue: &Queue, flight: &Flight, figures: &Figures) -> io::Result<()> {
+    while let Some(Batch { bytes, sent }) = queue.next(flight.room().await).await {
+        figures.sent.add(sent.len());
+        flight.add(sent);
+        to.write_all(&bytes).await?;
+    }
+    Ok(())
+}
+
+/// Hands answers out until the output of `kfs_serve` ends.
+async fn read_replies(from: &mut (impl AsyncRead + Unpin), flight: &Flight, figures: &Figures) -> io::Result<()> {
+    while let Some(reply) = read_reply(from).await? {
+        let wrong = || io::Error::new(io::ErrorKind::InvalidData, format!("a reply to frame {}", reply.number));
+        let sent = flight.take(reply.number).ok_or_else(wrong)?;
+        figures.answered.add(1);
+        // Where the connection is gone nobody hears it.
+        let _ = sent.asker.to.send(Answer::Said(reply));
+    }
+    Ok(())
+}
+
+/// Waits for the end of a process whose pipes are at their end, and ends it where it doesn't by itself.
+async fn end(child: &mut Child, program: &Path) -> Result<ExitStatus, DeskFault> {
+    let not_ended = |fault| DeskFault::Process(program.to_path_buf(), fault);
+    if let Ok(status) = timeout(LAST_MOMENT, child.wait()).await {
+        return status.map_err(not_ended);
+    }
+    warn!("kfs_serve doesn't end by itself");
+    child.kill().await.map_err(not_ended)?;
+    child.wait().await.map_err(not_ended)
+}
+
+#[cfg(test)]
+mod tests {
+    use super::*;
+    use std::os::unix::process::ExitStatusExt;
+
+    #[test]
+    fn a_new_start_follows_a_signal_and_want_of_memory() {
+        assert!(fault_of(ExitStatus::from_raw(9)).is_ok());
+        assert!(fault_of(ExitStatus::from_raw(4 << 8)).is_ok());
+        assert!(fault_of(ExitStatus::from_raw(5 << 8)).is_ok());
+        assert!(matches!(fault_of(ExitStatus::from_raw(3 << 8)), Err(DeskFault::Files)));
+        assert!(matches!(fault_of(ExitStatus::from_raw(1 << 8)), Err(DeskFault::Words(1))));
+    }
+}

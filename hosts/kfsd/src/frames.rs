@@ -1,0 +1,189 @@
+//! Frames and replies (docs/PROTOCOL.md), and what kfsd itself refuses (docs/KFSD.md).
+
+use std::io;
+use tokio::io::{AsyncRead, AsyncReadExt};
+
+/// The most bytes of a body that `kfs_serve` keeps.
+pub const BODY_LIMIT: u32 = 16_777_216;
+
+/// The bytes of a frame's head, and of a reply's.
+pub const HEAD: usize = 12;
+pub const REPLY_HEAD: usize = 8;
+
+/// The most bytes behind the head of a reply. An answer has at most 20, and its tag.
+pub const REPLY_LIMIT: u32 = 1024;
+
+/// The tag of a reply that refuses.
+const REFUSED: u8 = 2;
+
+/// The tag of a body that asks kfsd who the client is. It is never forwarded.
+const HELLO: u8 = 0xf0;
+
+/// The tag of kfsd's answer to it.
+const WELCOME: u8 = 0xf0;
+
+/// What stands before a body.
+#[derive(Clone, Copy, Debug, PartialEq, Eq)]
+pub struct Head {
+    pub length: u32,
+    pub number: u32,
+    pub from: u32,
+}
+
+impl Head {
+    /// The head that these bytes are.
+    pub fn of(bytes: [u8; HEAD]) -> Head {
+        let [l0, l1, l2, l3, n0, n1, n2, n3, f0, f1, f2, f3] = bytes;
+        Head {
+            length: u32::from_be_bytes([l0, l1, l2, l3]),
+            number: u32::from_be_bytes([n0, n1, n2, n3]),
+            from: u32::from_be_bytes([f0, f1, f2, f3]),
+        }
+    }
+
+    /// Its bytes.
+    pub fn bytes(&self) -> [u8; HEAD] {
+        let mut bytes = [0; HEAD];
+        bytes[..4].copy_from_slice(&self.length.to_be_bytes());
+        bytes[4..8].copy_from_slice(&self.number.to_be_bytes());
+        bytes[8..].copy_from_slice(&self.from.to_be_bytes());
+        bytes
+    }
+}
+
+/// Why a frame is refused without `kfs_serve`. Codes below 128 are those of docs/PROTOCOL.md, and the others kfsd's own.
+#[derive(Clone, Copy, Debug, PartialEq, Eq)]
+pub enum Refusal {
+    /// The body is longer than the limit.
+    TooLong = 1,
+    /// The input ended within the frame, behind its head.
+    CutShort = 2,
+    /// The frame, or the call in it, names another client, or the call is the front's.
+    NotYours = 5,
+    /// The frame was given to `kfs_serve`, which ended before it answered: made or not, nobody says. Ask again.
+    Unknown = 128,
+    /// kfsd ends, and the frame was never given to `kfs_serve`: nothing was done.
+    Stopping = 129,
+    /// No such user is listed. The connection ends.
+    Unlisted = 130,
+    /// The user, or all users, have as many connections as they may. The connection ends.
+    TooMany = 131,
+}
+
+impl Refusal {
+    /// The whole reply to the frame of this number.
+    pub fn reply(self, number: u32) -> Vec<u8> {
+        reply(number, &[REFUSED, self as u8, 0, 0, 0, 0])
+    }
+}
+
+/// A whole reply, with this behind its head.
+pub fn reply(number: u32, said: &[u8]) -> Vec<u8> {
+    let mut bytes = Vec::with_capacity(REPLY_HEAD + said.len());
+    // What is said has at most `REPLY_LIMIT` bytes.
+    bytes.extend_from_slice(&(said.len() as u32).to_be_bytes());
+    bytes.extend_from_slice(&number.to_be_bytes());
+    bytes.extend_from_slice(said);
+    bytes
+}
+
+/// The reply to a hello: the client's number, and the first and last number of its grant.
+pub fn welcome(number: u32, client: u32, grant: [u32; 2]) -> Vec<u8> {
+    let mut said = vec![WELCOME];
+    for word in [client, grant[0], grant[1]] {
+        said.extend_from_slice(&word.to_be_bytes());
+    }
+    reply(number, &said)
+}
+
+/// What a body asks for, as far as kfsd looks into it.
+#[derive(Clone, Copy, Debug, PartialEq, Eq)]
+pub enum Asked {
+    /// Who the client is. kfsd answers.
+    Hello,
+    /// A call of this client.
+    Of(u32),
+    /// A call that is the front's alone.
+    OfFront,
+    /// Something else, of which `kfs_serve` decides.
+    Other,
+}
+
+/// Looks at the tag of a body, and at the client behind it.
+pub fn asked(body: &[u8]) -> Asked {
+    match *body {
+        [HELLO] => Asked::Hello,
+        [1 | 2 | 3 | 6, a, b, c, d, ..] => Asked::Of(u32::from_be_bytes([a, b, c, d])),
+        [4 | 5, ..] => Asked::OfFront,
+        _ => Asked::Other,
+    }
+}
+
+/// A reply of `kfs_serve`.
+#[derive(Clone, Debug, PartialEq, Eq)]
+pub struct Reply {
+    pub number: u32,
+    /// What stands behind the head.
+    pub said: Vec<u8>,
+}
+
+/// The next reply, or none where the output ends.
+pub async fn read_reply(from: &mut (impl AsyncRead + Unpin)) -> io::Result<Option<Reply>> {
+    let mut head = [0; REPLY_HEAD];
+    if from.read(&mut head[..1]).await? == 0 {
+        return Ok(None);
+    }
+    from.read_exact(&mut head[1..]).await?;
+    let [l0, l1, l2, l3, n0, n1, n2, n3] = head;
+    let length = u32::from_be_bytes([l0, l1, l2, l3]);
+    if length == 0 || length > REPLY_LIMIT {
+        return Err(io::Error::new(io::ErrorKind::InvalidData, format!("a reply of {length} bytes")));
+    }
+    let mut said = vec![0; length as usize];
+    from.read_exact(&mut said).await?;
+    Ok(Some(Reply { number: u32::from_be_bytes([n0, n1, n2, n3]), said }))
+}
+
+#[cfg(test)]
+mod tests {
+    use super::*;
+
+    #[test]
+    fn a_head_is_twelve_bytes() {
+        let head = Head { length: 17, number: 1, from: 7 };
+        assert_eq!(head.bytes(), [0, 0, 0, 17, 0, 0, 0, 1, 0, 0, 0, 7]);
+        assert_eq!(Head::of(head.bytes()), head);
+    }
+
+    #[test]
+    fn a_refusal_is_as_the_protocol_has_it() {
+        assert_eq!(Refusal::NotYours.reply(2), [0, 0, 0, 6, 0, 0, 0, 2, 2, 5, 0, 0, 0, 0]);
+        assert_eq!(Refusal::Unknown.reply(2)[9], 0x80);
+    }
+
+    #[test]
+    fn owners_are_read_from_bodies() {
+        for tag in [1, 2, 3, 6] {
+            assert_eq!(asked(&[tag, 0, 0, 1, 0, 9, 9]), Asked::Of(256));
+            assert_eq!(asked(&[tag, 0, 0, 1]), Asked::Other);
+        }
+        assert_eq!(asked(&[4]), Asked::OfFront);
+        assert_eq!(asked(&[5, 0]), Asked::OfFront);
+        assert_eq!(asked(&[]), Asked::Other);
+        assert_eq!(asked(&[7, 0, 0, 0, 1]), Asked::Other);
+        assert_eq!(asked(&[HELLO]), Asked::Hello);
+        assert_eq!(asked(&[HELLO, 0]), Asked::Other);
+    }
+
+    #[tokio::test]
+    async fn replies_are_cut_from_a_stream() {
+        let mut stream: &[u8] = &[0, 0, 0, 2, 0, 0, 0, 9, 1, 5, 0, 0, 0, 1, 0];
+        let reply = read_reply(&mut stream).await.unwrap().unwrap();
+        assert_eq!(reply, Reply { number: 9, said: vec![1, 5] });
+        assert!(read_reply(&mut stream).await.is_err());
+        let mut long: &[u8] = &[0xff; 8];
+        assert!(read_reply(&mut long).await.is_err());
+        let mut none: &[u8] = &[];
+        assert!(read_reply(&mut none).await.unwrap().is_none());
+    }
+}

@@ -1,0 +1,20 @@
+//! kfsd: many processes of many users come to one desk.
+//!
+//! It asks the kernel who connects, stamps each frame with that user's client, and talks to `kfs_serve` over pipes. It is
+//! believed for naming its clients truly. What a call does, and that an answered one is kept, is `kfs_serve`'s.
+//! Begin with `run` in `daemon.rs`; docs/KFSD.md is for those who run it.
+
+#![forbid(unsafe_code)]
+
+pub mod config;
+pub mod connection;
+pub mod control;
+pub mod daemon;
+pub mod desk;
+pub mod figures;
+pub mod folder;
+pub mod frames;
+pub mod peer;
+pub mod queue;
+pub mod sockets;
+pub mod users;

@@ -1,0 +1,328 @@
+//! The calls that wait for `kfs_serve`, by client. Clients take turns by bytes, so none waits for all that another has sent.
+
+use crate::config::FRAME_COST;
+use crate::frames::{Head, Reply, HEAD};
+use std::collections::{HashMap, VecDeque};
+use std::sync::{Mutex, MutexGuard, PoisonError};
+use tokio::sync::{oneshot, Notify, OwnedSemaphorePermit};
+
+/// How many bytes a client may send in one turn, each frame with its cost. A longer frame waits for some turns.
+const TURN: usize = 8192;
+
+/// What a connection has taken of its own limit and of its user's, given back once this is gone.
+#[derive(Debug)]
+pub struct Permits {
+    pub of_connection: OwnedSemaphorePermit,
+    pub of_user: OwnedSemaphorePermit,
+}
+
+/// How a call ended. Where nothing comes, nobody knows.
+#[derive(Debug, PartialEq, Eq)]
+pub enum Answer {
+    /// `kfs_serve` has answered.
+    Said(Reply),
+    /// It never got the call.
+    NeverSent,
+}
+
+/// A call that waits.
+#[derive(Debug)]
+pub struct Call {
+    /// The client that sends it, as the kernel's answer and the table of users say.
+    pub client: u32,
+    pub body: Vec<u8>,
+    /// The bytes that it takes, until it is sent.
+    pub bytes: Permits,
+    pub asker: Asker,
+}
+
+/// Who waits for an answer. Where it is dropped, the answer is that nobody knows.
+#[derive(Debug)]
+pub struct Asker {
+    pub to: oneshot::Sender<Answer>,
+    /// The place among the frames that are under way. Its connection holds it, too.
+    pub frame: std::sync::Arc<Permits>,
+}
+
+impl Call {
+    fn cost(&self) -> usize {
+        self.body.len() + FRAME_COST as usize
+    }
+}
+
+/// A frame that is sent.
+#[derive(Debug)]
+pub struct Sent {
+    pub number: u32,
+    /// How many bytes it has.
+    pub length: usize,
+    pub asker: Asker,
+}
+
+/// Calls that are sent at once.
+#[derive(Debug, Default)]
+pub struct Batch {
+    /// The frames.
+    pub bytes: Vec<u8>,
+    /// Each of them, in their order.
+    pub sent: Vec<Sent>,
+}
+
+/// The calls of a client, and how many bytes it may send still in its turn.
+#[derive(Debug, Default)]
+struct Line {
+    calls: VecDeque<Call>,
+    credit: usize,
+}
+
+#[derive(Debug, Default)]
+struct Lines {
+    of: HashMap<u32, Line>,
+    /// The clients that have a call, in the order of their turns.
+    turns: VecDeque<u32>,
+    count: usize,
+    is_closed: bool,
+    next_number: u32,
+}
+
+/// The calls that wait.
+#[derive(Debug, Default)]
+pub struct Queue {
+    lines: Mutex<Lines>,
+    changed: Notify,
+}
+
+impl Queue {
+    fn lines(&self) -> MutexGuard<'_, Lines> {
+        // Each change below is whole once it is begun, so what a thread that panicked has left is whole.
+        self.lines.lock().unwrap_or_else(PoisonError::into_inner)
+    }
+
+    /// Puts a call behind those of its client. Nobody takes it where the queue is closed: it was never sent then.
+    pub fn push(&self, call: Call) {
+        let mut lines = self.lines();
+        if lines.is_closed {
+            drop(lines);
+            never_sent(call);
+            return;
+        }
+        lines.push(call);
+        drop(lines);
+        self.changed.notify_one();
+    }
+
+    /// How many calls wait.
+    pub fn len(&self) -> usize {
+        self.lines().count
+    }
+
+    /// Whether none waits.
+    pub fn is_empty(&self) -> bool {
+        self.len() == 0
+    }
+
+    /// No call comes any more. Those that wait are sent still.
+    pub fn close(&self) {
+        self.lines().is_closed = true;
+        self.changed.notify_one();
+    }
+
+    /// Takes no call any more, and tells those that wait that they were never sent.
+    pub fn give_up(&self) {
+        let mut lines = self.lines();
+        lines.is_closed = true;
+        let left = std::mem::take(&mut lines.of);
+        lines.turns.clear();
+        lines.count = 0;
+        drop(lines);
+        left.into_values().flat_map(|line| line.calls).for_each(never_sent);
+        self.changed.notify_one();
+    }
+
+    /// The next calls, at most `most` bytes of them or a single one; none once the queue is closed and empty. One task takes.
+    pub async fn next(&self, most: usize) -> Option<Batch> {
+        loop {
+            {
+                let mut lines = self.lines();
+                if lines.count > 0 {
+                    return Some(lines.batch(most));
+                }
+                if lines.is_closed {
+                    return None;
+                }
+            }
+            self.changed.notified().await;
+        }
+    }
+}
+
+fn never_sent(call: Call) {
+    // Where the connection is gone nobody hears it.
+    let _ = call.asker.to.send(Answer::NeverSent);
+}
+
+impl Lines {
+    fn push(&mut self, call: Call) {
+        let client = call.client;
+        let line = self.of.entry(client).or_default();
+        if line.calls.is_empty() {
+            self.turns.push_back(client);
+        }
+        line.calls.push_back(call);
+        self.count += 1;
+    }
+
+    fn batch(&mut self, most: usize) -> Batch {
+        let mut batch = Batch::default();
+        while let Some(call) = self.pop(most.saturating_sub(batch.bytes.len()), batch.sent.is_empty()) {
+            let number = self.next_number;
+            self.next_number = number.wrapping_add(1);
+            // Bodies have at most 16,777,216 bytes.
+            let head = Head { length: call.body.len() as u32, number, from: call.client };
+            batch.bytes.extend_from_slice(&head.bytes());
+            batch.bytes.extend_from_slice(&call.body);
+            batch.sent.push(Sent { number, length: HEAD + call.body.len(), asker: call.asker });
+        }
+        batch
+    }
+
+    /// The next call, where there is one and it fits in so many bytes or is the first.
+    fn pop(&mut self, room: usize, is_first: bool) -> Option<Call> {
+        loop {
+            let client = *self.turns.front()?;
+            let line = self.of.get_mut(&client)?;
+            let (cost, length) = line.calls.front().map(|call| (call.cost(), call.body.len() + HEAD))?;
+            if cost > line.credit {
+                line.credit += TURN;
+                self.turns.rotate_left(1);
+                continue;
+            }
+            if length > room && !is_first {
+                return None;
+            }
+            line.credit -= cost;
+            let call = line.calls.pop_front();
+            if line.calls.is_empty() {
+                self.of.remove(&client);
+                self.turns.pop_front();
+            }
+            self.count -= 1;
+            return call;
+        }
+    }
+}
+
+#[cfg(test)]
+mod tests {
+    use super::*;
+    use std::sync::Arc;
+    use tokio::sync::Semaphore;
+
+    const MOST: usize = 65_536;
+
+    fn permits() -> Permits {
+        let all = Arc::new(Semaphore::new(2));
+        let one = || Arc::clone(&all).try_acquire_owned().unwrap();
+        Permits { of_connection: one(), of_user: one() }
+    }
+
+    fn call(client: u32, length: usize) -> (Call, oneshot::Receiver<Answer>) {
+        let (to, answer) = oneshot::channel();
+        let asker = Asker { to, frame: Arc::new(permits()) };
+        (Call { client, body: vec![7; length], bytes: permits(), asker }, answer)
+    }
+
+    /// The clients of the frames in these bytes, with the length of each body.
+    fn clients_in(mut bytes: &[u8]) -> Vec<(u32, u32)> {
+        let mut found = Vec::new();
+        while !bytes.is_empty() {
+            let head = Head::of(bytes[..HEAD].try_into().unwrap());
+            found.push((head.from, head.length));
+            bytes = &bytes[HEAD + head.length as usize..];
+        }
+        found
+    }
+
+    #[tokio::test]
+    async fn calls_of_a_client_keep_their_order() {
+        let queue = Queue::default();
+        for length in 0..5 {
+            queue.push(call(7, length).0);
+        }
+        let batch = queue.next(MOST).await.unwrap();
+        assert_eq!(clients_in(&batch.bytes), [(7, 0), (7, 1), (7, 2), (7, 3), (7, 4)]);
+        assert_eq!(batch.sent.iter().map(|sent| sent.number).collect::<Vec<_>>(), [0, 1, 2, 3, 4]);
+        assert!(queue.is_empty());
+    }
+
+    #[tokio::test]
+    async fn a_client_with_much_lets_others_go_first() {
+        let queue = Queue::default();
+        for _ in 0..100 {
+            queue.push(call(7, 60_000).0);
+        }
+        queue.push(call(8, 10).0);
+        let mut before = 0;
+        loop {
+            let batch = queue.next(MOST).await.unwrap();
+            let clients = clients_in(&batch.bytes);
+            if clients.contains(&(8, 10)) {
+                break;
+            }
+            before += clients.len();
+        }
+        assert_eq!(before, 0, "so many of the other's frames went first");
+    }
+
+    #[tokio::test]
+    async fn small_frames_of_many_clients_take_turns() {
+        let queue = Queue::default();
+        for client in 0..20 {
+            (0..1000).for_each(|_| queue.push(call(client, 20).0));
+        }
+        queue.push(call(99, 20).0);
+        let mut before = [0; 20];
+        'all: while let Some(batch) = queue.next(MOST).await {
+            for (client, _) in clients_in(&batch.bytes) {
+                match before.get_mut(client as usize) {
+                    Some(count) => *count += 1,
+                    None => break 'all,
+                }
+            }
+        }
+        // 8,192 bytes of frames that cost 276 each
+        assert_eq!(before, [29; 20]);
+    }
+
+    #[tokio::test]
+    async fn a_frame_longer_than_a_batch_goes_alone() {
+        let queue = Queue::default();
+        queue.push(call(7, 10 * MOST).0);
+        queue.push(call(8, 5).0);
+        let (first, second) = (queue.next(MOST).await.unwrap(), queue.next(MOST).await.unwrap());
+        assert_eq!(clients_in(&first.bytes), [(8, 5)]);
+        assert_eq!(clients_in(&second.bytes), [(7, 10 * MOST as u32)]);
+    }
+
+    #[tokio::test]
+    async fn a_closed_queue_gives_what_it_has_and_ends() {
+        let queue = Queue::default();
+        queue.push(call(7, 1).0);
+        queue.close();
+        let (late, answer) = call(7, 2);
+        queue.push(late);
+        assert_eq!(answer.await, Ok(Answer::NeverSent));
+        assert!(queue.next(MOST).await.is_some());
+        assert!(queue.next(MOST).await.is_none());
+    }
+
+    #[tokio::test]
+    async fn who_waits_is_told_when_it_is_given_up() {
+        let queue = Queue::default();
+        let (one, answer) = call(7, 1);
+        queue.push(one);
+        queue.give_up();
+        assert_eq!(answer.await, Ok(Answer::NeverSent));
+        assert!(queue.next(MOST).await.is_none());
+    }
+}

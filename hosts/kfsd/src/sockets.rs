@@ -1,0 +1,122 @@
+//! The two sockets, and the connections that are taken there.
+
+use crate::config::Config;
+use crate::connection::{self, Shared};
+use crate::control;
+use crate::daemon::DaemonFault;
+use crate::frames::Refusal;
+use crate::peer::uid_of;
+use std::fs::{self, Permissions};
+use std::io::{self, Write};
+use std::os::unix::fs::{FileTypeExt, PermissionsExt};
+use std::path::{Path, PathBuf};
+use std::sync::Arc;
+use std::time::Duration;
+use tokio::net::{UnixListener, UnixStream};
+use tokio::task::JoinSet;
+use tokio::time::sleep;
+use tracing::warn;
+
+/// How long a listener rests where the system has no descriptor left.
+const REST: Duration = Duration::from_millis(100);
+
+/// A socket of a path, which goes with it.
+struct Socket {
+    listener: UnixListener,
+    path: PathBuf,
+}
+
+impl Socket {
+    /// Binds a path. The folder's lock is held, so a socket that is there is nobody's any more.
+    fn bind(path: &Path, mode: u32) -> Result<Socket, DaemonFault> {
+        let failed = |fault| DaemonFault::Io(path.to_path_buf(), fault);
+        match fs::symlink_metadata(path) {
+            Ok(found) if found.file_type().is_socket() => fs::remove_file(path).map_err(failed)?,
+            Ok(_) => return Err(DaemonFault::NotASocket(path.to_path_buf())),
+            Err(fault) if fault.kind() == io::ErrorKind::NotFound => {}
+            Err(fault) => return Err(failed(fault)),
+        }
+        let listener = UnixListener::bind(path).map_err(failed)?;
+        let socket = Socket { listener, path: path.to_path_buf() };
+        fs::set_permissions(path, Permissions::from_mode(mode)).map_err(failed)?;
+        Ok(socket)
+    }
+}
+
+impl Drop for Socket {
+    fn drop(&mut self) {
+        // Where it stays, the next start removes it.
+        let _ = fs::remove_file(&self.path);
+    }
+}
+
+/// Where clients connect, and where `kfsctl` does.
+pub struct Sockets {
+    clients: Socket,
+    control: Socket,
+}
+
+impl Sockets {
+    /// Binds both.
+    pub fn bind(config: &Config) -> Result<Sockets, DaemonFault> {
+        Ok(Sockets {
+            // Who may do what is looked up in the table of users, so each may connect.
+            clients: Socket::bind(&config.socket, 0o666)?,
+            control: Socket::bind(&config.control, 0o600)?,
+        })
+    }
+}
+
+/// Takes connections until kfsd stops, and returns when all have ended.
+pub async fn accept(sockets: Sockets, shared: Arc<Shared>) {
+    let mut stopping = shared.stopping.clone();
+    let mut tasks = JoinSet::new();
+    loop {
+        tokio::select! {
+            taken = sockets.clients.listener.accept() => match taken {
+                Ok((stream, _)) => take(stream, &shared, &mut tasks),
+                Err(fault) => rest(fault).await,
+            },
+            taken = sockets.control.listener.accept() => match taken {
+                Ok((stream, _)) => drop(tokio::spawn(control::serve(stream, Arc::clone(&shared)))),
+                Err(fault) => rest(fault).await,
+            },
+            Some(_) = tasks.join_next() => {}
+            _ = stopping.changed() => break,
+        }
+    }
+    drop(sockets);
+    while tasks.join_next().await.is_some() {}
+}
+
+async fn rest(fault: io::Error) {
+    warn!("no connection is taken: {fault}");
+    sleep(REST).await;
+}
+
+/// Has a connection served, where its user is listed and may have one more.
+fn take(stream: UnixStream, shared: &Arc<Shared>, tasks: &mut JoinSet<()>) {
+    let account = uid_of(&stream).ok().and_then(|uid| shared.table.borrow().of(uid));
+    let place = match account {
+        None => Err(Refusal::Unlisted),
+        Some(account) => account.connect(shared.limits.connections_a_user).ok_or(Refusal::TooMany),
+    };
+    match place {
+        Ok(place) => {
+            shared.figures.connections.add(1);
+            tasks.spawn(connection::serve(stream, place, Arc::clone(shared)));
+        }
+        Err(refusal) => {
+            shared.figures.turned_away.add(1);
+            turn_away(stream, refusal);
+        }
+    }
+}
+
+/// Tells why, and closes. A new connection has room for it.
+fn turn_away(stream: UnixStream, refusal: Refusal) {
+    if let Ok(mut stream) = stream.into_std() {
+        // It is told as far as it hears.
+        let _ = stream.write_all(&refusal.reply(0));
+    }
+}

@@ -1,0 +1,215 @@
+//! Who may connect, and which client of the desk each one is.
+
+use crate::config::Limits;
+use serde::Deserialize;
+use std::collections::{BTreeSet, HashMap};
+use std::fmt::Write as _;
+use std::sync::atomic::{AtomicU32, Ordering};
+use std::sync::Arc;
+use thiserror::Error;
+use tokio::sync::Semaphore;
+
+/// The client number that stands for the front itself.
+pub const FRONT: u32 = u32::MAX;
+
+/// How many supplementary groups a client of the desk may have.
+const GROUP_LIMIT: usize = 16;
+
+/// A user of the configuration.
+#[derive(Clone, Debug, Deserialize, PartialEq, Eq)]
+#[serde(deny_unknown_fields)]
+pub struct User {
+    /// The user's number on this machine, which the kernel tells of a connection.
+    pub uid: u32,
+    pub gid: u32,
+    /// The client of the desk that it is.
+    pub client: u32,
+    #[serde(default)]
+    pub groups: Vec<u32>,
+    #[serde(default)]
+    pub privileged: bool,
+    /// The first and the last number that it may give to new nodes.
+    pub grant: [u32; 2],
+}
+
+impl User {
+    /// The line of the client, as `kfs_serve new` reads it (docs/FORMATS.md, "client").
+    pub fn line(&self) -> String {
+        let [first, last] = self.grant;
+        let privilege = u32::from(self.privileged);
+        let mut line = format!("client {} {} {} {privilege} {first} {last}", self.client, self.uid, self.gid);
+        for group in &self.groups {
+            // Nothing is refused where a String is written to.
+            let _ = write!(line, " {group}");
+        }
+        line
+    }
+}
+
+/// Why users aren't taken.
+#[derive(Debug, Error, PartialEq, Eq)]
+pub enum UsersFault {
+    #[error("user {0} is there twice")]
+    TwiceUid(u32),
+    #[error("client {0} is there twice")]
+    TwiceClient(u32),
+    #[error("user {0}: client {FRONT} is the front")]
+    Front(u32),
+    #[error("user {0} has more than 16 groups")]
+    Groups(u32),
+}
+
+/// Looks whether the users can be beside each other. The desk asks for more at its first start.
+pub fn check(users: &[User]) -> Result<(), UsersFault> {
+    let (mut uids, mut clients) = (BTreeSet::new(), BTreeSet::new());
+    for user in users {
+        if !uids.insert(user.uid) {
+            return Err(UsersFault::TwiceUid(user.uid));
+        }
+        if !clients.insert(user.client) {
+            return Err(UsersFault::TwiceClient(user.client));
+        }
+        if user.client == FRONT {
+            return Err(UsersFault::Front(user.uid));
+        }
+        if user.groups.len() > GROUP_LIMIT {
+            return Err(UsersFault::Groups(user.uid));
+        }
+    }
+    Ok(())
+}
+
+/// The lines of clients, as a first start takes them.
+pub fn lines_of(users: &[User]) -> String {
+    users.iter().map(|user| user.line() + "\n").collect()
+}
+
+/// What a user has in flight, over all of its connections.
+#[derive(Debug)]
+pub struct Account {
+    pub user: User,
+    pub frames: Arc<Semaphore>,
+    pub bytes: Arc<Semaphore>,
+    connections: AtomicU32,
+}
+
+impl Account {
+    fn new(user: User, limits: &Limits) -> Account {
+        Account {
+            user,
+            frames: Arc::new(Semaphore::new(limits.frames_a_user as usize)),
+            bytes: Arc::new(Semaphore::new(limits.bytes_a_user as usize)),
+            connections: AtomicU32::new(0),
+        }
+    }
+
+    /// How many connections it has.
+    pub fn connections(&self) -> u32 {
+        self.connections.load(Ordering::Relaxed)
+    }
+
+    /// Counts one connection more, for as long as the answer lives; none where it has `most` of them.
+    pub fn connect(self: &Arc<Account>, most: u32) -> Option<Place> {
+        let more = |count| (count < most).then_some(count + 1);
+        self.connections.fetch_update(Ordering::Relaxed, Ordering::Relaxed, more).ok()?;
+        Some(Place { account: Arc::clone(self) })
+    }
+}
+
+/// The place of one connection of a user.
+#[derive(Debug)]
+pub struct Place {
+    pub account: Arc<Account>,
+}
+
+impl Drop for Place {
+    fn drop(&mut self) {
+        self.account.connections.fetch_sub(1, Ordering::Relaxed);
+    }
+}
+
+/// The users that may connect now, by uid.
+#[derive(Debug, Default)]
+pub struct Table {
+    accounts: HashMap<u32, Arc<Account>>,
+}
+
+impl Table {
+    /// The table of those users that are clients of the desk, and the users that aren't. Who was there before keeps its
+    /// account, so that what it has in flight is counted still.
+    pub fn new(users: &[User], of_desk: &str, limits: &Limits, before: &Table) -> (Table, Vec<User>) {
+        let known: BTreeSet<&str> = of_desk.lines().collect();
+        let (mut accounts, mut strangers) = (HashMap::new(), Vec::new());
+        for user in users {
+            if !known.contains(user.line().as_str()) {
+                strangers.push(user.clone());
+                continue;
+            }
+            let account = match before.of(user.uid) {
+                Some(account) if account.user == *user => account,
+                _ => Arc::new(Account::new(user.clone(), limits)),
+            };
+            accounts.insert(user.uid, account);
+        }
+        (Table { accounts }, strangers)
+    }
+
+    /// The account of a user.
+    pub fn of(&self, uid: u32) -> Option<Arc<Account>> {
+        self.accounts.get(&uid).cloned()
+    }
+
+    /// All accounts, by client.
+    pub fn all(&self) -> Vec<&Arc<Account>> {
+        let mut all: Vec<_> = self.accounts.values().collect();
+        all.sort_by_key(|account| account.user.client);
+        all
+    }
+}
+
+#[cfg(test)]
+mod tests {
+    use super::*;
+
+    fn user(uid: u32, client: u32) -> User {
+        User { uid, gid: uid, client, groups: vec![50, 60], privileged: uid == 0, grant: [2, 99] }
+    }
+
+    #[test]
+    fn a_line_is_as_the_desk_reads_it() {
+        assert_eq!(user(1000, 7).line(), "client 7 1000 1000 0 2 99 50 60");
+        assert_eq!(lines_of(&[user(0, 1), user(5, 2)]), "client 1 0 0 1 2 99 50 60\nclient 2 5 5 0 2 99 50 60\n");
+    }
+
+    #[test]
+    fn two_of_one_kind_are_refused() {
+        assert_eq!(check(&[user(1, 7), user(2, 8)]), Ok(()));
+        assert_eq!(check(&[user(1, 7), user(1, 8)]), Err(UsersFault::TwiceUid(1)));
+        assert_eq!(check(&[user(1, 7), user(2, 7)]), Err(UsersFault::TwiceClient(7)));
+        assert_eq!(check(&[user(1, FRONT)]), Err(UsersFault::Front(1)));
+        let many = User { groups: vec![1; 17], ..user(1, 7) };
+        assert_eq!(check(&[many]), Err(UsersFault::Groups(1)));
+    }
+
+    #[test]
+    fn who_is_no_client_of_the_desk_is_kept_out() {
+        let users = [user(1, 7), user(2, 8)];
+        let (table, strangers) = Table::new(&users, &lines_of(&users[..1]), &Limits::default(), &Table::default());
+        assert!(table.of(1).is_some());
+        assert!(table.of(2).is_none());
+        assert_eq!(strangers, users[1..]);
+    }
+
+    #[test]
+    fn an_account_outlives_a_reload() {
+        let users = [user(1, 7)];
+        let lines = lines_of(&users);
+        let (before, _) = Table::new(&users, &lines, &Limits::default(), &Table::default());
+        let place = before.of(1).unwrap().connect(1).unwrap();
+        let (after, _) = Table::new(&users, &lines, &Limits::default(), &before);
+        assert_eq!(after.of(1).unwrap().connections(), 1);
+        assert!(after.of(1).unwrap().connect(1).is_none());
+        drop(place);
+        assert!(after.of(1).unwrap().connect(1).is_some());
+    }
+}

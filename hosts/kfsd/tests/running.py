@@ -1,0 +1,245 @@
+"""A running kfsd, connections to it as any user, and what its files keep."""
+import importlib.machinery
+import importlib.util
+import json
+import os
+import shutil
+import signal
+import socket
+import struct
+import subprocess
+import sys
+import tempfile
+import time
+import tomllib
+
+HERE = os.path.dirname(os.path.realpath(__file__))
+TOP = os.path.dirname(os.path.dirname(os.path.dirname(HERE)))
+sys.path[:0] = [f"{TOP}/hosts/python", f"{TOP}/tools"]
+import frames  # noqa: E402
+from frames import FRONT, frame  # noqa: E402,F401
+
+# What kfsd refuses by itself (docs/KFSD.md).
+frames.REFUSALS |= {128: "Unknown", 129: "Stopping", 130: "Unlisted", 131: "TooMany"}
+HELLO = b"\xf0"
+# How long a test waits for what is due at once.
+SOON = 30
+
+
+def tool(name):
+    """A script of tools/ as a module."""
+    loader = importlib.machinery.SourceFileLoader(name.replace("-", "_"), f"{TOP}/tools/{name}")
+    module = importlib.util.module_from_spec(importlib.util.spec_from_loader(loader.name, loader))
+    loader.exec_module(module)
+    return module
+
+
+kept_in = tool("serve-kills").kept_in
+
+
+def lease(client, end, path=b"/", writes=False):
+    """The call that asks for a lease."""
+    return struct.pack(">BIBQH", 2, client, writes, end, len(path)) + path
+
+
+def user(uid, client, grant=(1, 0), gid=None):
+    """A user of the configuration, without numbers to give where it says no grant."""
+    return {"uid": uid, "gid": uid if gid is None else gid, "client": client, "grant": list(grant)}
+
+
+USERS = [user(1000, 7, (2, 99)), user(1001, 8, (100, 199)), user(1002, 9, (200, 299))]
+
+
+class Gone(Exception):
+    """A connection has ended."""
+
+
+class Connection:
+    """A connection of a user, named by the kernel as that user for good."""
+
+    def __init__(self, path, uid, client):
+        self.client = client
+        self.socket = socket.socket(socket.AF_UNIX)
+        self.left = b""
+        own = os.geteuid()
+        if uid != own:
+            os.seteuid(uid)
+        try:
+            self.socket.connect(path)
+        finally:
+            if uid != own:
+                os.seteuid(own)
+        # not before: with a time, a connection isn't waited for where many are in line
+        self.socket.settimeout(SOON)
+
+    def send(self, number, body, sender=None):
+        self.socket.sendall(frame(number, self.client if sender is None else sender, body))
+
+    def next(self):
+        """The number of the next reply, and the bytes behind its head."""
+        while len(self.left) < 8 or len(self.left) < 8 + int.from_bytes(self.left[:4], "big"):
+            try:
+                data = self.socket.recv(65536)
+            except ConnectionError as fault:
+                raise Gone from fault
+            if not data:
+                raise Gone
+            self.left += data
+        length, number = struct.unpack(">II", self.left[:8])
+        said, self.left = self.left[8 : 8 + length], self.left[8 + length :]
+        return number, said
+
+    def reply(self):
+        return frames.reply_of(*self.next())
+
+    def ask(self, number, body, sender=None):
+        """The reply to a frame, where no other is under way."""
+        self.send(number, body, sender)
+        reply = self.reply()
+        assert reply.number == number, (reply, number)
+        return reply
+
+    def is_ended(self):
+        """Whether the other end has closed, with nothing more to read."""
+        try:
+            self.next()
+        except Gone:
+            return True
+        return False
+
+    def close(self):
+        self.socket.close()
+
+
+class Daemon:
+    """A kfsd with a folder of its own."""
+
+    def __init__(self, binaries, program, users=None, tiers=(64, 64, 64), **limits):
+        self.binaries, self.users, self.limits, self.tiers = binaries, list(USERS if users is None else users), limits, tiers
+        self.room = tempfile.mkdtemp(prefix="kfsd-")
+        os.chmod(self.room, 0o755)
+        self.folder, self.program = f"{self.room}/desk", program
+        os.mkdir(self.folder, 0o700)
+        self.log = f"{self.room}/log"
+        self.process, self.runs_as = None, None
+
+    def __enter__(self):
+        return self
+
+    def __exit__(self, kind, *_):
+        if self.process and self.process.poll() is None:
+            self.process.kill()
+            self.process.wait()
+        if kind is not None:
+            print(f"--- {self.log}\n{self.said()[-3000:]}---")
+        shutil.rmtree(self.room, ignore_errors=True)
+
+    def put_config(self):
+        """Writes the configuration."""
+        lines = [f'{name} = "{self.room}/{name}"' for name in ("socket", "control")]
+        lines += [f'folder = "{self.folder}"', f'program = "{self.program}"', f"tiers = {list(self.tiers)}", "[limits]"]
+        lines += [f"{name} = {value}" for name, value in self.limits.items()]
+        for it in self.users:
+            lines += ["[[user]]", *(f"{name} = {json.dumps(value)}" for name, value in it.items())]
+        with open(f"{self.room}/kfsd.toml", "w", encoding="utf-8") as it:
+            it.write("\n".join(lines) + "\n")
+
+    def begin(self):
+        """Starts it, without waiting."""
+        self.put_config()
+        with open(self.log, "ab") as log:
+            self.process = subprocess.Popen([f"{self.binaries}/kfsd", "--verbose", "--config", f"{self.room}/kfsd.toml"], stdin=subprocess.DEVNULL, stdout=log, stderr=log, user=self.runs_as, group=self.runs_as)
+
+    def start(self):
+        """Starts it, and waits until clients may connect."""
+        before = self.said().count("clients may connect")
+        self.begin()
+        self.wait_for(lambda: self.said().count("clients may connect") > before)
+        return self
+
+    def wait_for(self, is_so):
+        end = time.monotonic() + SOON
+        while not is_so():
+            assert self.process.poll() is None, f"kfsd has ended with status {self.process.poll()}"
+            assert time.monotonic() < end, "nothing came in time"
+            time.sleep(0.01)
+
+    def said(self):
+        if not os.path.exists(self.log):
+            return ""
+        with open(self.log, encoding="utf-8", errors="replace") as it:
+            return it.read()
+
+    def connect(self, client=7):
+        it = next(it for it in self.users if it["client"] == client)
+        return Connection(f"{self.room}/socket", it["uid"], client)
+
+    def stranger(self, uid, client=7):
+        return Connection(f"{self.room}/socket", uid, client)
+
+    def status(self):
+        words = [f"{self.binaries}/kfsctl", "--control", f"{self.room}/control", "status"]
+        return tomllib.loads(subprocess.run(words, check=True, capture_output=True, text=True, timeout=SOON).stdout)
+
+    def kill_desk(self):
+        """Kills kfs_serve, once it runs."""
+        self.wait_for(self.has_killed_desk)
+
+    def has_killed_desk(self):
+        """Kills the process that kfsd names, where it is a child of kfsd. Returns whether it was."""
+        pid = self.status()["kfs_serve"]["process"]
+        if pid == 0:
+            return False
+        try:
+            # by this the process is meant, and not another one that has its number by then
+            held = os.pidfd_open(pid)
+        except ProcessLookupError:
+            return False
+        try:
+            with open(f"/proc/{pid}/stat", encoding="ascii", errors="replace") as it:
+                state, parent = it.read().rpartition(")")[2].split()[:2]
+            is_mine = state != "Z" and int(parent) == self.process.pid
+            if is_mine:
+                signal.pidfd_send_signal(held, signal.SIGKILL)
+            return is_mine
+        except (FileNotFoundError, ProcessLookupError):
+            return False
+        finally:
+            os.close(held)
+
+    def frames_left(self, client=7):
+        """How many frames more a user may have under way."""
+        return next(it["frames_left"] for it in self.status()["user"] if it["client"] == client)
+
+    def stop(self):
+        """Tells it to stop. Returns its status, and how long that took."""
+        began = time.monotonic()
+        self.process.send_signal(signal.SIGTERM)
+        status = self.process.wait(timeout=SOON + 30)
+        return status, time.monotonic() - began
+
+    def ended(self):
+        """Its status, once it has ended by itself."""
+        return self.process.wait(timeout=SOON)
+
+    def resident(self):
+        """The memory that it has, in bytes."""
+        with open(f"/proc/{self.process.pid}/statm", encoding="ascii") as it:
+            return int(it.read().split()[1]) * os.sysconf("SC_PAGE_SIZE")
+
+    def kept(self):
+        """The calls in the file that counts."""
+        return kept_in(self.folder)[1]
+
+
+def pretender(daemon, text):
+    """Has a script stand where kfs_serve does."""
+    daemon.program = f"{daemon.room}/pretender"
+    with open(daemon.program, "w", encoding="utf-8") as it:
+        it.write(f"#!{sys.executable}\nimport os, struct, sys, time\n{text}\n")
+    os.chmod(daemon.program, 0o755)
+    return daemon
+
+
+# A pretender that is asked whether it is open, and says so.
+READY = 'sys.stdin.buffer.read(12); sys.stdout.buffer.write(bytes.fromhex("00000006ffffffff020300000000")); sys.stdout.flush()\n'
