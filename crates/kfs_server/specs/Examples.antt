@@ -1,6 +1,6 @@
 -- Worked frames and replies, byte by byte, as docs/PROTOCOL.md has them.
 use Rattle.std.specs.Prelude.{ℕ, List, [], ◌∷◌}
-use Rattle.kfs_call.specs.Examples.{lease_call, lease_call_bytes, leased_answer}
+use Rattle.kfs_call.specs.Examples.{lease_call_bytes, leased_answer}
 use Rattle.kfs_server.specs.Frames.Frame.{Frame}
 use Rattle.kfs_server.specs.Replies.Reply.{Reply, Answered, Refused, NotYours}
 

@@ -1,12 +1,11 @@
 -- A stream has one cut into frames.
-use Rattle.std.proofs.Common.{◌≡◌, ℕ, ◌+◌, ◌^◌, ◌<◌, ◌≤◌, List, [], ◌∷◌, ◌++◌, length, take, drop, Option, Some, None, refl, sym, ap, subst, ◌∙◌, append_assoc, append-nil, length-append, arith}
+use Rattle.std.proofs.Common.{◌≡◌, ℕ, ◌+◌, ◌^◌, ◌<◌, List, [], ◌∷◌, ◌++◌, length, take, drop, refl, sym, ap, ◌∙◌, append_assoc, length-append, arith}
 use Rattle.std.specs.List.{flat_map, AllByRecursion}
-use Rattle.std.specs.Int.{w32, to_be_bytes}
 use Rattle.std.proofs.lemmas.List.{take_at, drop_at}
 use Rattle.kfs_model.specs.Spelling.{number32}
 use Rattle.kfs_model.proofs.Fields.{number32_field, some_is}
 use Rattle.kfs_model.proofs.Reading.{number32_read}
-use Rattle.kfs_server.specs.Frames.Frame.{Frame, IsFrame, IsPartial, Splits, frame_bytes, head_bytes, stream_of}
+use Rattle.kfs_server.specs.Frames.Frame.{Frame, IsFrame, IsPartial, frame_bytes, head_bytes, stream_of}
 use Rattle.kfs_server.specs.Frames.Begun.{IsBegun, IsHead, IsPending}
 use Rattle.kfs_server.specs.declared.frames.begun.Begun.{Begun}
 use Rattle.kfs_server.specs.declared.frames.begun.Begun.TheVariants.{InHead, InBody}

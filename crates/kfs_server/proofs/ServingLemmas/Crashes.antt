@@ -1,17 +1,14 @@
 -- What a crash leaves while a group is answered.
-use Rattle.std.proofs.Common.{◌≡◌, ◌⊎◌, inl, inr, ⊎_elim, ℕ, List, [], ◌∷◌, ◌++◌, map, Option, Some, None, Result, Ok, Err, refl, sym, ap, subst, ◌∙◌, append_assoc, append-nil}
+use Rattle.std.proofs.Common.{◌≡◌, inl, inr, ℕ, List, [], refl, sym, subst, append-nil}
 use Rattle.std.specs.List.{AllZip}
 use Rattle.kfs_model.specs.Judgement.{State}
 use Rattle.kfs_desk.specs.Machine.{Desk}
 use Rattle.kfs_journal.specs.Disk.{Files, LeavesOnly, Only}
-use Rattle.kfs_journal.proofs.Moments.{and_then, started, weaker}
-use Rattle.kfs_kept.specs.Calls.Making.{Runs}
+use Rattle.kfs_journal.proofs.Moments.{started, weaker}
 use Rattle.kfs_kept.specs.Standing.{StandFor, StandForBeforeOrAfter}
-use Rattle.kfs_call_desk.specs.declared.made.Called.{Called}
-use Rattle.kfs_call_desk.specs.declared.made.CallFault.{CallFault}
 use Rattle.kfs_server.specs.Frames.Frame.{Frame}
 use Rattle.kfs_server.specs.Replies.Reply.{Reply}
-use Rattle.kfs_server.specs.Serving.Group.{AreReplies, AreServed, calls_of}
+use Rattle.kfs_server.specs.Serving.Group.{calls_of}
 use Rattle.kfs_server.specs.Serving.Machine.{Serves}
 use Rattle.kfs_server.specs.Serving.Standing.{StandForSome}
 use Rattle.kfs_server.proofs.ServingLemmas.Runs.{IsDecidedOf}

@@ -1,12 +1,11 @@
 -- Calls that a desk has made one after another are frames that the machine has served.
-use Rattle.std.proofs.Common.{◌≡◌, inl, inr, ℕ, suc, List, [], ◌∷◌, ◌++◌, length, map, Result, Ok, Err, refl, sym, ap, subst, ◌∙◌, append-nil}
+use Rattle.std.proofs.Common.{◌≡◌, inl, inr, ℕ, suc, List, [], ◌∷◌, ◌++◌, length, map, Result, Ok, Err, refl, sym, ap, subst, ◌∙◌}
 use Rattle.std.specs.List.{AllZip}
 use Rattle.kfs_desk.specs.Machine.{Desk}
 use Rattle.kfs_call.specs.Call.{Call, IsCall, CallAnswer, call_bytes}
 use Rattle.kfs_call.specs.Layout as layouts
 use Rattle.kfs_call.specs.Readers.{call_read}
 use Rattle.kfs_call.proofs.CallLaws.{call_layout}
-use Rattle.kfs_call.specs.AnswerViews.{answer_shown}
 use Rattle.kfs_call.specs.declared.answer.AnswerRow.{AnswerRow}
 use Rattle.kfs_call.specs.declared.fault.FieldFault.TheVariants as fields
 use Rattle.kfs_call_desk.specs.Calls.{IsMade, IsRefusal}
@@ -14,14 +13,14 @@ use Rattle.kfs_call_desk.specs.declared.made.Called.{Called}
 use Rattle.kfs_call_desk.specs.declared.made.CallFault.{CallFault}
 use Rattle.kfs_call_desk.specs.declared.made.CallFault.TheVariants as faults
 use Rattle.kfs_kept.specs.Calls.Making.{Runs}
-use Rattle.kfs_server.specs.Asking.{IsBad, IsDecided, IsDecidedFor}
+use Rattle.kfs_server.specs.Asking.{IsDecided, IsDecidedFor}
 use Rattle.kfs_server.specs.Frames.Begun.{IsFrameOf}
 use Rattle.kfs_server.specs.Frames.Frame.{Frame}
 use Rattle.kfs_server.specs.declared.frames.frame.Incoming.{Incoming}
 use Rattle.kfs_server.specs.Replies.Views.{refusal_shown, reply_shown}
 use Rattle.kfs_server.specs.Replies.Reply as spelled
 use Rattle.kfs_server.specs.Serving.Group.{AreReplies, AreServed, IsReplied, IsReplyTo, call_in, calls_of, refused_for_memory}
-use Rattle.kfs_server.specs.Serving.Machine.{IsMadeFor, IsRefusedFor, Replies, Serves}
+use Rattle.kfs_server.specs.Serving.Machine.{IsRefusedFor, Replies}
 use Rattle.kfs_server.specs.declared.asking.Decided.{Decided}
 use Rattle.kfs_server.specs.declared.asking.Decision.{Decision}
 use Rattle.kfs_server.specs.declared.asking.Decision.TheVariants.{Make, Refuse}

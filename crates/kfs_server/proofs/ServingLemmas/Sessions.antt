@@ -1,10 +1,10 @@
 -- Groups of frames that are answered one after another.
-use Rattle.std.proofs.Common.{◌≡◌, ◌⊎◌, inl, inr, ℕ, ◌≤◌, List, [], ◌∷◌, ◌++◌, map, Option, Some, None, Result, Ok, Err, IsTrue, refl, sym, ap, subst, ◌∙◌, append_assoc, append-nil, arith}
+use Rattle.std.proofs.Common.{◌≡◌, inl, inr, ℕ, ◌≤◌, List, [], ◌∷◌, ◌++◌, map, Err, refl, sym, ap, subst, ◌∙◌, append_assoc, append-nil}
 use Rattle.std.specs.List.{AllByRecursion, AllZip, flat_map}
 use Rattle.std.proofs.lemmas.Grind.{flat_map-append}
 use Rattle.kfs_desk.specs.Machine.{Desk}
-use Rattle.kfs_journal.specs.Disk.{Files, LeavesOnly, Only}
-use Rattle.kfs_journal.proofs.Moments.{and_then, started, weaker}
+use Rattle.kfs_journal.specs.Disk.{Files, LeavesOnly}
+use Rattle.kfs_journal.proofs.Moments.{and_then, weaker}
 use Rattle.kfs_kept.specs.Standing.{StandFor}
 use Rattle.kfs_kept.specs.declared.kept.Kept.{Kept}
 use Rattle.kfs_kept.specs.Keeping.{Stands}

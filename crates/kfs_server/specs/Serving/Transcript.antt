@@ -1,5 +1,5 @@
 -- What is read, what is written, and what is kept meanwhile.
-use Rattle.std.specs.Prelude.{◌≡◌, ◌⊎◌, ℕ, ◌<◌, List, [], ◌++◌, length, Result, Ok, Err, IsTrue}
+use Rattle.std.specs.Prelude.{◌≡◌, ◌⊎◌, ℕ, ◌<◌, List, [], ◌++◌, length, Result, Ok, Err}
 use Rattle.kfs_journal.specs.Disk.{Files, LeavesOnly}
 use Rattle.kfs_desk.specs.Machine.{Desk}
 use Rattle.kfs_kept.specs.Standing.{StandFor}

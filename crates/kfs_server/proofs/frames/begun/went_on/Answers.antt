@@ -1,6 +1,4 @@
-use Rattle.std.proofs.Common.{◌≡◌, ℕ, ◌≤◌, List, ◌++◌, length, ◌∙◌, sym, ap, subst, append_assoc, arith, rules}
-use Rattle.kfs_server.specs.Frames.Frame.{Frame, head_bytes}
-use Rattle.kfs_server.specs.Frames.Begun.{IsBody}
+use Rattle.std.proofs.Common.{◌≡◌, length, arith}
 use Rattle.kfs_server.proofs.FramesLemmas.Reads.{whole_frame}
 use Rattle.kfs_server.proofs.frames.begun.went_on.Goals as goal
 

@@ -1,4 +1,4 @@
-use Rattle.std.proofs.Common.{◌≡◌, Err, length, ap, ◌∙◌, sym, subst}
+use Rattle.std.proofs.Common.{Err, length, ap, ◌∙◌}
 use Rattle.std.proofs.lemmas.List.{length-map}
 use Rattle.kfs_server.specs.Serving.Group.{refused_for_memory}
 use Rattle.kfs_server.proofs.ServingLemmas.Crashes.{left_stand}

@@ -1,4 +1,4 @@
-use Rattle.std.proofs.Common.{◌≡◌, ◌+◌, List, [], ◌∷◌, ◌++◌, length, refl, sym, ap, subst, ◌∙◌, arith}
+use Rattle.std.proofs.Common.{◌≡◌, ◌+◌, List, length, refl, sym, ap, subst, ◌∙◌, arith}
 use Rattle.kfs_server.specs.declared.replies.reply.NumberedReply.{NumberedReply}
 use Rattle.kfs_server.proofs.ServingLemmas.Merged.{IsMergedTo, enough, merge_begins, merge_ends, merge_goes_on}
 use Rattle.kfs_server.proofs.serving.merging.merge.Goals as goal

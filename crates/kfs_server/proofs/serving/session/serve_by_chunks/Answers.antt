@@ -1,4 +1,4 @@
-use Rattle.std.proofs.Common.{◌++◌, [], ◌≡◌, ℕ, List, take, append-nil}
+use Rattle.std.proofs.Common.{◌++◌, [], take, append-nil}
 use Rattle.std.proofs.KnownBytes.{Appends-nil, Appends-trans, Consumes-kept, Consumes-nil, Consumes-trans}
 use Rattle.std.proofs.lemmas.Result.{err_from_is_err_and}
 use Rattle.kfs_server.proofs.ServingLemmas.Sessions.{answers_begin, answers_break, answers_cut, answers_end, answers_on, answers_stop, nothing_served}

@@ -1,4 +1,4 @@
-use Rattle.std.proofs.Common.{◌≡◌, ℕ, List, IsTrue}
+use Rattle.std.proofs.Common.{ℕ, List, IsTrue}
 use Rattle.std.specs.Io.KnownBytes.{Appends, Consumes}
 use Rattle.kfs_kept.specs.Keeping.{IsKept}
 use Rattle.kfs_server.specs.Frames.Begun.{IsBegun}

@@ -5,7 +5,6 @@ use Rattle.std.proofs.lemmas.Result.{err_from_is_err_and}
 use Rattle.kfs_server.specs.Frames.Begun.{IsFrameOf}
 use Rattle.kfs_server.specs.Replies.Views.{numbered_bytes}
 use Rattle.kfs_server.specs.declared.frames.frame.Incoming.{Incoming}
-use Rattle.kfs_server.specs.declared.replies.reply.NumberedReply.{NumberedReply}
 use Rattle.kfs_server.proofs.ServingLemmas.Sessions.{all_are_some, group_failed, group_served, partly_said}
 use Rattle.kfs_server.proofs.serving.session.write_answers.Goals as goal
 

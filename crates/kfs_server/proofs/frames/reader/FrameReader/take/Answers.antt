@@ -1,4 +1,4 @@
-use Rattle.std.proofs.Common.{◌≡◌, ℕ, ◌+◌, ◌<◌, List, [], ◌∷◌, ◌++◌, length, vec_len, vec_capacity, refl, sym, ap, subst, ◌∙◌, arith, rules}
+use Rattle.std.proofs.Common.{◌≡◌, ℕ, List, [], ◌∷◌, ◌++◌, length, refl, sym, ap, subst, ◌∙◌, arith, rules}
 use Rattle.kfs_server.specs.Frames.Begun.{AreReadTo, IsPending}
 use Rattle.kfs_server.specs.declared.frames.frame.Incoming.{Incoming}
 use Rattle.kfs_server.specs.declared.frames.begun.Begun.{Begun}
