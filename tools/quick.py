@@ -74,8 +74,10 @@ def build_quick(program, uses, room, files=()):
 
 
 def add_words(words):
-    """Adds the words that say which program is run."""
-    words.add_argument("--quick", action="store_true")
+    """Adds the words that say which program is run: the quick build, unless it is to be proved. `--quick` says what is so anyway."""
+    how = words.add_mutually_exclusive_group()
+    how.add_argument("--quick", action="store_true")
+    how.add_argument("--proved", action="store_true")
     words.add_argument("--program")
 
 
@@ -83,7 +85,7 @@ def program_for(asked, room, program, uses, files):
     """Returns the path of the program: the one that is given; or one that is built, proved or not, and put there."""
     if asked.program and os.path.isfile(asked.program):
         return os.path.realpath(asked.program)
-    made = (build_quick if asked.quick else build)(program, uses, f"{room}/made", files)
+    made = (build if asked.proved else build_quick)(program, uses, f"{room}/made", files)
     if asked.program:
         shutil.copy(made, asked.program)
     return made

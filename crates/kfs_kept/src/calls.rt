@@ -8,7 +8,7 @@
 //! Calls one after another, each with its answer, to the end of the group. Lengths are big-endian.
 //!
 //! ```text
-//! call    length (4)   call   length (4)   answer
+//! call    length (4)   call   length (1)   answer
 //! ```
 //!
 //! Call and answer are those of docs/FORMATS.md, the answer without its first four bytes: a position counts from

@@ -1,12 +1,11 @@
 //! A crash at each moment of the run, torn in five ways, and the desk that is opened then.
 use crate::files::{Outcome, found_after, is_found};
+use crate::journal::run::TEARS;
 use crate::run::{STEPS, run, states};
 use kfs_journal::Tear;
 use std::alloc::AllocGlobal;
 use std::process::Abort;
 use std::thread::Threads;
-
-const TEARS: [Tear; 5] = [Tear::Lost, Tear::Whole, Tear::Half, Tear::Ones, Tear::Zeros];
 
 /// Whether a crash at each moment of the opening leaves what it has found.
 fn is_found_again(rt: &(impl Threads + AllocGlobal + Sync), found: &Outcome) -> bool {

@@ -1,11 +1,11 @@
 //! Kept desks with one allocation refused: what is answered, and what is left standing.
 ghost use Rattle.std.specs.Prelude.{◌≡◌, IfSome, None};
 ghost use Rattle.kfs_desk.specs.Opening.{begin_fault};
-ghost use Rattle.kfs_journal.specs.Disk.{Only};
 ghost use Rattle.kfs_journal.specs.Memory.{memory_may_leave, memory_seen};
 ghost use Rattle.kfs_kept.specs.Keeping.{IsKept};
 
 use crate::files::is_found;
+use crate::journal::run::disk_of;
 use crate::keeping::{
     Answers, call_all, is_under_way, keep, kept_in, make_steps, moment, open_files, opened, save,
     saved, shown,
@@ -397,16 +397,6 @@ fn left_files(alloc: Global, calls: &Calls<'_>) -> Option<Left> {
     } else {
         None
     }
-}
-
-/// A disk of two files with these bytes, all on the disk.
-fn disk_of(alloc: Global, first: &[u8], second: &[u8]) -> Option<MemoryDisk>
-    ensures seen { IfSome result (λ disk. memory_seen disk ≡ (first.now, second.now)) }
-    ensures durable { IfSome result (λ disk. Only (memory_seen disk) (memory_may_leave disk)) }
-{
-    let first = first.to_vec(alloc).ok()?;
-    let second = second.to_vec(alloc).ok()?;
-    Some(MemoryDisk::new(alloc, first, second))
 }
 
 /// How files end that are opened. None where the desk isn't the one that they keep.

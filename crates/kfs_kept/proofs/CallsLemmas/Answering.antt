@@ -21,7 +21,7 @@ use Rattle.kfs_call_desk.specs.Calls.{IsActing, IsCalled, IsMade, IsSubmitting}
 use Rattle.kfs_call_desk.specs.declared.made.Called.{Called}
 use Rattle.kfs_call_desk.specs.declared.made.Called.TheVariants.{Submitted, Acted}
 use Rattle.kfs_call_desk.specs.declared.made.CallFault.{CallFault}
-use Rattle.kfs_kept.specs.Calls.Group.{kept_bytes}
+use Rattle.kfs_kept.specs.Calls.Group.{IsBrief, kept_bytes}
 use Rattle.kfs_kept.specs.Calls.Leads.{Asks, Leads}
 use Rattle.kfs_kept.specs.Calls.Making.{IsAppended, IsNext, IsToldIn}
 use Rattle.kfs_call_desk.specs.Told.{IsActTold, IsTold, done_shown, done_told, refusal_told, reply_told, told_of}
@@ -129,7 +129,7 @@ unfolding number32 number64
 fault_short fault = refl
 
 -- an answer without its position has at most 14 bytes and two before
-pub told_short : (told : Told) → IsLong (joined (told_fields told))
+pub told_short : (told : Told) → IsBrief (joined (told_fields told))
 unfolding number32 number64
 told_short (Yes rejudged need) = let one = flag_short rejudged in omega (arith, one, length-append (flag_bytes rejudged) (number64 need ++ []))
 told_short (No rejudged fault) = let one = flag_short rejudged in let many = fault_short fault in omega (arith, one, many, length-append (flag_bytes rejudged) (fault_bytes fault ++ []), length-append (fault_bytes fault) [])
@@ -149,7 +149,7 @@ row_told position told bytes is =
 -- ---- a call that was made stands in the group
 
 pub next_made : (old new : Desk) (bytes before after answer : List ℕ) (result : Result Called CallFault) (called : Called) → result ≡ Ok called → IfOk result (λ x. IsCalled bytes old x new) → IsToldIn called answer
-    → IsLong bytes → IsLong answer → after ≡ before ++ kept_bytes (record { call = bytes; answer = answer }) → IsNext old bytes result before after new
+    → IsLong bytes → IsBrief answer → after ≡ before ++ kept_bytes (record { call = bytes; answer = answer }) → IsNext old bytes result before after new
 next_made old new bytes before after answer result called is made told long short parts =
     let called_so : IsCalled bytes old called new = subst (λ (r : Result Called CallFault). IfOk r (λ x. IsCalled bytes old x new)) is made in
     let appended : IsAppended old.state bytes before after new.state = record { kept = record { call = bytes; answer = answer }; fits = (long, short); is = refl; parts = parts; leads = answer_leads old new bytes answer called called_so told } in

@@ -16,7 +16,7 @@ use Rattle.kfs_call.specs.declared.fault.FieldFault.{FieldFault}
 use Rattle.kfs_call.specs.declared.fault.FieldFault.TheVariants as fields
 use Rattle.kfs_call_desk.specs.Calls.{IsRefusal}
 use Rattle.kfs_call_desk.specs.declared.made.CallFault.TheVariants as faults
-use Rattle.kfs_kept.specs.Calls.Group.{CallAndAnswer, IsGroup, group_bytes, kept_bytes, kept_read}
+use Rattle.kfs_kept.specs.Calls.Group.{CallAndAnswer, IsGroup, brief_bytes, group_bytes, kept_bytes, kept_read}
 use Rattle.kfs_kept.specs.Calls.Leads.{Asks, GroupLeads, LeadOn, Leads}
 use Rattle.kfs_call_desk.specs.Told.{told_of}
 use Rattle.kfs_kept.proofs.CallsLemmas.GroupLaws.{kept_again, kept_shorter, kept_takes}
@@ -119,4 +119,4 @@ none_leads s t (asked, group) = by group.calls group.fit group.spelled group.lea
 pub call_are_bytes : (bytes : List ℕ) (kept : CallAndAnswer) (rest : List ℕ) → IsBytes bytes → kept_read bytes ≡ Some (kept, rest) → IsBytes kept.call
 call_are_bytes bytes kept rest are found =
     let stands = kept_takes bytes kept rest are found in
-    bytes_long kept.call (long_bytes kept.answer) (bytes_front (kept_bytes kept) rest (subst IsBytes stands.parts are))
+    bytes_long kept.call (brief_bytes kept.answer) (bytes_front (kept_bytes kept) rest (subst IsBytes stands.parts are))

@@ -2,9 +2,9 @@
 ghost use Rattle.std.specs.Prelude.{◌≡◌, ◌++◌, ℕ, List, OnOk, option_map};
 ghost use Rattle.kfs_call.specs.Call.{IsLong, long_bytes};
 ghost use Rattle.kfs_call.specs.Readers.{long_read};
-ghost use Rattle.kfs_kept.specs.Calls.Group.{CallAndAnswer, IsKept, kept_bytes, kept_read, kept_shown};
+ghost use Rattle.kfs_kept.specs.Calls.Group.{CallAndAnswer, IsBrief, IsKept, brief_bytes, brief_read, kept_bytes, kept_read, kept_shown};
 
-use kfs_entry::codec::{bytes, number32};
+use kfs_entry::codec::{byte, bytes, number32};
 use std::alloc::{AllocError, Allocator};
 
 /// A call and its answer as bytes, as they stand in a group.
@@ -21,7 +21,7 @@ pub fn first_call(source: &[u8]) -> Option<(KeptCall<'_>, &[u8])>
     ensures { option_map {U = CallAndAnswer × List ℕ} (λ x. (kept_shown x.0, x.1.now)) result ≡ kept_read source.now }
 {
     let (call, behind) = long_run(source)?;
-    let (answer, rest) = long_run(behind)?;
+    let (answer, rest) = brief_run(behind)?;
     Some((KeptCall { call, answer }, rest))
 }
 
@@ -35,8 +35,18 @@ fn long_run(source: &[u8]) -> Option<(&[u8], &[u8])>
     Some((run, &source[end..]))
 }
 
-/// Appends a call to a group. Condition: call and answer have fewer than 2^32 bytes each. `Err` where memory runs
-/// out.
+/// The bytes behind a length of one byte, and what stands behind them.
+#[tactic(auto, unfolding(crate::specs::Calls::Group::brief_read))]
+fn brief_run(source: &[u8]) -> Option<(&[u8], &[u8])>
+    ensures { option_map (λ x. (x.0.now, x.1.now)) result ≡ brief_read source.now }
+{
+    let (len, at) = byte::read(source, 0)?;
+    let (run, end) = bytes::run(source, at, len as usize)?;
+    Some((run, &source[end..]))
+}
+
+/// Appends a call to a group. Condition: the call has fewer than 2^32 bytes, and the answer fewer than 256. `Err` where
+/// memory runs out.
 pub fn push_call<A: Allocator>(
     group: &mut Vec<u8, A>,
     kept: &KeptCall<'_>,
@@ -45,7 +55,7 @@ pub fn push_call<A: Allocator>(
     ensures { OnOk result (group.new.items ≡ group.old.items ++ kept_bytes (kept_shown kept.now)) }
 {
     push_long(group, kept.call)?;
-    push_long(group, kept.answer)
+    push_brief(group, kept.answer)
 }
 
 /// Appends bytes behind their length.
@@ -54,5 +64,14 @@ fn push_long<A: Allocator>(group: &mut Vec<u8, A>, value: &[u8]) -> Result<(), A
     ensures { OnOk result (group.new.items ≡ group.old.items ++ long_bytes value.now) }
 {
     number32::write(group, &[], &(value.len() as u32))?;
+    group.extend_from_slice(value)
+}
+
+/// Appends bytes behind a length of one byte.
+fn push_brief<A: Allocator>(group: &mut Vec<u8, A>, value: &[u8]) -> Result<(), AllocError>
+    requires { IsBrief value.now }
+    ensures { OnOk result (group.new.items ≡ group.old.items ++ brief_bytes value.now) }
+{
+    group.push(value.len() as u8)?;
     group.extend_from_slice(value)
 }

@@ -2,6 +2,7 @@
 ghost use Rattle.std.specs.Prelude.{◌≡◌, [], ◌≤◌, ◌<◌, ◌^◌, ◌++◌, ◌+◌, All, List, length, drop, map, IfOk, IfSome, IsNone, OnOk};
 ghost use Rattle.std.specs.List.{sum_by};
 ghost use Rattle.kfs_call.specs.Call.{IsLong};
+ghost use Rattle.kfs_kept.specs.Calls.Group.{IsBrief};
 ghost use Rattle.kfs_kept.specs.Calls.Making.{AreMade, IsNext, IsToldIn};
 
 use crate::calls::group::{KeptCall, push_call};
@@ -13,7 +14,7 @@ use std::alloc::{AllocError, Allocator};
 /// The most bytes of a group: a journal has four bytes for its length.
 const MAX_GROUP: usize = (1 << 32) - 1;
 
-/// The most bytes of a group that a call takes beside its own: two lengths, and an answer without its position.
+/// At most so many bytes of a group a call takes beside its own: two lengths, and an answer without its position.
 const BESIDE_CALL: usize = 24;
 
 /// Calls that were made, and the group that keeps them.
@@ -100,7 +101,7 @@ fn make_call<A: Allocator + Copy, B: Allocator + Copy>(
 /// An answer as bytes, at position 0.
 pub fn answer_row<B: Allocator>(alloc: B, called: &Called) -> Result<Vec<u8, B>, AllocError>
     ensures long { IfOk result (λ row. 4 ≤ length row.items) }
-    ensures short { IfOk result (λ row. IsLong (drop 4 row.items)) }
+    ensures short { IfOk result (λ row. IsBrief (drop 4 row.items)) }
     ensures told { IfOk result (λ row. IsToldIn called.now (drop 4 row.items)) }
 {
     let row = AnswerRow {

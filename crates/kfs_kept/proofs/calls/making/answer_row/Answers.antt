@@ -1,6 +1,6 @@
 use Rattle.std.proofs.Common.{subst, sym}
 use Rattle.kfs_call.specs.AnswerViews.{told_shown}
-use Rattle.kfs_call.specs.Call.{IsLong}
+use Rattle.kfs_kept.specs.Calls.Group.{IsBrief}
 use Rattle.kfs_kept.proofs.CallsLemmas.Answering.{row_told, told_short}
 use Rattle.kfs_kept.proofs.calls.making.answer_row.Goals as goal
 
@@ -8,7 +8,7 @@ pub returns-clause-long : goal.returns-clause-long
 returns-clause-long g c = (row_told 0 (told_shown c.told.result) _ c.in_ok-bytes.ensures).0
 
 pub returns-clause-short : goal.returns-clause-short
-returns-clause-short g c = subst IsLong (sym (row_told 0 (told_shown c.told.result) _ c.in_ok-bytes.ensures).1) (told_short (told_shown c.told.result))
+returns-clause-short g c = subst IsBrief (sym (row_told 0 (told_shown c.told.result) _ c.in_ok-bytes.ensures).1) (told_short (told_shown c.told.result))
 
 pub returns-clause-told : goal.returns-clause-told
 returns-clause-told g c = (told_shown c.told.result, c.told.ensures, (row_told 0 (told_shown c.told.result) _ c.in_ok-bytes.ensures).1)

@@ -2,12 +2,10 @@
 ghost use Rattle.kfs_journal.specs.Disk.{Only};
 ghost use Rattle.kfs_journal.specs.Memory.{memory_seen, memory_may_leave};
 
-use crate::run::{DISK_CALLS, answered_by, is_due, run, told};
+use crate::journal::run::{DISK_CALLS, TEARS, answered_by, is_due, run, told};
 use kfs_journal::{Journal, MemoryDisk, Tear};
 use std::alloc::Global;
 use std::process::Abort;
-
-const TEARS: [Tear; 5] = [Tear::Lost, Tear::Whole, Tear::Half, Tear::Ones, Tear::Zeros];
 
 /// A disk that has had the run, and how many of its calls were answered.
 fn run_through(alloc: Global) -> Option<(MemoryDisk, usize)> {

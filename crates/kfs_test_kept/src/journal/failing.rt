@@ -1,6 +1,6 @@
 //! Each call of the files failing in turn, half done, as on a full disk.
 
-use crate::run::{is_due, run, told};
+use crate::journal::run::{is_due, run, told};
 use kfs_journal::{File, Journal, JournalFault, settle};
 use kfs_journal_files::{RawDisk, RawFiles};
 use std::alloc::{AllocError, Global};

@@ -1,7 +1,7 @@
 use Rattle.std.proofs.Common.{◌≡◌, ℕ, List, [], ◌∷◌, ◌++◌, ap, subst, ◌∙◌, arith}
 use Rattle.kfs_journal.specs.Draft.{HasDraft}
 use Rattle.kfs_journal.specs.Format.{record_bytes, records_bytes}
-use Rattle.kfs_test_journal.proofs.run.run_drafted.Goals as goal
+use Rattle.kfs_test_kept.proofs.journal.run.run_drafted.Goals as goal
 
 abbrev one : List ℕ
 one = 108 ∷ []

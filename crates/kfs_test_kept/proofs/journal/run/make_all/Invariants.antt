@@ -1,5 +1,5 @@
 use Rattle.kfs_journal.specs.Journal.{IsSettled}
-use Rattle.kfs_test_journal.proofs.run.make_all.Given as goal
+use Rattle.kfs_test_kept.proofs.journal.run.make_all.Given as goal
 
 -- the journal is settled
 abbrev pub invariant-loop-call : goal.invariant-loop-call

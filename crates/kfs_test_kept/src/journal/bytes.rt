@@ -3,7 +3,7 @@ ghost use Rattle.kfs_journal.specs.Disk.{Only};
 ghost use Rattle.kfs_journal.specs.Journal.{AreEmpty};
 ghost use Rattle.kfs_journal.specs.Memory.{memory_seen, memory_may_leave};
 
-use crate::run::{are_groups, change, disk_of, put as put_group};
+use crate::journal::run::{are_groups, change, disk_of, put as put_group};
 use kfs_journal::{Journal, JournalFault, MemoryDisk, Opened};
 use std::alloc::Global;
 use std::process::Abort;

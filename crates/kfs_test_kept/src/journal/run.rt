@@ -6,7 +6,9 @@ ghost use Rattle.kfs_journal.specs.declared.journal.draft.Draft.{Draft};
 ghost use Rattle.kfs_journal.specs.Journal.{AreEmpty, IsSettled};
 ghost use Rattle.kfs_journal.specs.Memory.{memory_seen, memory_may_leave};
 
-use kfs_journal::{Disk, Draft, Journal, JournalFault, MemoryDisk, OpenFault, Opened, push_record};
+use kfs_journal::{
+    Disk, Draft, Journal, JournalFault, MemoryDisk, OpenFault, Opened, Tear, push_record,
+};
 use std::alloc::{AllocError, Global};
 
 /// What the files stand for before the run and after each of its calls: the state, and each group behind a
@@ -36,6 +38,9 @@ pub static STATES: [&[u8]; 18] = [
 /// state also a cut and the beginning of its head, and its length and the gate behind it are written apart. A draft is begun by
 /// a cut and two writes, and finished by two writes.
 pub static DISK_CALLS: [usize; 17] = [10, 4, 4, 4, 10, 4, 10, 4, 10, 6, 4, 2, 4, 2, 2, 4, 4];
+
+/// The ways in which a crash tears.
+pub const TEARS: [Tear; 5] = [Tear::Lost, Tear::Whole, Tear::Half, Tear::Ones, Tear::Zeros];
 
 // ---- calls of a journal, with the clauses that the next call asks for alone
 

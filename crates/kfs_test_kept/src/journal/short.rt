@@ -8,7 +8,7 @@ use std::os::unix::fs::FileExt;
 use std::process::Abort;
 use std::{fs, io};
 
-const FOLDER: &str = "kfs_test_journal_short";
+const FOLDER: &str = "kfs_test_kept_short";
 
 /// A file with short and interrupted writes.
 #[derive(Drop)]
@@ -64,16 +64,16 @@ fn short_file(rt: &HostRuntime, path: &str) -> io::Result<ShortFile> {
 
 /// Writes to both files by short writes, and reads them.
 fn written(rt: &HostRuntime) -> io::Result<(Vec<u8>, Vec<u8>)> {
-    let first = short_file(rt, "kfs_test_journal_short/first")?;
-    let second = short_file(rt, "kfs_test_journal_short/second")?;
+    let first = short_file(rt, "kfs_test_kept_short/first")?;
+    let second = short_file(rt, "kfs_test_kept_short/second")?;
     let mut pair = Pair::new(first, second);
     pair.write_all_at(File::First, 0, b"eleven byte")?;
     pair.write_all_at(File::Second, 0, b"ten bytes.")?;
     pair.write_all_at(File::First, 7, b"BYTES and more")?;
     pair.set_len(File::First, 16)?;
     pair.sync_data(File::First)?;
-    let first = fs::read(rt, "kfs_test_journal_short/first")?;
-    let second = fs::read(rt, "kfs_test_journal_short/second")?;
+    let first = fs::read(rt, "kfs_test_kept_short/first")?;
+    let second = fs::read(rt, "kfs_test_kept_short/second")?;
     Ok((first, second))
 }
 

@@ -5,7 +5,7 @@ ghost use Rattle.kfs_journal.specs.Disk.{Only};
 ghost use Rattle.kfs_journal.specs.Journal.{AreEmpty};
 ghost use Rattle.kfs_journal_files.specs.Events.{seen_after, Leaves};
 
-use crate::run::are_groups;
+use crate::journal::run::are_groups;
 use kfs_journal::{Journal, JournalFault};
 use kfs_journal_files::{
     FIRST_NAME, FilesFault, OpenedFiles, Pair, RawDisk, SECOND_NAME, create_files, open_files,
@@ -135,23 +135,23 @@ fn mode(rt: &HostRuntime, path: &str) -> u32 {
 
 #[test]
 fn a_journal_is_made_and_found_again(rt: HostRuntime) {
-    let folder = "kfs_test_journal_found";
+    let folder = "kfs_test_kept_found";
     assert!(&rt; makes_folder(&rt, folder));
     assert!(&rt; is_put(&rt, folder));
     assert!(&rt; is_found_once(&rt, folder));
     assert!(&rt; is_found_once(&rt, folder));
-    assert_eq!(&rt; mode(&rt, "kfs_test_journal_found/first.kdjl"), 0o600);
-    assert_eq!(&rt; mode(&rt, "kfs_test_journal_found/second.kdjl"), 0o600);
+    assert_eq!(&rt; mode(&rt, "kfs_test_kept_found/first.kdjl"), 0o600);
+    assert_eq!(&rt; mode(&rt, "kfs_test_kept_found/second.kdjl"), 0o600);
     assert!(&rt; FIRST_NAME == "first.kdjl" && SECOND_NAME == "second.kdjl");
     assert!(&rt; is_removed(&rt, folder));
 }
 
 #[test]
 fn files_that_are_not_there_are_missing(rt: HostRuntime) {
-    let folder = "kfs_test_journal_missing";
+    let folder = "kfs_test_kept_missing";
     assert!(&rt; makes_folder(&rt, folder));
     assert_eq!(&rt; open_end(&rt, folder), End::Missing);
-    assert!(&rt; is_written(&rt, "kfs_test_journal_missing/first.kdjl", b""));
+    assert!(&rt; is_written(&rt, "kfs_test_kept_missing/first.kdjl", b""));
     assert_eq!(&rt; open_end(&rt, folder), End::Missing);
     assert_eq!(&rt; create_end(&rt, folder), End::Exists);
     assert!(&rt; is_removed(&rt, folder));
@@ -160,37 +160,37 @@ fn files_that_are_not_there_are_missing(rt: HostRuntime) {
 
 #[test]
 fn a_second_file_that_is_there_leaves_no_first_one(rt: HostRuntime) {
-    let folder = "kfs_test_journal_second";
+    let folder = "kfs_test_kept_second";
     assert!(&rt; makes_folder(&rt, folder));
-    assert!(&rt; is_linked(&rt, "nowhere", "kfs_test_journal_second/second.kdjl"));
+    assert!(&rt; is_linked(&rt, "nowhere", "kfs_test_kept_second/second.kdjl"));
     assert_eq!(&rt; create_end(&rt, folder), End::Exists);
-    assert_eq!(&rt; mode(&rt, "kfs_test_journal_second/first.kdjl"), 0);
+    assert_eq!(&rt; mode(&rt, "kfs_test_kept_second/first.kdjl"), 0);
     assert!(&rt; is_removed(&rt, folder));
 }
 
 #[test]
 fn links_and_folders_are_no_regular_files(rt: HostRuntime) {
-    let folder = "kfs_test_journal_links";
+    let folder = "kfs_test_kept_links";
     assert!(&rt; makes_folder(&rt, folder));
-    assert!(&rt; is_written(&rt, "kfs_test_journal_links/other", b"kept"));
-    assert!(&rt; is_linked(&rt, "other", "kfs_test_journal_links/first.kdjl"));
+    assert!(&rt; is_written(&rt, "kfs_test_kept_links/other", b"kept"));
+    assert!(&rt; is_linked(&rt, "other", "kfs_test_kept_links/first.kdjl"));
     assert_eq!(&rt; create_end(&rt, folder), End::Exists);
-    assert!(&rt; is_written(&rt, "kfs_test_journal_links/second.kdjl", b""));
+    assert!(&rt; is_written(&rt, "kfs_test_kept_links/second.kdjl", b""));
     assert_eq!(&rt; open_end(&rt, folder), End::NotRegular);
-    assert!(&rt; is_folder_in_place_of(&rt, "kfs_test_journal_links/first.kdjl"));
+    assert!(&rt; is_folder_in_place_of(&rt, "kfs_test_kept_links/first.kdjl"));
     assert_eq!(&rt; open_end(&rt, folder), End::NotRegular);
     assert!(&rt; is_removed(&rt, folder));
 }
 
 #[test]
 fn one_file_with_both_names_is_busy(rt: HostRuntime) {
-    let folder = "kfs_test_journal_twice";
+    let folder = "kfs_test_kept_twice";
     assert!(&rt; makes_folder(&rt, folder));
-    assert!(&rt; is_written(&rt, "kfs_test_journal_twice/first.kdjl", b""));
+    assert!(&rt; is_written(&rt, "kfs_test_kept_twice/first.kdjl", b""));
     let is_twice = is_named_twice(
         &rt,
-        "kfs_test_journal_twice/first.kdjl",
-        "kfs_test_journal_twice/second.kdjl",
+        "kfs_test_kept_twice/first.kdjl",
+        "kfs_test_kept_twice/second.kdjl",
     );
     assert!(&rt; is_twice);
     assert_eq!(&rt; open_end(&rt, folder), End::Busy);
