@@ -1,4 +1,4 @@
-//! A test program. It runs the scripts of its folder data/ through `run_words` of `kfs_program`, and compares output and
+//! A test program. It runs the scripts of its folder data/ through `run_words`, and compares output and
 //! exit status with what is expected, byte by byte; some of them in little memory, too, and with reads and
 //! writes that fail.
 //!
@@ -10,10 +10,9 @@ mod runs;
 mod scripts;
 mod streams;
 
+use kfs_program::run_words;
 use memory::run_in_little_memory;
-use runs::run_over;
 use scripts::{Case, ScriptFault, script_names};
-use std::collections::BTreeSet;
 use std::io;
 use std::process::ExitCode;
 use std::rt::Files;
@@ -22,17 +21,9 @@ use streams::run_with_failures;
 
 fn main(rt: HostRuntime) -> io::Result<ExitCode> {
     let names = script_names(&rt, ".")?;
-    let failed = run_scripts(&rt, &names)?;
-    let count = names.len();
-    println!(rt; "{count} scripts, {failed} failed")?;
-    Ok(ExitCode::from(u8::from(failed != 0)))
-}
-
-/// Runs the scripts with these names, and answers how many failed.
-fn run_scripts(rt: &HostRuntime, names: &BTreeSet<String>) -> io::Result<u64> {
     let mut failed = 0u64;
     for name in names.iter() {
-        match run_script(rt, name.as_str()) {
+        match run_script(&rt, name.as_str()) {
             Ok(()) => println!(rt; "{name}: as expected")?,
             Err(fault) => {
                 failed = failed.saturating_add(1);
@@ -40,7 +31,9 @@ fn run_scripts(rt: &HostRuntime, names: &BTreeSet<String>) -> io::Result<u64> {
             }
         }
     }
-    Ok(failed)
+    let count = names.len();
+    println!(rt; "{count} scripts, {failed} failed")?;
+    Ok(ExitCode::from(u8::from(failed != 0)))
 }
 
 /// Runs one script with its words, and compares its replies and its status.
@@ -52,7 +45,7 @@ fn run_script<R: Files + AllocGlobal + Threads + Sync>(
     let words = case.words(rt.alloc())?;
     let mut script = case.script();
     let mut written = Vec::new(rt.alloc());
-    let status = run_over(rt, rt.alloc(), &words, &mut script, &mut written);
+    let status = run_words(rt, rt.alloc(), &words, &mut script, &mut written);
     case.compare(status, &written)?;
     run_in_little_memory(rt, &case, &words)?;
     run_with_failures(rt, &case, &words)

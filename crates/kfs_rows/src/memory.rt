@@ -45,27 +45,21 @@ fn verdict_line(lines: &[u8], written: &[u8], index: usize) -> Option<usize> {
     judged
 }
 
-/// Appends the text without the line with this index.
-// (apart from its owner, so that no way out of the loop drops a list)
-fn push_without(left: &mut Vec<u8>, text: &[u8], index: usize) -> Result<(), AllocError> {
+/// The text without the line with this index.
+fn without_line(alloc: Global, text: &[u8], index: usize) -> Result<Vec<u8>, AllocError> {
+    let mut left = Vec::new(alloc);
     let lines = text.split_inclusive(|byte| *byte == b'\n');
     for (at, line) in lines.enumerate() {
         if at != index {
             left.extend_from_slice(line)?;
         }
     }
-    Ok(())
-}
-
-/// The text without the line with this index.
-fn without_line(alloc: Global, text: &[u8], index: usize) -> Result<Vec<u8>, AllocError> {
-    let mut left = Vec::new(alloc);
-    push_without(&mut left, text, index)?;
     Ok(left)
 }
 
-/// Appends the text with this line, with its end, before the line with this index.
-fn push_with(all: &mut Vec<u8>, text: &[u8], index: usize, line: &[u8]) -> Result<(), AllocError> {
+/// The text with this line, with its end, before the line with this index.
+fn with_line(alloc: Global, text: &[u8], index: usize, line: &[u8]) -> Result<Vec<u8>, AllocError> {
+    let mut all = Vec::new(alloc);
     let lines = text.split_inclusive(|byte| *byte == b'\n');
     for (at, here) in lines.enumerate() {
         if at == index {
@@ -74,13 +68,6 @@ fn push_with(all: &mut Vec<u8>, text: &[u8], index: usize, line: &[u8]) -> Resul
         }
         all.extend_from_slice(here)?;
     }
-    Ok(())
-}
-
-/// The text with this line, with its end, before the line with this index.
-fn with_line(alloc: Global, text: &[u8], index: usize, line: &[u8]) -> Result<Vec<u8>, AllocError> {
-    let mut all = Vec::new(alloc);
-    push_with(&mut all, text, index, line)?;
     Ok(all)
 }
 
@@ -184,22 +171,6 @@ fn is_due_again<R: AllocGlobal + Threads + Sync>(
     }
 }
 
-/// Runs the script with the allocation of this index failing. Whether there was such an allocation.
-fn has_growth<R: AllocGlobal + Threads + Sync>(
-    rt: &R,
-    case: &Case,
-    words: &[&str],
-    growth: u64,
-) -> Result<bool, ScriptFault> {
-    let heap = Refusing::new(rt.alloc(), growth);
-    let given = run(rt, &heap, words, case.lines());
-    if !is_due(rt, case, words, &given)? {
-        return Err(ScriptFault::Growth(growth));
-    }
-    is_due_again(rt, case, words, &given, growth)?;
-    Ok(heap.has_refused())
-}
-
 /// Refuses each allocation of the script in turn, and answers how many there are.
 fn growths<R: AllocGlobal + Threads + Sync>(
     rt: &R,
@@ -207,7 +178,13 @@ fn growths<R: AllocGlobal + Threads + Sync>(
     words: &[&str],
 ) -> Result<u64, ScriptFault> {
     for growth in 0..MANY {
-        if !has_growth(rt, case, words, growth)? {
+        let heap = Refusing::new(rt.alloc(), growth);
+        let given = run(rt, &heap, words, case.lines());
+        if !is_due(rt, case, words, &given)? {
+            return Err(ScriptFault::Growth(growth));
+        }
+        is_due_again(rt, case, words, &given, growth)?;
+        if !heap.has_refused() {
             return Ok(growth);
         }
     }

@@ -1,7 +1,8 @@
 //! Scripts whose input or output fails: at each read in turn, and at each write. A write fails, or it takes no byte.
 
-use crate::runs::{run, run_over};
+use crate::runs::run;
 use crate::scripts::{Case, ScriptFault};
+use kfs_program::run_words;
 use std::io;
 use std::io::{ErrorKind, Read, Write};
 use std::thread::Threads;
@@ -121,85 +122,35 @@ fn are_due<R: AllocGlobal + Threads + Sync>(
     case.replies().starts_with(text) && due.written.as_slice() == text
 }
 
-/// Fails the read of this index: the whole lines before it are answered. Whether there was such a read.
-fn has_read<R: AllocGlobal + Threads + Sync>(
-    rt: &R,
-    case: &Case,
-    words: &[&str],
-    left: u64,
-) -> Result<bool, ScriptFault> {
-    let mut lines = Lines {
-        bytes: case.lines(),
-        granted: Granted {
-            left,
-            has_failed: false,
-        },
-    };
-    let mut text = Vec::new(rt.alloc());
-    let status = run_over(rt, rt.alloc(), words, &mut lines, &mut text);
-    if !lines.granted.has_failed {
-        case.compare(status, &text)?;
-        return Ok(false);
-    }
-    let count = case.lines().len().saturating_sub(lines.bytes.len());
-    let read = case.lines().get(..count).unwrap_or(&[]);
-    if status == FAILED && are_due(rt, case, words, read, &text) {
-        Ok(true)
-    } else {
-        Err(ScriptFault::Read(left))
-    }
-}
-
-/// Fails each read of the script in turn.
+/// Fails each read of the script in turn: the whole lines before it are answered.
 fn fail_reads<R: AllocGlobal + Threads + Sync>(
     rt: &R,
     case: &Case,
     words: &[&str],
 ) -> Result<(), ScriptFault> {
     for left in 0..MANY {
-        if !has_read(rt, case, words, left)? {
-            return Ok(());
+        let mut lines = Lines {
+            bytes: case.lines(),
+            granted: Granted {
+                left,
+                has_failed: false,
+            },
+        };
+        let mut text = Vec::new(rt.alloc());
+        let status = run_words(rt, rt.alloc(), words, &mut lines, &mut text);
+        if !lines.granted.has_failed {
+            return case.compare(status, &text);
+        }
+        let count = case.lines().len().saturating_sub(lines.bytes.len());
+        let read = case.lines().get(..count).unwrap_or(&[]);
+        if status != FAILED || !are_due(rt, case, words, read, &text) {
+            return Err(ScriptFault::Read(left));
         }
     }
     Err(ScriptFault::Read(MANY))
 }
 
-/// Refuses the write of this index: the first of the replies are written, or a part of them. Whether there was such a write.
-fn has_write<R: AllocGlobal + Threads + Sync>(
-    rt: &R,
-    case: &Case,
-    words: &[&str],
-    refusal: Refusal,
-    left: u64,
-) -> Result<bool, ScriptFault> {
-    let mut lines = Lines {
-        bytes: case.lines(),
-        granted: Granted {
-            left: MANY,
-            has_failed: false,
-        },
-    };
-    let mut taken = Taken {
-        text: Vec::new(rt.alloc()),
-        granted: Granted {
-            left,
-            has_failed: false,
-        },
-        refusal,
-    };
-    let status = run_over(rt, rt.alloc(), words, &mut lines, &mut taken);
-    if !taken.granted.has_failed {
-        case.compare(status, &taken.text)?;
-        return Ok(false);
-    }
-    if status == FAILED && case.replies().starts_with(&taken.text) {
-        Ok(true)
-    } else {
-        Err(refusal.fault(left))
-    }
-}
-
-/// Refuses each write of the script in turn.
+/// Refuses each write of the script in turn: the first of the replies are written, or a part of them.
 fn refuse_writes<R: AllocGlobal + Threads + Sync>(
     rt: &R,
     case: &Case,
@@ -207,8 +158,27 @@ fn refuse_writes<R: AllocGlobal + Threads + Sync>(
     refusal: Refusal,
 ) -> Result<(), ScriptFault> {
     for left in 0..MANY {
-        if !has_write(rt, case, words, refusal, left)? {
-            return Ok(());
+        let mut lines = Lines {
+            bytes: case.lines(),
+            granted: Granted {
+                left: MANY,
+                has_failed: false,
+            },
+        };
+        let mut taken = Taken {
+            text: Vec::new(rt.alloc()),
+            granted: Granted {
+                left,
+                has_failed: false,
+            },
+            refusal,
+        };
+        let status = run_words(rt, rt.alloc(), words, &mut lines, &mut taken);
+        if !taken.granted.has_failed {
+            return case.compare(status, &taken.text);
+        }
+        if status != FAILED || !case.replies().starts_with(&taken.text) {
+            return Err(refusal.fault(left));
         }
     }
     Err(refusal.fault(MANY))
@@ -240,7 +210,7 @@ fn write_once<R: AllocGlobal + Threads + Sync>(
     let mut script = case.script();
     let mut counting = Counting { writes: 0 };
     // How it ends was compared before.
-    run_over(rt, rt.alloc(), words, &mut script, &mut counting);
+    run_words(rt, rt.alloc(), words, &mut script, &mut counting);
     let is_ended = case.lines().ends_with(b"\n");
     if !is_ended || case.replies().len() > MANY_BYTES || counting.writes <= 1 {
         Ok(())

@@ -11,7 +11,7 @@ from benchmarks import files_made
 
 USERS = [user(3000 + at, 20 + at) for at in range(8)]
 WINDOW = 16
-# So many calls of a client, with 30 bytes each in the journal, are kept there: it isn't begun anew below 2^20 bytes.
+# So many calls of a client, with 27 bytes each in the journal, are kept there: it isn't begun anew below 2^20 bytes.
 MOST = 3_400
 
 

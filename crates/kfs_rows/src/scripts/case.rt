@@ -30,34 +30,19 @@ pub struct Case {
     room: Option<u64>,
 }
 
-/// Adds the name of a script or of expected replies, without its ending.
-fn add_name(names: &mut BTreeSet<String>, alloc: Global, file: &str) -> io::Result<()> {
-    if let Some(name) = file.strip_suffix(".kfs").or(file.strip_suffix(".out")) {
-        names.insert(String::from_str(alloc, name)?)?;
-    }
-    Ok(())
-}
-
-/// Adds those of a folder.
-fn add_names<R: Files + AllocGlobal + Clone + Drop>(
-    names: &mut BTreeSet<String>,
-    rt: &R,
-    folder: &str,
-) -> io::Result<()> {
-    for entry in fs::read_dir(rt, folder)? {
-        let entry = entry?;
-        add_name(names, rt.alloc(), entry.file_name())?;
-    }
-    Ok(())
-}
-
 /// The names, without their endings, of the scripts and of the expected replies in a folder.
 pub fn script_names<R: Files + AllocGlobal + Clone + Drop>(
     rt: &R,
     folder: &str,
 ) -> io::Result<BTreeSet<String>> {
     let mut names = BTreeSet::new(rt.alloc());
-    add_names(&mut names, rt, folder)?;
+    for entry in fs::read_dir(rt, folder)? {
+        let entry = entry?;
+        let file = entry.file_name();
+        if let Some(name) = file.strip_suffix(".kfs").or(file.strip_suffix(".out")) {
+            names.insert(String::from_str(rt.alloc(), name)?)?;
+        }
+    }
     Ok(names)
 }
 
@@ -74,18 +59,15 @@ impl Case {
     /// - `.growths`, the least number of allocations that the script asks for;
     /// - `.room`, a number of bytes of memory that is enough for it.
     pub fn read<R: Files + AllocGlobal>(rt: &R, name: &str) -> Result<Case, ScriptFault> {
-        // What owns memory comes last: each way out drops what was read before it.
+        let script = needed_file(rt, name, ".kfs")?;
+        let replies = needed_file(rt, name, ".out")?;
+        let words = optional_file(rt, name, ".words")?;
         let status = optional_number(rt, name, ".status")?.unwrap_or(DONE);
         let Ok(status) = u8::try_from(status) else {
             return Err(ScriptFault::Unreadable(".status"));
         };
         let padding = optional_number(rt, name, ".padding")?.unwrap_or(0);
         let is_broken = optional_file(rt, name, ".broken")?.is_some();
-        let growths = optional_number(rt, name, ".growths")?;
-        let room = optional_number(rt, name, ".room")?;
-        let script = needed_file(rt, name, ".kfs")?;
-        let replies = needed_file(rt, name, ".out")?;
-        let words = optional_file(rt, name, ".words")?;
         Ok(Case {
             script,
             words,
@@ -93,22 +75,24 @@ impl Case {
             status,
             padding: usize::try_from(padding).unwrap_or(usize::MAX),
             is_broken,
-            growths,
-            room,
+            growths: optional_number(rt, name, ".growths")?,
+            room: optional_number(rt, name, ".room")?,
         })
     }
 
     /// The program's name and its words.
     pub fn words(&self, alloc: Global) -> Result<Vec<&str>, ScriptFault> {
-        let text = match &self.words {
-            Some(text) => text.as_slice(),
-            None => b"run".as_slice(),
+        let mut words = vec![in alloc; "kfs"]?;
+        let Some(text) = &self.words else {
+            words.push("run")?;
+            return Ok(words);
         };
         let Ok(text) = str::from_utf8(text) else {
             return Err(ScriptFault::Unreadable(".words"));
         };
-        let mut words = vec![in alloc; "kfs"]?;
-        push_words(&mut words, text)?;
+        for word in text.lines() {
+            words.push(word)?;
+        }
         Ok(words)
     }
 
@@ -174,14 +158,6 @@ impl Case {
             })
         }
     }
-}
-
-/// Appends the words, of which each has a line.
-fn push_words<'a>(words: &mut Vec<&'a str>, text: &'a str) -> Result<(), ScriptFault> {
-    for word in text.lines() {
-        words.push(word)?;
-    }
-    Ok(())
 }
 
 /// The bytes of a file that each script must have.
