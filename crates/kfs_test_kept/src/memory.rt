@@ -549,8 +549,8 @@ fn refused_memory_is_told(rt: HostRuntime) {
         assert!(&rt; are_calls_told(ends, under_way), "calls: {ends:?}");
     }
     for (done, least) in [
-        (Done::Create, 5),
-        (Done::Checkpoint { in_steps: false }, 5),
+        (Done::Create, 3),
+        (Done::Checkpoint { in_steps: false }, 3),
         (Done::Checkpoint { in_steps: true }, 3),
         (Done::Open(&files), 20),
     ] {
