@@ -550,8 +550,8 @@ fn refused_memory_is_told(rt: HostRuntime) {
     }
     for (done, least) in [
         (Done::Create, 3),
-        (Done::Checkpoint { in_steps: false }, 3),
-        (Done::Checkpoint { in_steps: true }, 3),
+        (Done::Checkpoint { in_steps: false }, 5),
+        (Done::Checkpoint { in_steps: true }, 5),
         (Done::Open(&files), 20),
     ] {
         let ends = ends_of(&rt, done, &calls);
