@@ -6,7 +6,7 @@ import subprocess
 import sys
 import tempfile
 
-from .frames import FrameSession, frames_of, opening_and_calls, reply_text
+from .frames import FRONT, FrameSession, frames_of, opening_and_calls, reply_text
 
 TOP = os.path.dirname(os.path.dirname(os.path.dirname(os.path.realpath(__file__))))
 sys.path.insert(0, f"{TOP}/hosts/python")
@@ -35,7 +35,7 @@ def one_seed(program, seed, lines):
     numbers = [int(line.split(b" ")[1]) for line in first if line.startswith(b"client ")]
     frames = list(frames_of(seed, numbers, calls))
     data = b"".join(frame(at, sender, body) for at, (sender, body) in enumerate(frames))
-    cut = frame(CUT, numbers[0], bytes(CUT_LENGTH))[: 12 + seed % CUT_LENGTH]
+    cut = frame(CUT, [*numbers, FRONT][0], bytes(CUT_LENGTH))[: 12 + seed % CUT_LENGTH]
     with tempfile.TemporaryDirectory(prefix="frames-") as room:
         status, found = run_once(program, f"{room}/desk", first, limit, data + cut)
     session, kinds = FrameSession(), collections.Counter()
