@@ -197,7 +197,7 @@ impl<A: Allocator + Copy, D: Disk + Drop> Kept<A, D> {
             return Ok(made.answers);
         }
         let group = made.group.as_slice();
-        match self.journal.put(alloc, &mut self.disk, group) {
+        match self.journal.put(&mut self.disk, group) {
             Ok(()) => {
                 self.renewal = with_group(self.renewal.take(), group);
                 self.is_open = true;
