@@ -79,7 +79,7 @@ impl Journal {
         ensures full_same { IsErrOf result JournalFault.Full → (self.new ≡ self.old) × (disk.new ≡ disk.old) }
         ensures memory { IsErrOf result JournalFault.OutOfMemory → ⊥ }
     {
-        if group.len() > MAX_GROUP || self.end >= MAX_END {
+        if group.len() > MAX_GROUP || self.is_full() {
             return Err(JournalFault::Full);
         }
         let len = (group.len() as u32).to_be_bytes();
@@ -87,6 +87,13 @@ impl Journal {
         // a gate and a length, and the group
         self.end += 5 + group.len();
         Ok(())
+    }
+
+    /// Whether 2^60 bytes of the file are used. No group is put then: `change` goes on in the other file.
+    pub fn is_full(&self) -> bool
+        ensures { IsTrue result ↔ (2 ^ 60 ≤ self.now.end) }
+    {
+        self.end >= MAX_END
     }
 
     /// Whether the records have 2^20 bytes or more, and four times as many as the state or more. Then `change` is
