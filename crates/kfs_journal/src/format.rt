@@ -104,19 +104,6 @@ pub fn read_groups<A: Allocator + Copy>(
     Ok((groups, rest.len()))
 }
 
-/// A record behind its gate, and the closed gate of the next. The group is copied once.
-pub fn record_of<A: Allocator>(alloc: A, group: &[u8]) -> Result<Vec<u8, A>, AllocError>
-    requires { length group.now < 2 ^ 32 }
-    ensures { IfOk result (λ bytes. bytes.items ≡ to_be_bytes w32 (length group.now) ++ group.now ++ 0 ∷ []) }
-{
-    // a length and a gate more
-    let mut bytes = Vec::with_capacity(alloc, group.len() + 5)?;
-    bytes.extend_from_slice(&(group.len() as u32).to_be_bytes())?;
-    bytes.extend_from_slice(group)?;
-    bytes.push(0)?;
-    Ok(bytes)
-}
-
 /// The beginning of a head, with its gate closed.
 pub fn head_front<A: Allocator>(alloc: A, number: u64) -> Result<Vec<u8, A>, AllocError>
     ensures { IfOk result (λ bytes. bytes.items ≡ to_be_bytes w32 magic ++ to_be_bytes w64 number ++ 0 ∷ []) }

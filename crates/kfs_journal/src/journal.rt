@@ -11,7 +11,7 @@ mod draft;
 pub use self::draft::Draft;
 use crate::disk::{Disk, File};
 use crate::fault::JournalFault;
-use crate::format::{Head, head_of, read_groups, record_of};
+use crate::format::{Head, head_of, read_groups};
 use crate::open_fault::OpenFault;
 use crate::steps::{HEAD, add_gated, cut_through, write_head, write_through};
 use std::alloc::Allocator;
@@ -53,18 +53,12 @@ pub struct Opened<A: Allocator> {
 }
 
 impl Journal {
-    /// Adds a group of at most 4,294,967,295 bytes, by two syncs. At `Ok` it is acknowledged: from then on each
-    /// crash leaves files that have it.
+    /// Adds a group of at most 4,294,967,295 bytes, by two syncs. Takes no memory. At `Ok` it is acknowledged: from then
+    /// on each crash leaves files that have it.
     ///
-    /// `Full` where the group is longer, or 2^60 bytes of the file are used. `OutOfMemory` where memory is
-    /// refused. Both leave all as it was. `Failed` where the disk has failed: the group is kept or it isn't, and
-    /// `open` tells which.
-    pub fn put<A: Allocator + Copy, D: Disk>(
-        &mut self,
-        alloc: A,
-        disk: &mut D,
-        group: &[u8],
-    ) -> Result<(), JournalFault>
+    /// `Full` where the group is longer, or 2^60 bytes of the file are used: all is as it was. `Failed` where the disk
+    /// has failed: the group is kept or it isn't, and `open` tells which.
+    pub fn put<D: Disk>(&mut self, disk: &mut D, group: &[u8]) -> Result<(), JournalFault>
         requires { IsSettled (D.seen disk.old) (D.may_leave disk.old) self.old }
 
         ensures settled { OnOk result (IsSettled (D.seen disk.new) (D.may_leave disk.new) self.new) }
@@ -83,16 +77,23 @@ impl Journal {
         ensures failed { IsErrOf result JournalFault.Failed → IsTrue (D.has_failed disk.new) }
         ensures full { IsErrOf result JournalFault.Full → (2 ^ 32 ≤ length group.now) ⊎ (2 ^ 60 ≤ self.old.end) }
         ensures full_same { IsErrOf result JournalFault.Full → (self.new ≡ self.old) × (disk.new ≡ disk.old) }
-        ensures memory { IsErrOf result JournalFault.OutOfMemory → (self.new ≡ self.old) × (disk.new ≡ disk.old) }
+        ensures memory { IsErrOf result JournalFault.OutOfMemory → ⊥ }
     {
-        if group.len() > MAX_GROUP || self.end >= MAX_END {
+        if group.len() > MAX_GROUP || self.is_full() {
             return Err(JournalFault::Full);
         }
-        let record = record_of(alloc, group)?;
-        add_gated(disk, self.file, self.end, &record)?;
+        let len = (group.len() as u32).to_be_bytes();
+        add_gated(disk, self.file, self.end, &len, group)?;
         // a gate and a length, and the group
         self.end += 5 + group.len();
         Ok(())
+    }
+
+    /// Whether 2^60 bytes of the file are used. No group is put then: `change` goes on in the other file.
+    pub fn is_full(&self) -> bool
+        ensures { IsTrue result ↔ (2 ^ 60 ≤ self.now.end) }
+    {
+        self.end >= MAX_END
     }
 
     /// Whether the records have 2^20 bytes or more, and four times as many as the state or more. Then `change` is

@@ -71,22 +71,25 @@ pub fn cut_through<D: Disk>(disk: &mut D, file: File, len: usize) -> Result<(), 
     disk.sync(file)
 }
 
-/// Writes bytes behind the closed gate at the file's end, and opens it when they are on the disk.
+/// Writes bytes in two parts behind the closed gate at the file's end, with a closed gate behind them, and opens the first
+/// gate when they are on the disk. Neither part is copied, and no memory is taken.
 pub fn add_gated<D: Disk>(
     disk: &mut D,
     file: File,
     gate: usize,
-    bytes: &[u8],
+    front: &[u8],
+    body: &[u8],
 ) -> Result<(), DiskFailed>
     requires closed { EndsClosed gate (content file (D.seen disk.old)) }
     requires durable { Only (D.seen disk.old) (D.may_leave disk.old) }
-    requires room { gate + 1 < 2 ^ 64 }
-    ensures written { OnOk result (In file (IsOpened bytes.now) (D.seen disk.old) (D.seen disk.new)) }
+    requires room { gate + 1 + length front.now + length body.now < 2 ^ 64 }
+    ensures written { OnOk result (In file (IsOpened (front.now ++ (body.now ++ 0 ∷ []))) (D.seen disk.old) (D.seen disk.new)) }
     ensures durable { OnOk result (Only (D.seen disk.new) (D.may_leave disk.new)) }
-    ensures any_moment { LeavesOnly D.moment D.left_since disk.old disk.new (In file (IsOpening bytes.now) (D.seen disk.old)) }
+    ensures any_moment { LeavesOnly D.moment D.left_since disk.old disk.new
+        (In file (IsOpening (front.now ++ (body.now ++ 0 ∷ []))) (D.seen disk.old)) }
     ensures cause { OnErr result (IsTrue (D.has_failed disk.new)) }
 {
-    write_through(disk, file, gate + 1, bytes)?;
+    write_parts(disk, file, gate + 1, front, body, &[0])?;
     write_through(disk, file, gate, &[1])
 }
 
@@ -128,8 +131,7 @@ fn add_state<D: Disk>(disk: &mut D, file: File, state: &[u8]) -> Result<(), Disk
     ensures cause { OnErr result (IsTrue (D.has_failed disk.new)) }
 {
     let len = (state.len() as u64).to_be_bytes();
-    write_parts(disk, file, GATE + 1, &len, state, &[0])?;
-    write_through(disk, file, GATE, &[1])
+    add_gated(disk, file, GATE, &len, state)
 }
 
 /// Gives a file a new head, and no records.

@@ -20,10 +20,9 @@ pub enum CallsFault {
     /// 3: memory was refused before the first call. Nothing has changed.
     #[error("memory")]
     OutOfMemory,
-    /// 4: memory was refused behind the first call, or the journal's file is full. None of the calls is kept,
-    /// and the desk is closed.
-    #[error("NotKept")]
-    NotKept,
+    /// 4: 2^60 bytes of the journal's file are used. Nothing has changed. A checkpoint goes on in the other file.
+    #[error("full")]
+    Full,
     /// 5: the disk has failed. The calls are kept, all of them or none, and the desk is closed.
     #[error("failed")]
     Failed,

@@ -26,8 +26,8 @@ use std::thread::Threads;
 
 /// A desk, the journal that keeps it, and the disk that both files of the journal are on. A checkpoint may be under way.
 ///
-/// Once the disk has failed, or memory was refused behind a call that was made, the desk is closed: each call is
-/// refused with `Closed`. Drop it then, and open the files again.
+/// Once the disk has failed, the desk is closed: each call is refused with `Closed`. Drop it then, and open the files
+/// again. Nothing else closes it: what keeps a group takes no memory behind the group's first call.
 #[derive(Drop)]
 pub struct Kept<A: Allocator, D: Disk + Drop> {
     desk: Desk<A>,
@@ -177,7 +177,7 @@ impl<A: Allocator + Copy, D: Disk + Drop> Kept<A, D> {
         ensures long { IsErrOf result CallsFault.TooLong → 2 ^ 32 ≤ sum_by (λ c. length c.now + 24) calls.now }
         ensures long_same { IsErrOf result CallsFault.TooLong → self.new ≡ self.old }
         ensures memory_same { IsErrOf result CallsFault.OutOfMemory → self.new ≡ self.old }
-        ensures not_kept { IsErrOf result CallsFault.NotKept → IsFalse self.new.is_open × (self.new.disk ≡ self.old.disk) }
+        ensures full { IsErrOf result CallsFault.Full → (2 ^ 60 ≤ self.old.journal.end) × (self.new ≡ self.old) }
         ensures failed { IsErrOf result CallsFault.Failed → IsFalse self.new.is_open × IsTrue (D.has_failed self.new.disk) }
     {
         if !self.is_open {
@@ -186,25 +186,27 @@ impl<A: Allocator + Copy, D: Disk + Drop> Kept<A, D> {
         let Some(room) = room_for(calls) else {
             return Err(CallsFault::TooLong);
         };
+        if self.journal.is_full() {
+            return Err(CallsFault::Full);
+        }
         let mut made = Made::with_room(alloc, calls.len(), room)?;
-        // The desk is open again once the group is kept.
+        // The desk is open again once the group is kept. Until then nothing takes memory but what a call may lack by itself.
         self.is_open = false;
-        let Ok(()) = made.make_all(alloc, &mut self.desk, calls) else {
-            return Err(CallsFault::NotKept);
-        };
+        made.make_all(alloc, &mut self.desk, calls);
         if made.group.is_empty() {
             self.is_open = true;
             return Ok(made.answers);
         }
         let group = made.group.as_slice();
-        match self.journal.put(alloc, &mut self.disk, group) {
+        match self.journal.put(&mut self.disk, group) {
             Ok(()) => {
                 self.renewal = with_group(self.renewal.take(), group);
                 self.is_open = true;
                 Ok(made.answers)
             }
             Err(JournalFault::Failed) => Err(CallsFault::Failed),
-            Err(_) => Err(CallsFault::NotKept),
+            // It isn't full, the group is short enough, and no memory is taken.
+            Err(_) => unreachable!(),
         }
     }
 

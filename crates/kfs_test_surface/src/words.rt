@@ -110,7 +110,7 @@ fn faults_of_kept_desks(rt: HostRuntime) {
         (CallsFault::Closed, "closed"),
         (CallsFault::TooLong, "TooLong"),
         (CallsFault::OutOfMemory, "memory"),
-        (CallsFault::NotKept, "NotKept"),
+        (CallsFault::Full, "full"),
         (CallsFault::Failed, "failed"),
     ];
     assert!(rt; say(rt.alloc(), &faults));

@@ -15,7 +15,7 @@ use std::alloc::Allocator;
 
 /// Makes the calls of a group again, one after another, each with the answer that is kept.
 ///
-/// `alloc` serves the list of moves of a call, and the bytes of an answer. `Err` where the bytes are no group, where a
+/// `alloc` serves the list of moves of a call. `Err` where the bytes are no group, where a
 /// call has another answer now, where the docket is full, or where memory runs out. Some of the calls may be made
 /// then.
 pub fn make_again<A: Allocator + Copy, B: Allocator + Copy>(
@@ -58,7 +58,7 @@ fn make_one<A: Allocator + Copy, B: Allocator + Copy>(
         Err(CallFault::DocketFull) => return Err(AgainFault::DocketFull),
         Err(CallFault::OutOfMemory) => return Err(AgainFault::OutOfMemory),
     };
-    let row = answer_row(alloc, &called)?;
+    let row = answer_row(&called);
     if without_position(&row) == kept.answer {
         Ok(())
     } else {

@@ -1,11 +1,11 @@
 //! The bytes of a group: calls with their answers. The crate's head has the format.
-ghost use Rattle.std.specs.Prelude.{◌≡◌, ◌++◌, ℕ, List, OnOk, option_map};
+ghost use Rattle.std.specs.Prelude.{◌≡◌, ◌≤◌, ◌+◌, ◌++◌, ℕ, List, length, option_map, vec_capacity};
 ghost use Rattle.kfs_call.specs.Call.{IsLong, long_bytes};
 ghost use Rattle.kfs_call.specs.Readers.{long_read};
 ghost use Rattle.kfs_kept.specs.Calls.Group.{CallAndAnswer, IsBrief, IsKept, brief_bytes, brief_read, kept_bytes, kept_read, kept_shown};
 
 use kfs_entry::codec::{byte, bytes, number32};
-use std::alloc::{AllocError, Allocator};
+use std::alloc::Allocator;
 
 /// A call and its answer as bytes, as they stand in a group.
 #[derive(Clone, Copy, Debug)]
@@ -45,33 +45,50 @@ fn brief_run(source: &[u8]) -> Option<(&[u8], &[u8])>
     Some((run, &source[end..]))
 }
 
-/// Appends a call to a group. Condition: the call has fewer than 2^32 bytes, and the answer fewer than 256. `Err` where
-/// memory runs out.
-pub fn push_call<A: Allocator>(
-    group: &mut Vec<u8, A>,
-    kept: &KeptCall<'_>,
-) -> Result<(), AllocError>
-    requires { IsKept (kept_shown kept.now) }
-    ensures { OnOk result (group.new.items ≡ group.old.items ++ kept_bytes (kept_shown kept.now)) }
+/// Appends a call to a group that has room for it, so no memory is taken. Conditions: the call has fewer than 2^32 bytes,
+/// and the answer fewer than 256.
+pub fn push_call<A: Allocator>(group: &mut Vec<u8, A>, kept: &KeptCall<'_>)
+    requires kept { IsKept (kept_shown kept.now) }
+    requires room { length group.old.items + (5 + length kept.now.call.now + length kept.now.answer.now) ≤ vec_capacity group.old }
+    ensures pushed { group.new.items ≡ group.old.items ++ kept_bytes (kept_shown kept.now) }
+    ensures len { length group.new.items ≡ length group.old.items + (5 + length kept.now.call.now + length kept.now.answer.now) }
+    ensures capacity { vec_capacity group.old ≤ vec_capacity group.new }
 {
-    push_long(group, kept.call)?;
-    push_brief(group, kept.answer)
+    push_long(group, kept.call);
+    push_brief(group, kept.answer);
 }
 
 /// Appends bytes behind their length.
-fn push_long<A: Allocator>(group: &mut Vec<u8, A>, value: &[u8]) -> Result<(), AllocError>
-    requires { IsLong value.now }
-    ensures { OnOk result (group.new.items ≡ group.old.items ++ long_bytes value.now) }
+#[tactic(auto, unfolding(kfs_model::specs::Spelling::number32))]
+fn push_long<A: Allocator>(group: &mut Vec<u8, A>, value: &[u8])
+    requires long { IsLong value.now }
+    requires room { length group.old.items + (4 + length value.now) ≤ vec_capacity group.old }
+    ensures pushed { group.new.items ≡ group.old.items ++ long_bytes value.now }
+    ensures len { length group.new.items ≡ length group.old.items + (4 + length value.now) }
+    ensures capacity { vec_capacity group.old ≤ vec_capacity group.new }
 {
-    number32::write(group, &[], &(value.len() as u32))?;
-    group.extend_from_slice(value)
+    append(group, &(value.len() as u32).to_be_bytes());
+    append(group, value);
 }
 
 /// Appends bytes behind a length of one byte.
-fn push_brief<A: Allocator>(group: &mut Vec<u8, A>, value: &[u8]) -> Result<(), AllocError>
-    requires { IsBrief value.now }
-    ensures { OnOk result (group.new.items ≡ group.old.items ++ brief_bytes value.now) }
+fn push_brief<A: Allocator>(group: &mut Vec<u8, A>, value: &[u8])
+    requires brief { IsBrief value.now }
+    requires room { length group.old.items + (1 + length value.now) ≤ vec_capacity group.old }
+    ensures pushed { group.new.items ≡ group.old.items ++ brief_bytes value.now }
+    ensures len { length group.new.items ≡ length group.old.items + (1 + length value.now) }
+    ensures capacity { vec_capacity group.old ≤ vec_capacity group.new }
 {
-    group.push(value.len() as u8)?;
-    group.extend_from_slice(value)
+    append(group, &[value.len() as u8]);
+    append(group, value);
+}
+
+/// Appends bytes for which there is room.
+fn append<A: Allocator>(group: &mut Vec<u8, A>, bytes: &[u8])
+    requires { length group.old.items + length bytes.now ≤ vec_capacity group.old }
+    ensures items { group.new.items ≡ group.old.items ++ bytes.now }
+    ensures len { length group.new.items ≡ length group.old.items + length bytes.now }
+    ensures capacity { vec_capacity group.old ≤ vec_capacity group.new }
+{
+    group.extend_from_slice(bytes).unwrap();
 }

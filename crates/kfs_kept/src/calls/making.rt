@@ -1,12 +1,13 @@
 //! Calls made, and written into a group with their answers.
-ghost use Rattle.std.specs.Prelude.{◌≡◌, [], ◌≤◌, ◌<◌, ◌^◌, ◌++◌, ◌+◌, All, List, length, drop, map, IfOk, IfSome, IsNone, OnOk};
+ghost use Rattle.std.specs.Prelude.{◌≡◌, [], ◌≤◌, ◌<◌, ◌^◌, ◌+◌, All, length, drop, map, vec_capacity, IfOk, IfSome, IsNone};
 ghost use Rattle.std.specs.List.{sum_by};
 ghost use Rattle.kfs_call.specs.Call.{IsLong};
 ghost use Rattle.kfs_kept.specs.Calls.Group.{IsBrief};
 ghost use Rattle.kfs_kept.specs.Calls.Making.{AreMade, IsNext, IsToldIn};
 
 use crate::calls::group::{KeptCall, push_call};
-use kfs_call::{AnswerRow, encode_answer};
+use arrayvec::ArrayVec;
+use kfs_call::{ANSWER_LIMIT, AnswerRow, spell_answer};
 use kfs_call_desk::{CallFault, Called, call, told};
 use kfs_desk::Desk;
 use std::alloc::{AllocError, Allocator};
@@ -28,6 +29,7 @@ pub struct Made<B: Allocator> {
 
 /// How many bytes the group of these calls has at most. None where that may be more than 4,294,967,295.
 pub fn room_for(calls: &[&[u8]]) -> Option<usize>
+    ensures room { IfSome result (λ total. (total ≡ sum_by (λ c. length c.now + 24) calls.now) × (total < 2 ^ 32)) }
     ensures short { IfSome result (λ _. All (λ c. length c.now < 2 ^ 32) calls.now) }
     ensures long { IsNone result → 2 ^ 32 ≤ sum_by (λ c. length c.now + 24) calls.now }
 {
@@ -46,7 +48,8 @@ pub fn room_for(calls: &[&[u8]]) -> Option<usize>
 impl<B: Allocator + Copy> Made<B> {
     /// No calls so far, with room for so many answers and for so many bytes of a group.
     pub fn with_room(alloc: B, answers: usize, room: usize) -> Result<Made<B>, AllocError>
-        ensures { IfOk result (λ made. (made.answers.items ≡ []) × (made.group.items ≡ [])) }
+        ensures none { IfOk result (λ made. (made.answers.items ≡ []) × (made.group.items ≡ [])) }
+        ensures room { IfOk result (λ made. (answers ≤ vec_capacity made.answers) × (room ≤ vec_capacity made.group)) }
     {
         Ok(Made {
             answers: Vec::with_capacity(alloc, answers)?,
@@ -56,60 +59,61 @@ impl<B: Allocator + Copy> Made<B> {
 
     /// Makes the calls one after another, and writes those that are answered into the group.
     ///
-    /// A call that isn't answered is as if it hadn't been handed in: it changes nothing, and isn't in the group.
-    /// `Err` where memory is refused for an answer's bytes: some of the calls are made then.
-    pub fn make_all<A: Allocator + Copy>(
-        &mut self,
-        alloc: B,
-        desk: &mut Desk<A>,
-        calls: &[&[u8]],
-    ) -> Result<(), AllocError>
+    /// A call that isn't answered is as if it hadn't been handed in: it changes nothing, and isn't in the group. What is
+    /// written here has its room already, so a desk that has changed never lacks memory for its group. Conditions: the
+    /// room is that of `room_for`.
+    pub fn make_all<A: Allocator + Copy>(&mut self, alloc: B, desk: &mut Desk<A>, calls: &[&[u8]])
         requires long { All (λ c. length c.now < 2 ^ 32) calls.now }
         requires none { (self.old.answers.items ≡ []) × (self.old.group.items ≡ []) }
-        ensures { OnOk result (AreMade desk.old (map (λ c. c.now) calls.now) self.new.answers.items self.new.group.items desk.new) }
+        requires answers { length calls.now ≤ vec_capacity self.old.answers }
+        requires room { sum_by (λ c. length c.now + 24) calls.now ≤ vec_capacity self.old.group }
+        ensures made { AreMade desk.old (map (λ c. c.now) calls.now) self.new.answers.items self.new.group.items desk.new }
+        ensures short { length self.new.group.items ≤ sum_by (λ c. length c.now + 24) calls.now }
     {
         for bytes in calls {
-            let answer = make_call(alloc, desk, bytes, &mut self.group)?;
-            self.answers.push(answer)?;
+            let answer = make_call(alloc, desk, bytes, &mut self.group);
+            self.answers.push_reserved(answer);
         }
-        Ok(())
     }
 }
 
-/// Makes a call, and appends it with its answer to the group.
+/// Makes a call, and appends it with its answer to the group, which has room for it.
 fn make_call<A: Allocator + Copy, B: Allocator + Copy>(
     alloc: B,
     desk: &mut Desk<A>,
     bytes: &[u8],
     group: &mut Vec<u8, B>,
-) -> Result<Result<Called, CallFault>, AllocError>
-    requires { IsLong bytes.now }
-    ensures { IfOk result (λ answer. IsNext desk.old bytes.now answer group.old.items group.new.items desk.new) }
+) -> Result<Called, CallFault>
+    requires long { IsLong bytes.now }
+    requires room { length group.old.items + (length bytes.now + 24) ≤ vec_capacity group.old }
+    ensures next { IsNext desk.old bytes.now result group.old.items group.new.items desk.new }
+    ensures len { length group.new.items ≤ length group.old.items + (length bytes.now + 24) }
+    ensures capacity { vec_capacity group.old ≤ vec_capacity group.new }
 {
     let answer = call(alloc, desk, bytes);
     if let Ok(called) = &answer {
-        let row = answer_row(alloc, called)?;
+        let row = answer_row(called);
         let kept = KeptCall {
             call: bytes,
             answer: without_position(&row),
         };
-        push_call(group, &kept)?;
+        push_call(group, &kept);
     }
-    Ok(answer)
+    answer
 }
 
-/// An answer as bytes, at position 0.
-pub fn answer_row<B: Allocator>(alloc: B, called: &Called) -> Result<Vec<u8, B>, AllocError>
-    ensures long { IfOk result (λ row. 4 ≤ length row.items) }
-    ensures short { IfOk result (λ row. IsBrief (drop 4 row.items)) }
-    ensures told { IfOk result (λ row. IsToldIn called.now (drop 4 row.items)) }
+/// An answer as bytes, at position 0. Takes no memory.
+pub fn answer_row(called: &Called) -> ArrayVec<u8, ANSWER_LIMIT>
+    ensures long { 4 ≤ length result.items }
+    ensures short { length result.items ≤ 20 }
+    ensures brief { IsBrief (drop 4 result.items) }
+    ensures told { IsToldIn called.now (drop 4 result.items) }
 {
     let row = AnswerRow {
         position: 0,
         told: told(called),
     };
-    let bytes = encode_answer(alloc, &row)?;
-    Ok(bytes)
+    spell_answer(&row)
 }
 
 /// What stands behind the position of an answer.

@@ -92,7 +92,7 @@ abbrev pub serve_status : ServeFault → ℕ
 serve_status ReadFault = 5
 serve_status WriteFault = 5
 serve_status OutOfMemory = 4
-serve_status (Group groups.NotKept) = 4
+serve_status (Group groups.Full) = 3
 serve_status (Group groups.Failed) = 3
 
 abbrev pub status_of : Result (Unit {0}) RunFault → ℕ

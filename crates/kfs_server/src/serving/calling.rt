@@ -25,8 +25,8 @@ use std::alloc::{AllocError, Allocator};
 pub enum Missed {
     /// Memory was refused before the first call. Nothing has changed.
     OutOfMemory,
-    /// None of the calls is kept, and the desk is closed.
-    NotKept,
+    /// The journal's file is full. Nothing has changed.
+    Full,
     /// The disk has failed. The calls are kept, all of them or none.
     Failed,
 }
@@ -60,7 +60,7 @@ pub fn make_calls<A: Allocator + Copy, B: Allocator + Copy, C: Allocator, D: Dis
     ensures capacity { vec_capacity replies.new ≡ vec_capacity replies.old }
     ensures any_moment { (frames : List Frame) → AllZip IsFrameOf group.now frames → LeavesOnly D.moment D.left_since kept.old.disk kept.new.disk (StandForSome kept.old.desk frames) }
     ensures memory_same { IsErrOf result Missed.OutOfMemory → (kept.new ≡ kept.old) × (replies.new ≡ replies.old) }
-    ensures not_kept { IsErrOf result Missed.NotKept → kept.new.disk ≡ kept.old.disk }
+    ensures full { IsErrOf result Missed.Full → kept.new ≡ kept.old }
     ensures failed { IsErrOf result Missed.Failed → IsTrue (D.has_failed kept.new.disk) }
 {
     let decided = decide_all(alloc, group)?;
@@ -111,7 +111,7 @@ fn call_some<A: Allocator + Copy, B: Allocator + Copy, D: Disk + Drop>(
     ensures acknowledged { OnOk result ((c : Files) → D.may_leave kept.new.disk c → StandFor c kept.new.desk.state) }
     ensures any_moment { LeavesOnly D.moment D.left_since kept.old.disk kept.new.disk (StandForBeforeOrAfter kept.old.desk (map (λ c. c.now) calls.now)) }
     ensures memory_same { IsErrOf result Missed.OutOfMemory → kept.new ≡ kept.old }
-    ensures not_kept { IsErrOf result Missed.NotKept → kept.new.disk ≡ kept.old.disk }
+    ensures full { IsErrOf result Missed.Full → kept.new ≡ kept.old }
     ensures failed { IsErrOf result Missed.Failed → IsTrue (D.has_failed kept.new.disk) }
 {
     if calls.is_empty() {
@@ -121,7 +121,7 @@ fn call_some<A: Allocator + Copy, B: Allocator + Copy, D: Disk + Drop>(
         Ok(answers) => Ok(answers),
         Err(CallsFault::OutOfMemory) => Err(Missed::OutOfMemory),
         Err(CallsFault::TooLong) => Err(Missed::OutOfMemory),
-        Err(CallsFault::NotKept) => Err(Missed::NotKept),
+        Err(CallsFault::Full) => Err(Missed::Full),
         Err(CallsFault::Failed) => Err(Missed::Failed),
         // The condition says that it is open.
         Err(CallsFault::Closed) => unreachable!(),

@@ -7,13 +7,13 @@ use kfs_program_text::{InputFault, OutputFault};
 use std::alloc::{AllocError, AllocFailed};
 use thiserror::Error;
 
-/// Why a group isn't answered. None of its frames is answered then, and the desk is closed.
+/// Why a group isn't answered. None of its frames is answered then.
 #[derive(Clone, Copy, Debug, PartialEq, Eq, Error)]
 pub enum GroupFault {
-    /// Memory was refused behind the first call, or the journal's file is full. None of the calls is kept.
-    #[error("NotKept")]
-    NotKept,
-    /// The disk has failed. The calls are kept, all of them or none.
+    /// 2^60 bytes of the journal's file are used. Nothing has changed.
+    #[error("full")]
+    Full,
+    /// The disk has failed. The calls are kept, all of them or none, and the desk is closed.
     #[error("failed")]
     Failed,
 }

@@ -43,12 +43,12 @@ pub fn answer_group<A: Allocator + Copy, B: Allocator + Copy, C: Allocator, D: D
     // At any moment: the state after some of the frames, none skipped and none in part.
     ensures any_moment { (frames : List Frame) → AllZip IsFrameOf group.now frames → LeavesOnly D.moment D.left_since kept.old.disk kept.new.disk (StandForSome kept.old.desk frames) }
     ensures failed { IsErrOf result GroupFault.Failed → IsTrue (D.has_failed kept.new.disk) }
-    ensures not_kept { IsErrOf result GroupFault.NotKept → kept.new.disk ≡ kept.old.disk }
+    ensures full { IsErrOf result GroupFault.Full → kept.new ≡ kept.old }
 {
     match make_calls(alloc, kept, group, replies) {
         Ok(()) => Ok(()),
         Err(Missed::Failed) => Err(GroupFault::Failed),
-        Err(Missed::NotKept) => Err(GroupFault::NotKept),
+        Err(Missed::Full) => Err(GroupFault::Full),
         Err(Missed::OutOfMemory) => {
             refuse_all(group, replies);
             Ok(())

@@ -133,7 +133,7 @@ fn status_of_serving(fault: ServeFault) -> u8
 {
     match fault {
         ServeFault::ReadFault | ServeFault::WriteFault => 5,
-        ServeFault::OutOfMemory | ServeFault::Group(GroupFault::NotKept) => 4,
-        ServeFault::Group(GroupFault::Failed) => 3,
+        ServeFault::OutOfMemory => 4,
+        ServeFault::Group(GroupFault::Full | GroupFault::Failed) => 3,
     }
 }

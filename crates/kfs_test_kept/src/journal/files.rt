@@ -90,7 +90,7 @@ fn put(alloc: Global, disk: &mut RawDisk<Pair>) -> Result<(), JournalFault>
     requires durable { Only (seen_after disk.old.told.events) (Leaves disk.old.told.events) }
 {
     let mut journal = Journal::create(alloc, disk, b"state")?;
-    journal.put(alloc, disk, b"group")
+    journal.put(disk, b"group")
 }
 
 fn is_put(rt: &HostRuntime, folder: &str) -> bool {

@@ -34,10 +34,10 @@ pub static STATES: [&[u8]; 18] = [
     b"fourth/l/mn/o",
 ];
 
-/// How many calls of the disk each call of the run makes. A group takes two writes, each with its sync; a new
-/// state also a cut and the beginning of its head, and its length and the gate behind it are written apart. A draft is begun by
-/// a cut and two writes, and finished by two writes.
-pub static DISK_CALLS: [usize; 17] = [10, 4, 4, 4, 10, 4, 10, 4, 10, 6, 4, 2, 4, 2, 2, 4, 4];
+/// How many calls of the disk each call of the run makes. A group takes four writes: its length, itself, the next gate and, behind
+/// a sync, its own gate. A new state takes a cut and the beginning of its head more. A draft is begun by a cut and two
+/// writes, and finished by two writes.
+pub static DISK_CALLS: [usize; 17] = [10, 6, 6, 6, 10, 6, 10, 6, 10, 6, 6, 2, 6, 2, 2, 4, 6];
 
 /// The ways in which a crash tears.
 pub const TEARS: [Tear; 5] = [Tear::Lost, Tear::Whole, Tear::Half, Tear::Ones, Tear::Zeros];
@@ -45,7 +45,6 @@ pub const TEARS: [Tear; 5] = [Tear::Lost, Tear::Whole, Tear::Half, Tear::Ones, T
 // ---- calls of a journal, with the clauses that the next call asks for alone
 
 pub fn put<D: Disk>(
-    alloc: Global,
     disk: &mut D,
     journal: &mut Journal,
     group: &[u8],
@@ -54,7 +53,7 @@ pub fn put<D: Disk>(
     ensures settled { OnOk result (IsSettled (D.seen disk.new) (D.may_leave disk.new) journal.new) }
     ensures draft { (draft : Draft) (bytes : List ℕ) → HasDraft (D.seen disk.old) journal.old draft bytes → OnOk result (HasDraft (D.seen disk.new) journal.new draft bytes) }
 {
-    journal.put(alloc, disk, group)
+    journal.put(disk, group)
 }
 
 pub fn change<D: Disk>(
@@ -124,7 +123,7 @@ fn make<D: Disk>(
     if is_state {
         change(alloc, disk, journal, bytes)
     } else {
-        put(alloc, disk, journal, bytes)
+        put(disk, journal, bytes)
     }
 }
 
@@ -169,12 +168,12 @@ fn run_drafted<D: Disk>(
     let mut records = Vec::new(alloc);
     let mut draft = begin(alloc, disk, &journal, 6)?;
     *answered = 10;
-    put(alloc, disk, &mut journal, b"l")?;
+    put(disk, &mut journal, b"l")?;
     push_record(&mut records, b"l")?;
     *answered = 11;
     extend(disk, &journal, &mut draft, b"fou")?;
     *answered = 12;
-    put(alloc, disk, &mut journal, b"mn")?;
+    put(disk, &mut journal, b"mn")?;
     push_record(&mut records, b"mn")?;
     *answered = 13;
     extend(disk, &journal, &mut draft, b"rth")?;
@@ -183,7 +182,7 @@ fn run_drafted<D: Disk>(
     *answered = 15;
     draft.finish(&mut journal, disk)?;
     *answered = 16;
-    put(alloc, disk, &mut journal, b"o")?;
+    put(disk, &mut journal, b"o")?;
     *answered = 17;
     Ok(())
 }

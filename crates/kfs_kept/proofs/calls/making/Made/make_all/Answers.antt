@@ -1,5 +1,6 @@
-use Rattle.std.proofs.Common.{ℕ, ◌+◌, List, [], ◌∷◌, ◌++◌, map, take, get_or, Bor, subst, sym}
+use Rattle.std.proofs.Common.{ℕ, ◌≤◌, ◌+◌, List, [], ◌∷◌, ◌++◌, length, map, take, get_or, Bor, subst, sym, arith, rules}
 use Rattle.std.specs.Prelude.{Result}
+use Rattle.std.proofs.lemmas.List.Sums.{sum_by_more, sum_by_more_le}
 use Rattle.kfs_call_desk.specs.declared.made.Called.{Called}
 use Rattle.kfs_call_desk.specs.declared.made.CallFault.{CallFault}
 use Rattle.kfs_kept.specs.Calls.Making.{AreMade}
@@ -12,8 +13,26 @@ loop-bytes-preserved g c =
     let none : Bor (List ℕ) = record { ref_ptr = (0, 0); now = [] } in
     let item : List ℕ = (get_or c.args.calls.now at.bytes-index none).now in
     let so_far : List (List ℕ) = map (λ (x : Bor (List ℕ)). x.now) (take at.bytes-index c.args.calls.now) in
-    let made = one_more c.args.desk.now at.desk c.make_call.new.desk so_far at.self.answers.items at.self.group.items c.make_call.new.group.items item c.in_ok-answer.answer at.invariant c.in_ok-answer.ensures in
-    let counted = subst (λ (calls : List (List ℕ)). AreMade c.args.desk.now calls (at.self.answers.items ++ c.in_ok-answer.answer ∷ []) c.make_call.new.group.items c.make_call.new.desk)
+    let after = c.make_call-answer.new in
+    let answer = c.make_call-answer.result in
+    let made = one_more c.args.desk.now at.desk after.desk so_far at.self.answers.items at.self.group.items after.group.items item answer at.invariant.made c.make_call-answer.ensures.next in
+    let counted = subst (λ (calls : List (List ℕ)). AreMade c.args.desk.now calls (at.self.answers.items ++ answer ∷ []) after.group.items after.desk)
     (sym (calls_so_far (λ (x : Bor (List ℕ)). x.now) c.args.calls.now at.bytes-index none c.loop-bytes-test.true)) made in
-    subst (λ (answers : List (Result Called CallFault)). AreMade c.args.desk.now (map (λ (x : Bor (List ℕ)). x.now) (take (at.bytes-index + 1) c.args.calls.now)) answers c.make_call.new.group.items c.make_call.new.desk)
-    (sym c.in_ok-push.ensures.items) counted
+    let told = subst (λ (answers : List (Result Called CallFault)). AreMade c.args.desk.now (map (λ (x : Bor (List ℕ)). x.now) (take (at.bytes-index + 1) c.args.calls.now)) answers after.group.items after.desk)
+    (sym c.push_reserved.ensures.items) counted in
+    let more = sum_by_more (λ (x : Bor (List ℕ)). length x.now + 24) c.args.calls.now at.bytes-index none c.loop-bytes-test.true in
+    let len : length after.group.items ≤ length at.self.group.items + (length item + 24) = search rules in
+    record {
+      made = told;
+      short = omega (arith, more, len, at.invariant.short);
+      answers = search rules;
+      answers_room = search rules;
+      room = search rules;
+    }
+
+pub make_call-answer-requires-clause-room : goal.make_call-answer-requires-clause-room
+make_call-answer-requires-clause-room g c =
+    let at = c.loop-bytes in
+    let none : Bor (List ℕ) = record { ref_ptr = (0, 0); now = [] } in
+    let within = sum_by_more_le (λ (x : Bor (List ℕ)). length x.now + 24) c.args.calls.now at.bytes-index none c.loop-bytes-test.true in
+    omega (arith, within, at.invariant.short, at.invariant.room, c.requires.room)
