@@ -15,8 +15,8 @@ ghost use Rattle.kfs_judge.specs.Check.Checks.{check_of, reason_of, entry_contex
 use crate::check::check::{Check, Reason};
 use crate::check::climbs::Way;
 use crate::check::reads::Recorder;
-use crate::draft::Draft;
-use kfs_image_nodes::{Header, Kind, Name};
+use crate::draft::{Draft, NameKey};
+use kfs_image_nodes::{Header, Kind};
 use kfs_mode::{Client, Want, may};
 use kfs_types::{CLIMB_LIMIT, LINK_LIMIT, SIZE_LIMIT};
 use std::alloc::{AllocError, Allocator};
@@ -26,14 +26,14 @@ const STICKY: u16 = 0o1000;
 
 /// Judges the next entry of a log: it has the log's client, and what the entries so far have changed.
 #[derive(Clone, Copy)]
-pub struct EntryJudge<'a, A: Allocator> {
+pub struct EntryJudge<'a, 'e, A: Allocator> {
     /// The log's client.
     pub client: &'a Client,
     /// What the entries so far have changed.
-    pub draft: &'a Draft<A>,
+    pub draft: &'a Draft<'e, A>,
 }
 
-impl<A: Allocator + Copy> EntryJudge<'_, A> {
+impl<'e, A: Allocator + Copy> EntryJudge<'_, 'e, A> {
     /// The node's header now, or none.
     pub fn header(
         &self,
@@ -60,7 +60,7 @@ impl<A: Allocator + Copy> EntryJudge<'_, A> {
     pub fn target(
         &self,
         recorder: &mut Recorder<'_, A>,
-        key: &(u32, Name),
+        key: &NameKey<'e>,
     ) -> Result<Option<u32>, AllocError>
         ensures { LooksAtName recorder.old recorder.new result key.now (λ number before. (sight_in self.now before).name key.now.0 key.now.1 ≡ number) }
     {
@@ -86,7 +86,7 @@ impl<A: Allocator + Copy> EntryJudge<'_, A> {
     pub fn first_fault(
         &self,
         recorder: &mut Recorder<'_, A>,
-        checks: &[Check<'_>],
+        checks: &[Check<'_, 'e>],
     ) -> Result<Option<Reason>, AllocError>
         ensures { JudgesAll self.now recorder.old recorder.new result (λ _. map check_of checks.now) }
     {
@@ -102,7 +102,7 @@ impl<A: Allocator + Copy> EntryJudge<'_, A> {
     fn fault(
         &self,
         recorder: &mut Recorder<'_, A>,
-        check: &Check<'_>,
+        check: &Check<'_, 'e>,
     ) -> Result<Option<Reason>, AllocError>
         ensures { JudgesCheck self.now recorder.old recorder.new result check.now }
     {
@@ -146,7 +146,7 @@ impl<A: Allocator + Copy> EntryJudge<'_, A> {
     fn right_fault(
         &self,
         recorder: &mut Recorder<'_, A>,
-        check: &Check<'_>,
+        check: &Check<'_, 'e>,
     ) -> Result<Option<Reason>, AllocError>
         requires { IsOfRight check.now }
         ensures { JudgesCheck self.now recorder.old recorder.new result check.now }
@@ -182,7 +182,7 @@ impl<A: Allocator + Copy> EntryJudge<'_, A> {
     fn header_fault(
         &self,
         recorder: &mut Recorder<'_, A>,
-        check: &Check<'_>,
+        check: &Check<'_, 'e>,
     ) -> Result<Option<Reason>, AllocError>
         requires { IsOfHeader check.now }
         ensures { JudgesCheck self.now recorder.old recorder.new result check.now }

@@ -13,6 +13,7 @@ use crate::check::climbs::{Climbs, Way};
 use crate::check::nears::Nears;
 use crate::check::record::Reads;
 use crate::check::view::View;
+use crate::draft::NameKey;
 use kfs_image_nodes::{Answer, Cell, Header, Name};
 use std::alloc::{AllocError, Allocator};
 
@@ -130,7 +131,15 @@ impl<'a, A: Allocator + Copy> Recorder<'a, A> {
     }
 
     /// The number that a name leads to, or none.
-    pub fn target(&mut self, key: &(u32, Name)) -> Result<Option<u32>, AllocError>
+    pub fn target(&mut self, key: &NameKey<'_>) -> Result<Option<u32>, AllocError>
+        ensures { LooksAtName self.old self.new result key.now (λ number before. before.sight.name key.now.0 key.now.1 ≡ number) }
+    {
+        let place = key.copied();
+        self.target_at(&place)
+    }
+
+    /// The same, of a directory's number with a name.
+    fn target_at(&mut self, key: &(u32, Name)) -> Result<Option<u32>, AllocError>
         ensures { LooksAtName self.old self.new result key.now (λ number before. before.sight.name key.now.0 key.now.1 ≡ number) }
     {
         if self.reads.are_kept() {
