@@ -22,7 +22,7 @@ use std::alloc::{AllocError, Allocator};
 #[tactic(auto, unfolding(kfs_model::specs::Check::checks_of))]
 fn create_fault<'e, A: Allocator + Copy>(
     judge: &EntryJudge<'_, 'e, A>,
-    recorder: &mut Recorder<'_, A>,
+    recorder: &mut Recorder<'_, 'e, A>,
     dir: u32,
     name: &'e Name,
     number: u32,

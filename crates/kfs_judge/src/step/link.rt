@@ -17,7 +17,7 @@ use std::alloc::{AllocError, Allocator};
 #[tactic(auto, unfolding(kfs_model::specs::Check::checks_of))]
 fn link_fault<'e, A: Allocator + Copy>(
     judge: &EntryJudge<'_, 'e, A>,
-    recorder: &mut Recorder<'_, A>,
+    recorder: &mut Recorder<'_, 'e, A>,
     number: u32,
     dir: u32,
     name: &'e Name,

@@ -52,7 +52,7 @@ pub struct LogJudge<'a, 'e, A: Allocator> {
     /// What the entries so far have changed.
     pub draft: Draft<'e, A>,
     /// The view, and what was read of it.
-    pub recorder: Recorder<'a, A>,
+    pub recorder: Recorder<'a, 'e, A>,
 }
 
 impl<'a, 'e, A: Allocator + Copy> LogJudge<'a, 'e, A> {

@@ -20,7 +20,7 @@ use std::alloc::{AllocError, Allocator};
 #[tactic(auto, unfolding(kfs_model::specs::Check::checks_of))]
 fn rename_fault<'e, A: Allocator + Copy>(
     judge: &EntryJudge<'_, 'e, A>,
-    recorder: &mut Recorder<'_, A>,
+    recorder: &mut Recorder<'_, 'e, A>,
     dir: u32,
     name: &'e Name,
     new_dir: u32,
@@ -50,9 +50,9 @@ fn rename_fault<'e, A: Allocator + Copy>(
 }
 
 /// Why node `moved` can't go from `dir` to `new_dir`, in place of `there`; none if it can.
-fn move_fault<A: Allocator + Copy>(
-    judge: &EntryJudge<'_, '_, A>,
-    recorder: &mut Recorder<'_, A>,
+fn move_fault<'e, A: Allocator + Copy>(
+    judge: &EntryJudge<'_, 'e, A>,
+    recorder: &mut Recorder<'_, 'e, A>,
     dir: u32,
     new_dir: u32,
     moved: u32,
@@ -84,9 +84,9 @@ fn leads_to(target: Option<u32>, number: u32) -> bool
 }
 
 /// Why node `moved`, of this kind, can't come to `new_dir`, in place of `there`; none if it can.
-fn arrival_fault<A: Allocator + Copy>(
-    judge: &EntryJudge<'_, '_, A>,
-    recorder: &mut Recorder<'_, A>,
+fn arrival_fault<'e, A: Allocator + Copy>(
+    judge: &EntryJudge<'_, 'e, A>,
+    recorder: &mut Recorder<'_, 'e, A>,
     kind: Kind,
     moved: u32,
     new_dir: u32,
@@ -104,9 +104,9 @@ fn arrival_fault<A: Allocator + Copy>(
 /// Why node `moved`, of this kind, can't be in `new_dir`; none if it can. A directory may not be put
 /// below itself.
 #[tactic(auto, unfolding(kfs_model::specs::Check::first_failing))]
-fn place_fault<A: Allocator + Copy>(
-    judge: &EntryJudge<'_, '_, A>,
-    recorder: &mut Recorder<'_, A>,
+fn place_fault<'e, A: Allocator + Copy>(
+    judge: &EntryJudge<'_, 'e, A>,
+    recorder: &mut Recorder<'_, 'e, A>,
     kind: Kind,
     moved: u32,
     new_dir: u32,
@@ -124,9 +124,9 @@ fn place_fault<A: Allocator + Copy>(
 
 /// Why `there` can't be replaced in `new_dir` by a node of this kind; none if it can.
 #[tactic(auto, unfolding(kfs_model::specs::Check::first_failing))]
-fn replaced_fault<A: Allocator + Copy>(
-    judge: &EntryJudge<'_, '_, A>,
-    recorder: &mut Recorder<'_, A>,
+fn replaced_fault<'e, A: Allocator + Copy>(
+    judge: &EntryJudge<'_, 'e, A>,
+    recorder: &mut Recorder<'_, 'e, A>,
     kind: Kind,
     new_dir: u32,
     there: Option<u32>,

@@ -19,7 +19,7 @@ use std::alloc::{AllocError, Allocator};
 #[tactic(auto, unfolding(kfs_model::specs::Check::checks_of))]
 fn unlink_fault<'e, A: Allocator + Copy>(
     judge: &EntryJudge<'_, 'e, A>,
-    recorder: &mut Recorder<'_, A>,
+    recorder: &mut Recorder<'_, 'e, A>,
     dir: u32,
     name: &'e Name,
     kind: Kind,
@@ -42,9 +42,9 @@ fn unlink_fault<'e, A: Allocator + Copy>(
 }
 
 /// Why node `number`, which should be of this kind, can't lose a name in `dir`; none if it can.
-pub fn going_fault<A: Allocator + Copy>(
-    judge: &EntryJudge<'_, '_, A>,
-    recorder: &mut Recorder<'_, A>,
+pub fn going_fault<'e, A: Allocator + Copy>(
+    judge: &EntryJudge<'_, 'e, A>,
+    recorder: &mut Recorder<'_, 'e, A>,
     kind: Kind,
     dir: u32,
     number: u32,

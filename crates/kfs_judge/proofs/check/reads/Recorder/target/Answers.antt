@@ -1,7 +1,37 @@
--- A copy of the key is the key.
-use Rattle.std.proofs.Common.{◌≡◌, subst}
-use Rattle.kfs_judge.specs.Check.Recorders.{LooksAtName}
+-- A name that isn't kept leads where the view says.
+use Rattle.std.proofs.Common.{◌≡◌, ◌∙◌, ap, sym}
+use Rattle.kfs_model.specs.Sight.{ClientSight, Number, answer}
+use Rattle.kfs_judge.specs.Check.Kept.{ReadsShown}
+use Rattle.kfs_judge.specs.Check.Reads.{answer_of, cell_of}
+use Rattle.kfs_judge.specs.Check.View.{client_sight_in}
+use Rattle.kfs_judge.specs.declared.check.reads.Read.TheVariants.{Look}
+use Rattle.kfs_judge.specs.declared.check.reads.ReadAnswer.TheVariants as answers
+use Rattle.kfs_image_nodes.specs.declared.cell.Cell.TheVariants.{Name}
+use Rattle.kfs_image_nodes.specs.declared.cell.Answer.TheVariants as looks
+use Rattle.kfs_judge.proofs.CheckLemmas.ReadsAgree.{grows_by_one}
+use Rattle.kfs_judge.proofs.CheckLemmas.OneLook.{unkept_look, read_as}
+use Rattle.kfs_judge.proofs.CheckLemmas.Ways.{hold_further}
 use Rattle.kfs_judge.proofs.check.reads.Recorder.target.Goals as goal
 
+pub invariant_of-self : goal.invariant_of-self
+invariant_of-self g c =
+    let last = ap (λ (r : ReadsShown). r.entries) c.see.ensures in
+    record { ways = hold_further c.args.self.now.reads.entries c.see.new.self.entries c.args.self.now.climbs (grows_by_one _ _ _ _ last) c.args.self.now.ways }
+
 pub returns : goal.returns
-returns g c = subst (λ key. LooksAtName c.args.self.now c.target_at.new.self c.target_at.result key (λ number before. before.sight.name key.0 key.1 ≡ number)) c.copied-place.ensures c.target_at.ensures
+returns g c =
+    let d = c.args.key.now.0 in
+    let m = c.args.key.now.1 in
+    let number = c.target-number.result in
+    let told = answers.Look (looks.Name number) in
+    unkept_look c.args.self.now _ (Look (Name d m)) told
+    (read_as c.args.self.now.reads.entries told c.read_of-seen.ensures (ap (λ (r : ReadsShown). r.entries) c.see.ensures))
+    (ap (λ (r : ReadsShown). r.keeps) c.see.ensures)
+    (ap (λ view. client_sight_in view c.args.self.now.client) c.target-number.ensures.same)
+    (ap Number (sym c.target-number.ensures.target))
+    number (λ found before. before.sight.name d m ≡ found)
+    (sym c.are_kept.ensures ∙ c.if-are_kept.false)
+    leads
+  where
+    leads : (state : ClientSight) → answer state (cell_of (Look (Name c.args.key.now.0 c.args.key.now.1))) ≡ answer_of (answers.Look (looks.Name c.target-number.result)) → state.sight.name c.args.key.now.0 c.args.key.now.1 ≡ c.target-number.result
+    leads state is = cc
