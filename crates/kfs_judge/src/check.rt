@@ -3,8 +3,10 @@
 mod check;
 mod climbs;
 mod entry_judge;
+mod looks;
 mod nears;
 mod reads;
+mod recall;
 mod record;
 mod view;
 

@@ -2,7 +2,9 @@
 //! with. Begin with `draft.rt`.
 mod created;
 mod draft;
+mod key;
 mod parents;
 mod shifts;
 
 pub use self::draft::{Draft, linked, unlinked};
+pub use self::key::NameKey;

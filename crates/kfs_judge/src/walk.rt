@@ -125,9 +125,9 @@ fn walk_entries<A: Allocator + Copy>(
 }
 
 /// Enters the entries in order, up to the first bad one.
-fn enter_all<A: Allocator + Copy>(
-    judge: &mut LogJudge<'_, A>,
-    entries: &[Entry<Span>],
+fn enter_all<'e, A: Allocator + Copy>(
+    judge: &mut LogJudge<'_, 'e, A>,
+    entries: &'e [Entry<Span>],
 ) -> Result<Option<EntryFault>, AllocError>
     requires count { length entries.now ≤ entry_limit }
     requires shown { (s : Sight) → over judge.old.draft s ≡ s }

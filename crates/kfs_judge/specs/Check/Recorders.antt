@@ -8,7 +8,7 @@ use Rattle.kfs_judge.specs.Check.View.{client_sight_in}
 module _ {A : Type 0} where
   -- what the recorder's client sees in its view
   abbrev pub seen_by : Recorder A → ClientSight
-  seen_by recorder = client_sight_in recorder.view.now recorder.client
+  seen_by recorder = client_sight_in recorder.looks.view.now recorder.client
 
   -- the view stays the same, and whether reads are kept; if the old reads agree with it, so do the new
   -- ones; if none was kept twice, none is now

@@ -1,6 +1,6 @@
 //! The checks of an entry, and the reasons for which they fail.
 
-use kfs_image_nodes::Name;
+use crate::draft::NameKey;
 use thiserror::Error;
 
 /// Why an entry is refused: the first of its checks that fails. `checks_of` in
@@ -62,7 +62,7 @@ pub enum Reason {
 
 /// One check: what must hold at an entry's point of the log. Nodes are given by number.
 #[derive(Clone, Copy)]
-pub enum Check<'a> {
+pub enum Check<'a, 'e> {
     /// The number is a node's.
     Exists(u32),
     /// The node is a directory.
@@ -87,7 +87,7 @@ pub enum Check<'a> {
     /// The file may have one more name.
     HasRoomForLink(u32),
     /// The directory doesn't have the name.
-    NameIsFree(&'a (u32, Name)),
+    NameIsFree(&'a NameKey<'e>),
     /// The client may give the number to a new node.
     NumberIsGranted(u32),
     /// The number is no node's, was none's before the log, and wasn't created by the log.

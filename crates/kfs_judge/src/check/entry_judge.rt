@@ -15,8 +15,8 @@ ghost use Rattle.kfs_judge.specs.Check.Checks.{check_of, reason_of, entry_contex
 use crate::check::check::{Check, Reason};
 use crate::check::climbs::Way;
 use crate::check::reads::Recorder;
-use crate::draft::Draft;
-use kfs_image_nodes::{Header, Kind, Name};
+use crate::draft::{Draft, NameKey};
+use kfs_image_nodes::{Header, Kind};
 use kfs_mode::{Client, Want, may};
 use kfs_types::{CLIMB_LIMIT, LINK_LIMIT, SIZE_LIMIT};
 use std::alloc::{AllocError, Allocator};
@@ -26,18 +26,18 @@ const STICKY: u16 = 0o1000;
 
 /// Judges the next entry of a log: it has the log's client, and what the entries so far have changed.
 #[derive(Clone, Copy)]
-pub struct EntryJudge<'a, A: Allocator> {
+pub struct EntryJudge<'a, 'e, A: Allocator> {
     /// The log's client.
     pub client: &'a Client,
     /// What the entries so far have changed.
-    pub draft: &'a Draft<A>,
+    pub draft: &'a Draft<'e, A>,
 }
 
-impl<A: Allocator + Copy> EntryJudge<'_, A> {
+impl<'e, A: Allocator + Copy> EntryJudge<'_, 'e, A> {
     /// The node's header now, or none.
     pub fn header(
         &self,
-        recorder: &mut Recorder<'_, A>,
+        recorder: &mut Recorder<'_, 'e, A>,
         number: u32,
     ) -> Result<Option<Header>, AllocError>
         ensures { LooksAtHeader recorder.old recorder.new result number (λ header before. (sight_in self.now before).head number ≡ option_map header_of header) }
@@ -49,7 +49,7 @@ impl<A: Allocator + Copy> EntryJudge<'_, A> {
     }
 
     /// The node's kind now; a file's where there is no node.
-    pub fn kind(&self, recorder: &mut Recorder<'_, A>, number: u32) -> Result<Kind, AllocError>
+    pub fn kind(&self, recorder: &mut Recorder<'_, 'e, A>, number: u32) -> Result<Kind, AllocError>
         ensures { LooksAtHeader recorder.old recorder.new result number (λ kind before. sight.kind_shown ((sight_in self.now before).head number) ≡ kind_of kind) }
     {
         let header = self.header(recorder, number)?;
@@ -59,8 +59,8 @@ impl<A: Allocator + Copy> EntryJudge<'_, A> {
     /// The number that the name leads to now, or none.
     pub fn target(
         &self,
-        recorder: &mut Recorder<'_, A>,
-        key: &(u32, Name),
+        recorder: &mut Recorder<'_, 'e, A>,
+        key: &NameKey<'e>,
     ) -> Result<Option<u32>, AllocError>
         ensures { LooksAtName recorder.old recorder.new result key.now (λ number before. (sight_in self.now before).name key.now.0 key.now.1 ≡ number) }
     {
@@ -72,7 +72,7 @@ impl<A: Allocator + Copy> EntryJudge<'_, A> {
 
     fn is_permitted(
         &self,
-        recorder: &mut Recorder<'_, A>,
+        recorder: &mut Recorder<'_, 'e, A>,
         number: u32,
         want: Want,
     ) -> Result<bool, AllocError>
@@ -85,8 +85,8 @@ impl<A: Allocator + Copy> EntryJudge<'_, A> {
     /// The reason of the first check that fails, if one does. `Err` where memory runs out.
     pub fn first_fault(
         &self,
-        recorder: &mut Recorder<'_, A>,
-        checks: &[Check<'_>],
+        recorder: &mut Recorder<'_, 'e, A>,
+        checks: &[Check<'_, 'e>],
     ) -> Result<Option<Reason>, AllocError>
         ensures { JudgesAll self.now recorder.old recorder.new result (λ _. map check_of checks.now) }
     {
@@ -101,8 +101,8 @@ impl<A: Allocator + Copy> EntryJudge<'_, A> {
     #[tactic(auto, unfolding(kfs_model::specs::Check::fault, kfs_model::specs::Check::cells))]
     fn fault(
         &self,
-        recorder: &mut Recorder<'_, A>,
-        check: &Check<'_>,
+        recorder: &mut Recorder<'_, 'e, A>,
+        check: &Check<'_, 'e>,
     ) -> Result<Option<Reason>, AllocError>
         ensures { JudgesCheck self.now recorder.old recorder.new result check.now }
     {
@@ -145,8 +145,8 @@ impl<A: Allocator + Copy> EntryJudge<'_, A> {
     #[tactic(auto, unfolding(kfs_model::specs::Check::fault, kfs_model::specs::Check::cells))]
     fn right_fault(
         &self,
-        recorder: &mut Recorder<'_, A>,
-        check: &Check<'_>,
+        recorder: &mut Recorder<'_, 'e, A>,
+        check: &Check<'_, 'e>,
     ) -> Result<Option<Reason>, AllocError>
         requires { IsOfRight check.now }
         ensures { JudgesCheck self.now recorder.old recorder.new result check.now }
@@ -181,8 +181,8 @@ impl<A: Allocator + Copy> EntryJudge<'_, A> {
     #[tactic(auto, unfolding(kfs_model::specs::Check::fault, kfs_model::specs::Check::cells))]
     fn header_fault(
         &self,
-        recorder: &mut Recorder<'_, A>,
-        check: &Check<'_>,
+        recorder: &mut Recorder<'_, 'e, A>,
+        check: &Check<'_, 'e>,
     ) -> Result<Option<Reason>, AllocError>
         requires { IsOfHeader check.now }
         ensures { JudgesCheck self.now recorder.old recorder.new result check.now }
@@ -209,7 +209,7 @@ impl<A: Allocator + Copy> EntryJudge<'_, A> {
         }
     }
 
-    fn may_write(&self, recorder: &mut Recorder<'_, A>, number: u32) -> Result<bool, AllocError>
+    fn may_write(&self, recorder: &mut Recorder<'_, 'e, A>, number: u32) -> Result<bool, AllocError>
         ensures { LooksAtHeader recorder.old recorder.new result number (λ granted before. checks.may_write (entry_context_in self.now before) number ≡ granted) }
     {
         let header = self.header(recorder, number)?;
@@ -221,7 +221,7 @@ impl<A: Allocator + Copy> EntryJudge<'_, A> {
     /// where the one tells enough.
     fn may_remove(
         &self,
-        recorder: &mut Recorder<'_, A>,
+        recorder: &mut Recorder<'_, 'e, A>,
         dir: u32,
         number: u32,
     ) -> Result<bool, AllocError>
@@ -232,7 +232,7 @@ impl<A: Allocator + Copy> EntryJudge<'_, A> {
         Ok(may_be_removed(self.client, directory, node))
     }
 
-    fn is_leased(&self, recorder: &mut Recorder<'_, A>, number: u32) -> Result<bool, AllocError>
+    fn is_leased(&self, recorder: &mut Recorder<'_, 'e, A>, number: u32) -> Result<bool, AllocError>
         ensures { AnswersLook recorder.old recorder.new result (LeaseOn number ∷ []) (λ leased before. checks.is_leased (entry_context_in self.now before) number ≡ leased) }
     {
         if self.draft.has_created(number) {
@@ -241,7 +241,7 @@ impl<A: Allocator + Copy> EntryJudge<'_, A> {
         recorder.is_held(number)
     }
 
-    fn has_no_names(&self, recorder: &mut Recorder<'_, A>, dir: u32) -> Result<bool, AllocError>
+    fn has_no_names(&self, recorder: &mut Recorder<'_, 'e, A>, dir: u32) -> Result<bool, AllocError>
         ensures { AnswersLook recorder.old recorder.new result (CountOf dir ∷ []) (λ empty before. int_eq ((sight_in self.now before).count dir) (pos 0) ≡ empty) }
     {
         let count = recorder.count(dir)?;
@@ -250,7 +250,11 @@ impl<A: Allocator + Copy> EntryJudge<'_, A> {
     }
 
     /// The directory's parent now, or none.
-    fn parent(&self, recorder: &mut Recorder<'_, A>, number: u32) -> Result<Option<u32>, AllocError>
+    fn parent(
+        &self,
+        recorder: &mut Recorder<'_, 'e, A>,
+        number: u32,
+    ) -> Result<Option<u32>, AllocError>
         requires { StopsAtMoved self.now recorder.old }
         ensures looks { AnswersLook recorder.old recorder.new result (ParentOf number ∷ []) (λ parent before. parent_in self.now before number ≡ parent) }
         ensures stops { StopsAtMoved self.now recorder.new }
@@ -265,7 +269,7 @@ impl<A: Allocator + Copy> EntryJudge<'_, A> {
     /// went takes one step for each stretch of it, and else each level takes one.
     fn climb_meets(
         &self,
-        recorder: &mut Recorder<'_, A>,
+        recorder: &mut Recorder<'_, 'e, A>,
         node: u32,
         dir: u32,
     ) -> Result<bool, AllocError>
@@ -291,7 +295,7 @@ impl<A: Allocator + Copy> EntryJudge<'_, A> {
     /// the parent. None where it has no parent.
     fn climb_on(
         &self,
-        recorder: &mut Recorder<'_, A>,
+        recorder: &mut Recorder<'_, 'e, A>,
         node: u32,
         from: u32,
         left: usize,
@@ -316,7 +320,7 @@ impl<A: Allocator + Copy> EntryJudge<'_, A> {
 
     fn is_number_free(
         &self,
-        recorder: &mut Recorder<'_, A>,
+        recorder: &mut Recorder<'_, 'e, A>,
         number: u32,
     ) -> Result<bool, AllocError>
         ensures { LooksAtHeader recorder.old recorder.new result number (λ free before. checks.is_number_free (entry_context_in self.now before) number ≡ free) }

@@ -6,14 +6,17 @@ ghost use Rattle.std.specs.Option.{option_map};
 ghost use Rattle.kfs_types.specs.Views.{header_of};
 ghost use Rattle.kfs_model.specs.Header.{Header as HeaderShown};
 ghost use Rattle.kfs_model.specs.Sight.{answer, Head, Number, Count, Held, CountOf, ParentOf, LeaseOn};
+ghost use Rattle.kfs_image_nodes.specs.declared.cell.Cell.TheVariants.{Name};
+ghost use Rattle.kfs_judge.specs.declared.check.reads.Read.TheVariants.{Look};
 ghost use Rattle.kfs_judge.specs.Check.Reads.{cell_of, answer_of};
 ghost use Rattle.kfs_judge.specs.Check.Climbs.{ClimbsHold};
 
 use crate::check::climbs::{Climbs, Way};
-use crate::check::nears::Nears;
+use crate::check::looks::Looks;
 use crate::check::record::Reads;
 use crate::check::view::View;
-use kfs_image_nodes::{Answer, Cell, Header, Name};
+use crate::draft::NameKey;
+use kfs_image_nodes::{Answer, Cell, Header};
 use std::alloc::{AllocError, Allocator};
 
 /// One thing that a judgement may read of a state, for its client.
@@ -37,30 +40,28 @@ pub enum ReadAnswer {
 /// Reads a view for one client, and records each read with its answer. `Err` where memory for the
 /// record is refused; that read isn't recorded then.
 #[derive(Drop)]
-pub struct Recorder<'a, A: Allocator> {
-    view: &'a View<A>,
+pub struct Recorder<'a, 'e, A: Allocator> {
+    looks: Looks<'a, 'e, A>,
     client: u32,
     reads: Reads<A>,
-    nears: Nears,
     climbs: Climbs<A>,
     ghost ways: { ClimbsHold reads.entries climbs } by { Prim.hlevel props },
 }
 
-impl<'a, A: Allocator + Copy> Recorder<'a, A> {
+impl<'a, 'e, A: Allocator + Copy> Recorder<'a, 'e, A> {
     ghost use Rattle.kfs_judge.specs.Check.Climbs.{is_among, is_taken, IsWayOver, Follows};
     ghost use Rattle.kfs_judge.specs.Check.Recorders.{seen_by, AnswersLook, GoesOn, Known, LooksAtHeader, LooksAtName};
     ghost use Rattle.kfs_judge.specs.Check.View.{client_sight_in};
 
     /// For the client with this number, with the reads so far. Takes no memory.
-    pub fn new(alloc: A, view: &'a View<A>, client: u32, reads: Reads<A>) -> Recorder<'a, A>
+    pub fn new(alloc: A, view: &'a View<A>, client: u32, reads: Reads<A>) -> Recorder<'a, 'e, A>
         ensures reads { result.reads ≡ reads }
         ensures seen { seen_by result ≡ client_sight_in view.now client }
     {
         Recorder {
-            view,
+            looks: Looks::new(view),
             client,
             reads,
-            nears: Nears::at(view.near()),
             climbs: Climbs::new(alloc),
         }
     }
@@ -101,8 +102,8 @@ impl<'a, A: Allocator + Copy> Recorder<'a, A> {
         ensures { answer (seen_by self.now) (cell_of read.now) ≡ answer_of result }
     {
         match read {
-            Read::Look(cell) => ReadAnswer::Look(self.view.look(cell)),
-            Read::Lease(number) => ReadAnswer::Lease(self.view.holds(self.client, *number)),
+            Read::Look(cell) => ReadAnswer::Look(self.looks.view.look(cell)),
+            Read::Lease(number) => ReadAnswer::Lease(self.looks.view.holds(self.client, *number)),
         }
     }
 
@@ -113,7 +114,7 @@ impl<'a, A: Allocator + Copy> Recorder<'a, A> {
         if self.reads.are_kept() {
             return self.header_kept(number);
         }
-        let header = self.view.header(number);
+        let header = self.looks.header(number);
         let seen = Read::Look(Cell::Header(number));
         self.reads
             .see(&seen, &ReadAnswer::Look(Answer::Header(header)));
@@ -130,15 +131,14 @@ impl<'a, A: Allocator + Copy> Recorder<'a, A> {
     }
 
     /// The number that a name leads to, or none.
-    pub fn target(&mut self, key: &(u32, Name)) -> Result<Option<u32>, AllocError>
+    pub fn target(&mut self, key: &NameKey<'e>) -> Result<Option<u32>, AllocError>
         ensures { LooksAtName self.old self.new result key.now (λ number before. before.sight.name key.now.0 key.now.1 ≡ number) }
     {
         if self.reads.are_kept() {
             return self.target_kept(key);
         }
-        self.nears.turn_to(key.0);
-        let number = self.view.target_near(&mut self.nears.last, key);
-        let seen = Read::Look(Cell::Name(key.0, key.1));
+        let number = self.looks.target(key);
+        let seen = read_of(key);
         self.reads
             .see(&seen, &ReadAnswer::Look(Answer::Name(number)));
         Ok(number)
@@ -146,15 +146,14 @@ impl<'a, A: Allocator + Copy> Recorder<'a, A> {
 
     /// The same, where reads are kept.
     #[inline(never)]
-    fn target_kept(&mut self, key: &(u32, Name)) -> Result<Option<u32>, AllocError>
+    fn target_kept(&mut self, key: &NameKey<'e>) -> Result<Option<u32>, AllocError>
         ensures { LooksAtName self.old self.new result key.now (λ number before. before.sight.name key.now.0 key.now.1 ≡ number) }
     {
-        let read = Read::Look(Cell::Name(key.0, key.1));
+        let read = read_of(key);
         if let Some(answer) = self.reads.get(&read) {
             return Ok(number_in(answer));
         }
-        self.nears.turn_to(key.0);
-        let number = self.view.target_near(&mut self.nears.last, key);
+        let number = self.looks.target(key);
         let answer = ReadAnswer::Look(Answer::Name(number));
         self.reads.add(read, answer)?;
         Ok(number)
@@ -222,6 +221,14 @@ impl<'a, A: Allocator + Copy> Recorder<'a, A> {
     {
         self.reads
     }
+}
+
+/// The read of a name.
+#[inline(always)]
+fn read_of(key: &NameKey<'_>) -> Read
+    ensures { result ≡ Look (Name key.now.0 key.now.1) }
+{
+    Read::Look(Cell::Name(key.dir(), *key.name()))
 }
 
 /// The header in an answer.

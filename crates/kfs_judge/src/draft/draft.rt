@@ -14,20 +14,21 @@ ghost use Rattle.kfs_judge.specs.Draft.Overlay.{has_created, has_header, over, K
 ghost use Rattle.kfs_model.specs.SeenAfter as seen;
 
 use crate::draft::created::Created;
+use crate::draft::key::NameKey;
 use crate::draft::parents::Parents;
 use crate::draft::shifts::Shifts;
-use kfs_types::{Header, Kind, Name};
+use kfs_types::{Header, Kind};
 use std::alloc::{AllocError, Allocator};
 use std::collections::BTreeMap;
 
 /// The cells that the entries so far have written, each with its value now. A cell that none has
 /// written isn't here. Look-ups take no memory.
 #[derive(Drop)]
-pub struct Draft<A: Allocator> {
+pub struct Draft<'e, A: Allocator> {
     /// The header of each node that was written.
     heads: BTreeMap<u32, Option<Header>, A>,
-    /// The number that each written name leads to.
-    names: BTreeMap<(u32, Name), Option<u32>, A>,
+    /// The number that each written name leads to. The names stand in the log.
+    names: BTreeMap<NameKey<'e>, Option<u32>, A>,
     /// The parent of each directory that was written.
     parents: Parents<A>,
     /// By how much each directory's count of names has changed.
@@ -36,9 +37,9 @@ pub struct Draft<A: Allocator> {
     created: Created<A>,
 }
 
-impl<A: Allocator + Copy> Draft<A> {
+impl<'e, A: Allocator + Copy> Draft<'e, A> {
     /// No cell is written. Takes no memory.
-    pub fn new(alloc: A) -> Draft<A>
+    pub fn new(alloc: A) -> Draft<'e, A>
         ensures shown { (s : Sight) → over result s ≡ s }
         ensures written { ChangesAreAmong result [] }
         ensures created { (n : ℕ) → has_created result n ≡ false }
@@ -53,11 +54,11 @@ impl<A: Allocator + Copy> Draft<A> {
         }
     }
 
-    /// A new node, and its name in a directory: `key` is the directory's number with the name. In this
-    /// and the other calls that change the draft, part of the change may be made after `Err`.
+    /// A new node, and its name in a directory. In this and the other calls that change the draft, part of
+    /// the change may be made after `Err`.
     pub fn add_node(
         &mut self,
-        key: &(u32, Name),
+        key: &NameKey<'e>,
         number: u32,
         header: Header,
     ) -> Result<(), AllocError>
@@ -68,7 +69,7 @@ impl<A: Allocator + Copy> Draft<A> {
         ensures kept { OnOk result (KeepsHeaders self.old self.new) }
         ensures shifts { OnOk result (ShiftsFurther 1 self.old self.new) }
     {
-        let dir = key.0;
+        let dir = key.dir();
         self.add_name(key, number, Some(header))?;
         self.set_directory_in(header.kind, number, dir)?;
         self.created.add(number)?;
@@ -78,7 +79,7 @@ impl<A: Allocator + Copy> Draft<A> {
     /// One more name of a node, whose header is then this one.
     pub fn add_name(
         &mut self,
-        key: &(u32, Name),
+        key: &NameKey<'e>,
         number: u32,
         header: Option<Header>,
     ) -> Result<(), AllocError>
@@ -89,7 +90,7 @@ impl<A: Allocator + Copy> Draft<A> {
         ensures kept { OnOk result (KeepsHeaders self.old self.new) }
         ensures shifts { OnOk result (ShiftsFurther 1 self.old self.new) }
     {
-        self.shift_count(key.0, 1)?;
+        self.shift_count(key.dir(), 1)?;
         self.set_target(key, Some(number))?;
         self.set_header(number, header)?;
         Ok(())
@@ -98,7 +99,7 @@ impl<A: Allocator + Copy> Draft<A> {
     /// One name of a node fewer. Its header is then this one, or the node is gone.
     pub fn remove_name(
         &mut self,
-        key: &(u32, Name),
+        key: &NameKey<'e>,
         number: u32,
         header: Option<Header>,
     ) -> Result<(), AllocError>
@@ -109,7 +110,7 @@ impl<A: Allocator + Copy> Draft<A> {
         ensures kept { OnOk result (KeepsHeaders self.old self.new) }
         ensures shifts { OnOk result (ShiftsFurther 1 self.old self.new) }
     {
-        self.shift_count(key.0, -1)?;
+        self.shift_count(key.dir(), -1)?;
         self.set_target(key, None)?;
         self.set_parent(number, None)?;
         self.set_header(number, header)?;
@@ -119,8 +120,8 @@ impl<A: Allocator + Copy> Draft<A> {
     /// `new_key` leads to the node, and `key` to none.
     pub fn move_name(
         &mut self,
-        key: &(u32, Name),
-        new_key: &(u32, Name),
+        key: &NameKey<'e>,
+        new_key: &NameKey<'e>,
         number: u32,
         kind: Kind,
     ) -> Result<(), AllocError>
@@ -131,8 +132,8 @@ impl<A: Allocator + Copy> Draft<A> {
         ensures kept { OnOk result (KeepsHeaders self.old self.new) }
         ensures shifts { OnOk result (ShiftsFurther 2 self.old self.new) }
     {
-        let new_dir = new_key.0;
-        self.shift_count(key.0, -1)?;
+        let new_dir = new_key.dir();
+        self.shift_count(key.dir(), -1)?;
         self.shift_count(new_dir, 1)?;
         self.set_target(key, None)?;
         self.set_target(new_key, Some(number))?;
@@ -154,14 +155,14 @@ impl<A: Allocator + Copy> Draft<A> {
     }
 
     /// The name leads to this number, or to none.
-    fn set_target(&mut self, key: &(u32, Name), target: Option<u32>) -> Result<(), AllocError>
+    fn set_target(&mut self, key: &NameKey<'e>, target: Option<u32>) -> Result<(), AllocError>
         ensures shown { OnOk result ((s : Sight) → over self.new s ≡ with_target key.now.0 key.now.1 target (over self.old s)) }
         ensures written { OnOk result ((among : List Cell) → ChangesAreAmong self.old among → Contains among (NameIn key.now.0 key.now.1) → ChangesAreAmong self.new among) }
         ensures created { OnOk result (KeepsCreated self.old self.new) }
         ensures kept { OnOk result (KeepsHeaders self.old self.new) }
         ensures shifts { OnOk result (KeepsShifts self.old self.new) }
     {
-        put(&mut self.names, *key, target)?;
+        put(&mut self.names, key.again(), target)?;
         Ok(())
     }
 
@@ -234,7 +235,7 @@ fn count_names<A: Allocator + Copy>(
     shifts.set(dir, shift + by)
 }
 
-impl<A: Allocator> Draft<A> {
+impl<'e, A: Allocator> Draft<'e, A> {
     /// The node's header now, if an entry wrote it. An inner none means that the node is gone.
     pub fn header(&self, number: u32) -> Option<Option<Header>>
         ensures { result ≡ get nat_cmp self.now.heads number }
@@ -244,7 +245,7 @@ impl<A: Allocator> Draft<A> {
 
     /// The number that the name leads to now, if an entry wrote it. An inner none means that the name
     /// is gone.
-    pub fn target(&self, key: &(u32, Name)) -> Option<Option<u32>>
+    pub fn target(&self, key: &NameKey<'e>) -> Option<Option<u32>>
         ensures { result ≡ get name_order.compare self.now.names key.now }
     {
         self.names.get(key).copied()
@@ -286,7 +287,7 @@ impl<A: Allocator> Draft<A> {
     }
 
     /// The written names, by directory and name.
-    pub fn targets(&self) -> &BTreeMap<(u32, Name), Option<u32>, A>
+    pub fn targets(&self) -> &BTreeMap<NameKey<'e>, Option<u32>, A>
         ensures { result.now ≡ self.now.names }
     {
         &self.names

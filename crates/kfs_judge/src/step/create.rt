@@ -12,42 +12,44 @@ ghost use Rattle.kfs_judge.specs.Draft.Overlay.{has_created, over, ShiftsBy, Has
 ghost use Rattle.kfs_judge.specs.Check.Checks.{AnswersEntry};
 
 use crate::check::{EntryJudge, Reason, Recorder};
+use crate::draft::NameKey;
 use crate::step::check::check;
 use crate::step::log_judge::LogJudge;
 use kfs_image_nodes::{Header, Kind, Name};
 use std::alloc::{AllocError, Allocator};
 
-/// Why node `number` can't be made with the name `key`; none if it can.
+/// Why node `number` can't be made with the name `name` in `dir`; none if it can.
 #[tactic(auto, unfolding(kfs_model::specs::Check::checks_of))]
-fn create_fault<A: Allocator + Copy>(
-    judge: &EntryJudge<'_, A>,
-    recorder: &mut Recorder<'_, A>,
-    key: &(u32, Name),
+fn create_fault<'e, A: Allocator + Copy>(
+    judge: &EntryJudge<'_, 'e, A>,
+    recorder: &mut Recorder<'_, 'e, A>,
+    dir: u32,
+    name: &'e Name,
     number: u32,
 ) -> Result<Option<Reason>, AllocError>
-    ensures { (kind : KindShown) (mode : ℕ) → AnswersEntry judge.now recorder.old recorder.new result (entry.Create key.now.0 key.now.1 number kind mode) }
+    ensures { (kind : KindShown) (mode : ℕ) → AnswersEntry judge.now recorder.old recorder.new result (entry.Create dir name.now number kind mode) }
 {
-    let dir = key.0;
+    let key = NameKey { dir, name };
     check!(judge, recorder;
         Exists(dir),
         IsADirectory(dir),
         MaySearch(dir),
         MayWrite(dir),
         IsLeased(dir),
-        NameIsFree(key),
+        NameIsFree(&key),
         NumberIsGranted(number),
         NumberIsFree(number),
     );
     Ok(None)
 }
 
-impl<'a, A: Allocator + Copy> LogJudge<'a, A> {
+impl<'e, A: Allocator + Copy> LogJudge<'_, 'e, A> {
     /// Makes the empty node `number` with the name `name` in `dir` and the client's uid and gid, or
     /// answers the reason why not.
     pub fn create(
         &mut self,
         dir: u32,
-        name: &Name,
+        name: &'e Name,
         number: u32,
         kind: Kind,
         mode: u16,
@@ -55,12 +57,12 @@ impl<'a, A: Allocator + Copy> LogJudge<'a, A> {
         requires { HasRoom 3 self.old.draft }
         ensures { IsEntered self.old self.new (entry.Create dir name.now number (kind_of kind) mode) result }
     {
-        let key = (dir, *name);
+        let key = NameKey { dir, name };
         let judge = EntryJudge {
             client: self.client,
             draft: &self.draft,
         };
-        let fault = create_fault(&judge, &mut self.recorder, &key, number)?;
+        let fault = create_fault(&judge, &mut self.recorder, dir, name, number)?;
         if let Some(reason) = fault {
             return Ok(Some(reason));
         }

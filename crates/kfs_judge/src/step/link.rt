@@ -7,23 +7,24 @@ ghost use Rattle.kfs_judge.specs.Step.Entered.{IsEntered};
 ghost use Rattle.kfs_judge.specs.Draft.Overlay.{has_created, HasRoom, ShiftsBy};
 
 use crate::check::{EntryJudge, Reason, Recorder};
-use crate::draft::linked;
+use crate::draft::{NameKey, linked};
 use crate::step::check::check;
 use crate::step::log_judge::LogJudge;
 use kfs_image_nodes::Name;
 use std::alloc::{AllocError, Allocator};
 
-/// Why node `number` can't get the name `key`; none if it can.
+/// Why node `number` can't get the name `name` in `dir`; none if it can.
 #[tactic(auto, unfolding(kfs_model::specs::Check::checks_of))]
-fn link_fault<A: Allocator + Copy>(
-    judge: &EntryJudge<'_, A>,
-    recorder: &mut Recorder<'_, A>,
+fn link_fault<'e, A: Allocator + Copy>(
+    judge: &EntryJudge<'_, 'e, A>,
+    recorder: &mut Recorder<'_, 'e, A>,
     number: u32,
-    key: &(u32, Name),
+    dir: u32,
+    name: &'e Name,
 ) -> Result<Option<Reason>, AllocError>
-    ensures { AnswersEntry judge.now recorder.old recorder.new result (entry.Link number key.now.0 key.now.1) }
+    ensures { AnswersEntry judge.now recorder.old recorder.new result (entry.Link number dir name.now) }
 {
-    let dir = key.0;
+    let key = NameKey { dir, name };
     check!(judge, recorder;
         Exists(number),
         IsAFile(number),
@@ -33,24 +34,29 @@ fn link_fault<A: Allocator + Copy>(
         MayWrite(dir),
         IsLeased(dir),
         IsLeased(number),
-        NameIsFree(key),
+        NameIsFree(&key),
         HasRoomForLink(number),
     );
     Ok(None)
 }
 
-impl<A: Allocator + Copy> LogJudge<'_, A> {
+impl<'e, A: Allocator + Copy> LogJudge<'_, 'e, A> {
     /// Gives the file `number` one more name, `name` in `dir`, or answers the reason why not.
-    pub fn link(&mut self, number: u32, dir: u32, name: &Name) -> Result<Option<Reason>, AllocError>
+    pub fn link(
+        &mut self,
+        number: u32,
+        dir: u32,
+        name: &'e Name,
+    ) -> Result<Option<Reason>, AllocError>
         requires { HasRoom 3 self.old.draft }
         ensures { IsEntered self.old self.new (entry.Link number dir name.now) result }
     {
-        let key = (dir, *name);
+        let key = NameKey { dir, name };
         let judge = EntryJudge {
             client: self.client,
             draft: &self.draft,
         };
-        let fault = link_fault(&judge, &mut self.recorder, number, &key)?;
+        let fault = link_fault(&judge, &mut self.recorder, number, dir, name)?;
         if let Some(reason) = fault {
             return Ok(Some(reason));
         }

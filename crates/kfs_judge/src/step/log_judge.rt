@@ -46,18 +46,23 @@ macro_rules! enter_case {
 /// Judges the entries of a log in order. It has the log's client, what the entries so far have changed,
 /// and what was read of the view.
 #[derive(Drop)]
-pub struct LogJudge<'a, A: Allocator> {
+pub struct LogJudge<'a, 'e, A: Allocator> {
     /// The log's client.
     pub client: &'a Client,
     /// What the entries so far have changed.
-    pub draft: Draft<A>,
+    pub draft: Draft<'e, A>,
     /// The view, and what was read of it.
-    pub recorder: Recorder<'a, A>,
+    pub recorder: Recorder<'a, 'e, A>,
 }
 
-impl<'a, A: Allocator + Copy> LogJudge<'a, A> {
+impl<'a, 'e, A: Allocator + Copy> LogJudge<'a, 'e, A> {
     /// At the start of a log of this client, with the reads so far. Takes no memory.
-    pub fn new(alloc: A, view: &'a View<A>, client: &'a Client, reads: Reads<A>) -> LogJudge<'a, A>
+    pub fn new(
+        alloc: A,
+        view: &'a View<A>,
+        client: &'a Client,
+        reads: Reads<A>,
+    ) -> LogJudge<'a, 'e, A>
         ensures client { result.client.now ≡ client.now }
         ensures reads { result.recorder.reads ≡ reads }
         ensures seen { seen_by result.recorder ≡ client_sight_in view.now client.now.number }
@@ -75,7 +80,7 @@ impl<'a, A: Allocator + Copy> LogJudge<'a, A> {
 
     /// Makes the change of an entry, or answers the reason why not. After `Err`, where memory is
     /// refused, part of the change may be made.
-    pub fn enter(&mut self, entry: &Entry<Span>) -> Result<Option<Reason>, AllocError>
+    pub fn enter(&mut self, entry: &'e Entry<Span>) -> Result<Option<Reason>, AllocError>
         requires { HasRoom 3 self.old.draft }
         ensures goes { GoesOn self.old.recorder self.new.recorder }
         ensures client { self.new.client.now ≡ self.old.client.now }

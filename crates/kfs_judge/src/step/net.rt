@@ -12,18 +12,18 @@ ghost use Rattle.kfs_judge.specs.Step.FileSizes.{AreSizesOver};
 ghost use Rattle.kfs_pieces.specs.Sizes.{SizesAscend, IsSize, size_in};
 
 use crate::check::Recorder;
-use crate::draft::Draft;
+use crate::draft::{Draft, NameKey};
 use kfs_entry::{NameRow, NodeRow};
-use kfs_image_nodes::{Header, Name};
+use kfs_image_nodes::Header;
 use kfs_pieces::FileSize;
 use kfs_types::SIZE_LIMIT;
 use std::alloc::{AllocError, Allocator};
 
 /// A row for each name that leads elsewhere than before, ascending.
-pub fn name_rows<A: Allocator + Copy>(
+pub fn name_rows<'e, A: Allocator + Copy>(
     alloc: A,
-    draft: &Draft<A>,
-    recorder: &mut Recorder<'_, A>,
+    draft: &Draft<'e, A>,
+    recorder: &mut Recorder<'_, 'e, A>,
 ) -> Result<Vec<NameRow, A>, AllocError>
     ensures { LooksOver draft.now recorder.old recorder.new result (λ rows before. AreNamesOf before.sight (over draft.now before.sight) rows.items) }
 {
@@ -39,7 +39,7 @@ pub fn name_rows<A: Allocator + Copy>(
 /// No row, with room for one of each name that was written.
 fn room_for_names<A: Allocator + Copy>(
     alloc: A,
-    draft: &Draft<A>,
+    draft: &Draft<'_, A>,
 ) -> Result<Vec<NameRow, A>, AllocError>
     ensures { IfOk result (λ rows. rows.items ≡ []) }
 {
@@ -47,9 +47,9 @@ fn room_for_names<A: Allocator + Copy>(
 }
 
 /// The row of a name that leads to `now`, if it led elsewhere before.
-fn name_row<A: Allocator + Copy>(
-    recorder: &mut Recorder<'_, A>,
-    key: &(u32, Name),
+fn name_row<'e, A: Allocator + Copy>(
+    recorder: &mut Recorder<'_, 'e, A>,
+    key: &NameKey<'e>,
     now: Option<u32>,
 ) -> Result<Option<NameRow>, AllocError>
     ensures { LooksAtName recorder.old recorder.new result key.now (λ row before. IsRowOfName before.sight key.now now row) }
@@ -59,18 +59,18 @@ fn name_row<A: Allocator + Copy>(
         return Ok(None);
     }
     let row = NameRow {
-        dir: key.0,
-        name: key.1,
+        dir: key.dir(),
+        name: *key.name(),
         number: now.unwrap_or(0),
     };
     Ok(Some(row))
 }
 
 /// A row for each node with another header than before, ascending.
-pub fn node_rows<A: Allocator + Copy>(
+pub fn node_rows<'e, A: Allocator + Copy>(
     alloc: A,
-    draft: &Draft<A>,
-    recorder: &mut Recorder<'_, A>,
+    draft: &Draft<'e, A>,
+    recorder: &mut Recorder<'_, 'e, A>,
 ) -> Result<Vec<NodeRow, A>, AllocError>
     ensures { LooksOver draft.now recorder.old recorder.new result (λ rows before. AreNodesOf before.sight (over draft.now before.sight) rows.items) }
 {
@@ -85,7 +85,7 @@ pub fn node_rows<A: Allocator + Copy>(
 
 /// The row of a node whose header is `now`, if it was another before.
 fn node_row<A: Allocator + Copy>(
-    recorder: &mut Recorder<'_, A>,
+    recorder: &mut Recorder<'_, '_, A>,
     number: u32,
     now: Option<Header>,
 ) -> Result<Option<NodeRow>, AllocError>
@@ -100,10 +100,10 @@ fn node_row<A: Allocator + Copy>(
 
 /// The sizes of each node whose header an entry wrote, ascending by number. After the log none is over
 /// 2^32.
-pub fn file_sizes<A: Allocator + Copy>(
+pub fn file_sizes<'e, A: Allocator + Copy>(
     alloc: A,
-    draft: &Draft<A>,
-    recorder: &mut Recorder<'_, A>,
+    draft: &Draft<'e, A>,
+    recorder: &mut Recorder<'_, 'e, A>,
 ) -> Result<Vec<FileSize, A>, AllocError>
     ensures looks { LooksOver draft.now recorder.old recorder.new result (λ sizes before. AreSizesOver draft.now before.sight sizes.items) }
     ensures ascending { IfOk result (λ sizes. SizesAscend 0 sizes.items) }

@@ -9,23 +9,30 @@ ghost use Rattle.kfs_judge.specs.Check.Recorders.{GoesOn, ReadsAt};
 ghost use Rattle.kfs_types.specs.Views.{kind_of};
 
 use crate::check::{EntryJudge, Reason, Recorder};
+use crate::draft::NameKey;
 use crate::step::check::check;
 use crate::step::log_judge::LogJudge;
 use crate::step::unlink::going_fault;
 use kfs_image_nodes::{Kind, Name};
 use std::alloc::{AllocError, Allocator};
 
-/// Why the name `key` can't become `new_key`; none if it can.
+/// Why the name `name` in `dir` can't become `new_name` in `new_dir`; none if it can.
 #[tactic(auto, unfolding(kfs_model::specs::Check::checks_of))]
-fn rename_fault<A: Allocator + Copy>(
-    judge: &EntryJudge<'_, A>,
-    recorder: &mut Recorder<'_, A>,
-    key: &(u32, Name),
-    new_key: &(u32, Name),
+fn rename_fault<'e, A: Allocator + Copy>(
+    judge: &EntryJudge<'_, 'e, A>,
+    recorder: &mut Recorder<'_, 'e, A>,
+    dir: u32,
+    name: &'e Name,
+    new_dir: u32,
+    new_name: &'e Name,
 ) -> Result<Option<Reason>, AllocError>
-    ensures { AnswersEntry judge.now recorder.old recorder.new result (entry.Rename key.now.0 key.now.1 new_key.now.0 new_key.now.1) }
+    ensures { AnswersEntry judge.now recorder.old recorder.new result (entry.Rename dir name.now new_dir new_name.now) }
 {
-    let (dir, new_dir) = (key.0, new_key.0);
+    let key = NameKey { dir, name };
+    let new_key = NameKey {
+        dir: new_dir,
+        name: new_name,
+    };
     check!(judge, recorder;
         Exists(dir),
         IsADirectory(dir),
@@ -34,18 +41,18 @@ fn rename_fault<A: Allocator + Copy>(
         MaySearch(dir),
         MaySearch(new_dir),
     );
-    let Some(moved) = judge.target(recorder, key)? else {
+    let Some(moved) = judge.target(recorder, &key)? else {
         return Ok(Some(Reason::NoSuchName));
     };
-    let there = judge.target(recorder, new_key)?;
+    let there = judge.target(recorder, &new_key)?;
     let rest = move_fault(judge, recorder, dir, new_dir, moved, there)?;
     Ok(rest)
 }
 
 /// Why node `moved` can't go from `dir` to `new_dir`, in place of `there`; none if it can.
-fn move_fault<A: Allocator + Copy>(
-    judge: &EntryJudge<'_, A>,
-    recorder: &mut Recorder<'_, A>,
+fn move_fault<'e, A: Allocator + Copy>(
+    judge: &EntryJudge<'_, 'e, A>,
+    recorder: &mut Recorder<'_, 'e, A>,
     dir: u32,
     new_dir: u32,
     moved: u32,
@@ -77,9 +84,9 @@ fn leads_to(target: Option<u32>, number: u32) -> bool
 }
 
 /// Why node `moved`, of this kind, can't come to `new_dir`, in place of `there`; none if it can.
-fn arrival_fault<A: Allocator + Copy>(
-    judge: &EntryJudge<'_, A>,
-    recorder: &mut Recorder<'_, A>,
+fn arrival_fault<'e, A: Allocator + Copy>(
+    judge: &EntryJudge<'_, 'e, A>,
+    recorder: &mut Recorder<'_, 'e, A>,
     kind: Kind,
     moved: u32,
     new_dir: u32,
@@ -97,9 +104,9 @@ fn arrival_fault<A: Allocator + Copy>(
 /// Why node `moved`, of this kind, can't be in `new_dir`; none if it can. A directory may not be put
 /// below itself.
 #[tactic(auto, unfolding(kfs_model::specs::Check::first_failing))]
-fn place_fault<A: Allocator + Copy>(
-    judge: &EntryJudge<'_, A>,
-    recorder: &mut Recorder<'_, A>,
+fn place_fault<'e, A: Allocator + Copy>(
+    judge: &EntryJudge<'_, 'e, A>,
+    recorder: &mut Recorder<'_, 'e, A>,
     kind: Kind,
     moved: u32,
     new_dir: u32,
@@ -117,9 +124,9 @@ fn place_fault<A: Allocator + Copy>(
 
 /// Why `there` can't be replaced in `new_dir` by a node of this kind; none if it can.
 #[tactic(auto, unfolding(kfs_model::specs::Check::first_failing))]
-fn replaced_fault<A: Allocator + Copy>(
-    judge: &EntryJudge<'_, A>,
-    recorder: &mut Recorder<'_, A>,
+fn replaced_fault<'e, A: Allocator + Copy>(
+    judge: &EntryJudge<'_, 'e, A>,
+    recorder: &mut Recorder<'_, 'e, A>,
     kind: Kind,
     new_dir: u32,
     there: Option<u32>,
@@ -135,24 +142,28 @@ fn replaced_fault<A: Allocator + Copy>(
     }
 }
 
-impl<A: Allocator + Copy> LogJudge<'_, A> {
+impl<'e, A: Allocator + Copy> LogJudge<'_, 'e, A> {
     /// Moves the name `name` in `dir` to `new_name` in `new_dir`, or answers the reason why not.
     pub fn rename(
         &mut self,
         dir: u32,
-        name: &Name,
+        name: &'e Name,
         new_dir: u32,
-        new_name: &Name,
+        new_name: &'e Name,
     ) -> Result<Option<Reason>, AllocError>
         requires { HasRoom 3 self.old.draft }
         ensures { IsEntered self.old self.new (entry.Rename dir name.now new_dir new_name.now) result }
     {
-        let (key, new_key) = ((dir, *name), (new_dir, *new_name));
+        let key = NameKey { dir, name };
+        let new_key = NameKey {
+            dir: new_dir,
+            name: new_name,
+        };
         let judge = EntryJudge {
             client: self.client,
             draft: &self.draft,
         };
-        let fault = rename_fault(&judge, &mut self.recorder, &key, &new_key)?;
+        let fault = rename_fault(&judge, &mut self.recorder, dir, name, new_dir, new_name)?;
         if let Some(reason) = fault {
             return Ok(Some(reason));
         }
@@ -166,8 +177,8 @@ impl<A: Allocator + Copy> LogJudge<'_, A> {
     /// Nothing changes where both names lead to one node.
     fn move_name(
         &mut self,
-        key: &(u32, Name),
-        new_key: &(u32, Name),
+        key: &NameKey<'e>,
+        new_key: &NameKey<'e>,
         from: Option<u32>,
         to: Option<u32>,
     ) -> Result<(), AllocError>

@@ -9,23 +9,24 @@ ghost use Rattle.kfs_judge.specs.Check.Recorders.{GoesOn, ReadsAt};
 ghost use Rattle.kfs_types.specs.Views.{kind_of};
 
 use crate::check::{EntryJudge, Reason, Recorder};
-use crate::draft::unlinked;
+use crate::draft::{NameKey, unlinked};
 use crate::step::check::check;
 use crate::step::log_judge::LogJudge;
 use kfs_image_nodes::{Kind, Name};
 use std::alloc::{AllocError, Allocator};
 
-/// Why the name `key`, of a node of this kind, can't be removed; none if it can.
+/// Why the name `name` in `dir`, of a node of this kind, can't be removed; none if it can.
 #[tactic(auto, unfolding(kfs_model::specs::Check::checks_of))]
-fn unlink_fault<A: Allocator + Copy>(
-    judge: &EntryJudge<'_, A>,
-    recorder: &mut Recorder<'_, A>,
-    key: &(u32, Name),
+fn unlink_fault<'e, A: Allocator + Copy>(
+    judge: &EntryJudge<'_, 'e, A>,
+    recorder: &mut Recorder<'_, 'e, A>,
+    dir: u32,
+    name: &'e Name,
     kind: Kind,
 ) -> Result<Option<Reason>, AllocError>
-    ensures { AnswersEntry judge.now recorder.old recorder.new result (entry.Unlink key.now.0 key.now.1 (kind_of kind)) }
+    ensures { AnswersEntry judge.now recorder.old recorder.new result (entry.Unlink dir name.now (kind_of kind)) }
 {
-    let dir = key.0;
+    let key = NameKey { dir, name };
     check!(judge, recorder;
         Exists(dir),
         IsADirectory(dir),
@@ -33,7 +34,7 @@ fn unlink_fault<A: Allocator + Copy>(
         MayWrite(dir),
         IsLeased(dir),
     );
-    let Some(number) = judge.target(recorder, key)? else {
+    let Some(number) = judge.target(recorder, &key)? else {
         return Ok(Some(Reason::NoSuchName));
     };
     let rest = going_fault(judge, recorder, kind, dir, number)?;
@@ -41,9 +42,9 @@ fn unlink_fault<A: Allocator + Copy>(
 }
 
 /// Why node `number`, which should be of this kind, can't lose a name in `dir`; none if it can.
-pub fn going_fault<A: Allocator + Copy>(
-    judge: &EntryJudge<'_, A>,
-    recorder: &mut Recorder<'_, A>,
+pub fn going_fault<'e, A: Allocator + Copy>(
+    judge: &EntryJudge<'_, 'e, A>,
+    recorder: &mut Recorder<'_, 'e, A>,
     kind: Kind,
     dir: u32,
     number: u32,
@@ -66,23 +67,23 @@ pub fn going_fault<A: Allocator + Copy>(
     Ok(None)
 }
 
-impl<A: Allocator + Copy> LogJudge<'_, A> {
+impl<'e, A: Allocator + Copy> LogJudge<'_, 'e, A> {
     /// Removes the name `name` from `dir`, or answers the reason why not.
     pub fn unlink(
         &mut self,
         dir: u32,
-        name: &Name,
+        name: &'e Name,
         kind: Kind,
     ) -> Result<Option<Reason>, AllocError>
         requires { HasRoom 3 self.old.draft }
         ensures { IsEntered self.old self.new (entry.Unlink dir name.now (kind_of kind)) result }
     {
-        let key = (dir, *name);
+        let key = NameKey { dir, name };
         let judge = EntryJudge {
             client: self.client,
             draft: &self.draft,
         };
-        let fault = unlink_fault(&judge, &mut self.recorder, &key, kind)?;
+        let fault = unlink_fault(&judge, &mut self.recorder, dir, name, kind)?;
         if let Some(reason) = fault {
             return Ok(Some(reason));
         }
@@ -92,7 +93,7 @@ impl<A: Allocator + Copy> LogJudge<'_, A> {
     }
 
     /// Removes the name `key`, which leads to `there`. The node goes with its last name.
-    pub fn remove_name(&mut self, key: &(u32, Name), there: Option<u32>) -> Result<(), AllocError>
+    pub fn remove_name(&mut self, key: &NameKey<'e>, there: Option<u32>) -> Result<(), AllocError>
         requires { HasRoom 1 self.old.draft }
         ensures goes { GoesOn self.old.recorder self.new.recorder }
         ensures client { self.new.client.now ≡ self.old.client.now }

@@ -26,10 +26,10 @@ pub returns-in-Some : goal.returns-in-Some
 unfolding checks_of
 returns-in-Some g c =
     let judge = c.args.judge.now in
-    let d = c.args.key.now.0 in
-    let e = c.args.new_key.now.0 in
+    let d = c.args.dir in
+    let e = c.args.new_dir in
     let front = by_directories d e in
-    front_fails judge front (by_first d c.args.key.now.1 e c.args.new_key.now.1) c.in-Some.reason (found_is judge front _ (Some c.in-Some.reason) c.in-Some.is c.in_ok-reason.ensures)
+    front_fails judge front (by_first d c.args.name.now e c.args.new_name.now) c.in-Some.reason (found_is judge front _ (Some c.in-Some.reason) c.in-Some.is c.in_ok-reason.ensures)
 
 pub returns-in_err-moved : goal.returns-in_err-moved
 returns-in_err-moved g c = cut_short (goes_then c.in_ok-reason.ensures.goes c.in_err-moved.ensures.goes) _ _ _ c.from_residual-in_err-moved.ensures.0
@@ -38,10 +38,10 @@ pub returns-in_default-2 : goal.returns-in_default-2
 unfolding checks_of
 returns-in_default-2 g c =
     let judge = c.args.judge.now in
-    let d = c.args.key.now.0 in
-    let m = c.args.key.now.1 in
-    let e = c.args.new_key.now.0 in
-    let k = c.args.new_key.now.1 in
+    let d = c.args.dir in
+    let m = c.args.name.now in
+    let e = c.args.new_dir in
+    let k = c.args.new_name.now in
     let front = by_directories d e in
     then_back judge front (by_first d m e k) (Some NoSuchName) (found_is judge front _ None c.in_default.is c.in_ok-reason.ensures)
     (no_name judge d m (by_second d e k) _ c.in_default-2.is c.in_ok-moved.ensures)
@@ -56,10 +56,10 @@ pub returns : goal.returns
 unfolding checks_of
 returns g c =
     let judge = c.args.judge.now in
-    let d = c.args.key.now.0 in
-    let m = c.args.key.now.1 in
-    let e = c.args.new_key.now.0 in
-    let k = c.args.new_key.now.1 in
+    let d = c.args.dir in
+    let m = c.args.name.now in
+    let e = c.args.new_dir in
+    let k = c.args.new_name.now in
     let s = c.in-Some-2.moved in
     let there = c.in_ok-there.there in
     let rest = c.in_ok-rest.rest in

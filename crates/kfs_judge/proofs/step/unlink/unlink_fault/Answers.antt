@@ -21,8 +21,8 @@ pub returns-in-Some : goal.returns-in-Some
 unfolding checks_of
 returns-in-Some g c =
     let judge = c.args.judge.now in
-    let front = by_directory c.args.key.now.0 in
-    let back = by_name c.args.key.now.0 c.args.key.now.1 (kind_of c.args.kind) in
+    let front = by_directory c.args.dir in
+    let back = by_name c.args.dir c.args.name.now (kind_of c.args.kind) in
     front_fails judge front back c.in-Some.reason (found_is judge front _ (Some c.in-Some.reason) c.in-Some.is c.in_ok-reason.ensures)
 
 pub returns-in_err-number : goal.returns-in_err-number
@@ -32,8 +32,8 @@ pub returns-in_default-2 : goal.returns-in_default-2
 unfolding checks_of
 returns-in_default-2 g c =
     let judge = c.args.judge.now in
-    let d = c.args.key.now.0 in
-    let m = c.args.key.now.1 in
+    let d = c.args.dir in
+    let m = c.args.name.now in
     let kind = kind_of c.args.kind in
     let front = by_directory d in
     then_back judge front (by_name d m kind) (Some NoSuchName) (found_is judge front _ None c.in_default.is c.in_ok-reason.ensures)
@@ -46,8 +46,8 @@ pub returns : goal.returns
 unfolding checks_of
 returns g c =
     let judge = c.args.judge.now in
-    let d = c.args.key.now.0 in
-    let m = c.args.key.now.1 in
+    let d = c.args.dir in
+    let m = c.args.name.now in
     let kind = kind_of c.args.kind in
     let front = by_directory d in
     then_back judge front (by_name d m kind) c.in_ok-rest.rest (found_is judge front _ None c.in_default.is c.in_ok-reason.ensures)

@@ -1,17 +1,16 @@
 -- A header that isn't kept is the view's.
-use Rattle.std.proofs.Common.{◌≡◌, ◌∙◌, ap, sym, refl, option_map}
-use mathlib.Core.Bool.{true≢false}
+use Rattle.std.proofs.Common.{◌≡◌, ◌∙◌, ap, sym, option_map}
 use Rattle.kfs_types.specs.Views.{header_of}
 use Rattle.kfs_model.specs.Sight.{ClientSight, Head, answer}
 use Rattle.kfs_judge.specs.Check.Kept.{ReadsShown}
 use Rattle.kfs_judge.specs.Check.Reads.{answer_of, cell_of}
-use Rattle.kfs_judge.specs.Check.Recorders.{seen_by}
+use Rattle.kfs_judge.specs.Check.View.{client_sight_in}
 use Rattle.kfs_judge.specs.declared.check.reads.Read.TheVariants.{Look}
 use Rattle.kfs_judge.specs.declared.check.reads.ReadAnswer.TheVariants as answers
 use Rattle.kfs_image_nodes.specs.declared.cell.Cell.TheVariants as cells
 use Rattle.kfs_image_nodes.specs.declared.cell.Answer.TheVariants as looks
-use Rattle.kfs_judge.proofs.CheckLemmas.ReadsAgree.{grows_by_one, known_at_end, agrees_by_one}
-use Rattle.kfs_judge.proofs.CheckLemmas.Recording.{within_one}
+use Rattle.kfs_judge.proofs.CheckLemmas.ReadsAgree.{grows_by_one}
+use Rattle.kfs_judge.proofs.CheckLemmas.OneLook.{unkept_look}
 use Rattle.kfs_judge.proofs.CheckLemmas.Ways.{hold_further}
 use Rattle.kfs_judge.proofs.check.reads.Recorder.header.Goals as goal
 
@@ -22,24 +21,15 @@ invariant_of-self g c =
 
 pub returns : goal.returns
 returns g c =
-    let read = Look (cells.Header c.args.number) in
-    let told = answers.Look (looks.Header c.header-header.result) in
-    let old = c.args.self.now.reads.entries in
-    let new = c.see.new.self.entries in
-    let last = ap (λ (r : ReadsShown). r.entries) c.see.ensures in
-    let unkept = sym c.are_kept.ensures ∙ c.if-are_kept.false in
-    let shown : answer (seen_by c.args.self.now) (cell_of read) ≡ answer_of told = ap Head (sym c.header-header.ensures) in
-    record {
-      goes = record {
-        grows = grows_by_one old new read told last;
-        same = refl;
-        keeps = ap (λ (r : ReadsShown). r.keeps) c.see.ensures;
-        agrees = agrees_by_one old new read told _ last shown;
-        once = λ kept. absurd (true≢false (sym kept ∙ unkept));
-      };
-      known = λ state agrees. leads state (known_at_end old new read told last state agrees);
-      among = within_one old new read told last;
-    }
+    let header = c.header-header.result in
+    unkept_look c.args.self.now _ (Look (cells.Header c.args.number)) (answers.Look (looks.Header header))
+    (ap (λ (r : ReadsShown). r.entries) c.see.ensures)
+    (ap (λ (r : ReadsShown). r.keeps) c.see.ensures)
+    (ap (λ view. client_sight_in view c.args.self.now.client) c.header-header.ensures.same)
+    (ap Head (sym c.header-header.ensures.header))
+    header (λ found before. before.sight.head c.args.number ≡ option_map header_of found)
+    (sym c.are_kept.ensures ∙ c.if-are_kept.false)
+    leads
   where
     leads : (state : ClientSight) → answer state (cell_of (Look (cells.Header c.args.number))) ≡ answer_of (answers.Look (looks.Header c.header-header.result)) → state.sight.head c.args.number ≡ option_map header_of c.header-header.result
     leads state is = cc

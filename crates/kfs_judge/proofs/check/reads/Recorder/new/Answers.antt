@@ -2,4 +2,4 @@
 use Rattle.kfs_judge.proofs.check.reads.Recorder.new.Goals as goal
 
 pub invariant_of-result : goal.invariant_of-result
-invariant_of-result g c = record { ways = record { links = λ state agrees. c.new.ensures.links state.sight.parent; stops = c.new.ensures.stops } }
+invariant_of-result g c = record { ways = record { links = λ state agrees. c.new-2.ensures.links state.sight.parent; stops = c.new-2.ensures.stops } }

@@ -1,23 +1,23 @@
 -- An answer that is recorded is that of the name, and a new one is the view's.
-use Rattle.std.proofs.Common.{◌≡◌, ◌∷◌, [], ap, sym, refl}
+use Rattle.std.proofs.Common.{◌≡◌, ◌∷◌, [], ◌∙◌, ap, sym}
 use Rattle.kfs_model.specs.Sight.{ClientSight, NameIn, Number, answer}
 use Rattle.kfs_judge.specs.Check.Reads.{answer_of, cell_of}
-use Rattle.kfs_judge.specs.Check.Recorders.{seen_by}
 use Rattle.kfs_judge.specs.Check.Kept.{ReadsShown}
+use Rattle.kfs_judge.specs.Check.View.{client_sight_in}
 use Rattle.kfs_judge.specs.declared.check.reads.Read.TheVariants.{Look}
 use Rattle.kfs_judge.specs.declared.check.reads.ReadAnswer.TheVariants as answers
 use Rattle.kfs_image_nodes.specs.declared.cell.Cell.TheVariants.{Name}
 use Rattle.kfs_image_nodes.specs.declared.cell.Answer.TheVariants as looks
-use Rattle.kfs_judge.proofs.CheckLemmas.ReadsAgree.{known_by_key, grows_by_one, known_at_end, agrees_by_one, once_by_one}
-use Rattle.kfs_judge.proofs.CheckLemmas.Recording.{goes_nowhere, within_same, within_one}
+use Rattle.kfs_judge.proofs.CheckLemmas.ReadsAgree.{known_by_key, once_by_one}
+use Rattle.kfs_judge.proofs.CheckLemmas.Recording.{goes_nowhere, within_same}
+use Rattle.kfs_judge.proofs.CheckLemmas.OneLook.{looks_at_one, read_as}
 use Rattle.kfs_judge.proofs.CheckLemmas.Ways.{hold_added}
 use Rattle.kfs_judge.proofs.check.reads.Recorder.target_kept.Goals as goal
 
 pub invariant_of-self : goal.invariant_of-self
 invariant_of-self g c =
-    let read = Look (Name c.args.key.now.0 c.args.key.now.1) in
-    let told = answers.Look (looks.Name c.target_near-number.result) in
-    record { ways = hold_added c.args.self.now.climbs c.add.result c.args.self.now.reads c.add.new.self read told c.add.ensures.ok c.add.ensures.err c.args.self.now.ways }
+    let told = answers.Look (looks.Name c.target-number.result) in
+    record { ways = hold_added c.args.self.now.climbs c.add.result c.args.self.now.reads c.add.new.self c.read_of-read.result told c.add.ensures.ok c.add.ensures.err c.args.self.now.ways }
 
 pub returns-in-Some : goal.returns-in-Some
 returns-in-Some g c =
@@ -26,7 +26,7 @@ returns-in-Some g c =
     record {
       goes = goes_nowhere c.args.self.now;
       known = λ state agrees.
-          c.number_in.ensures (state.sight.name d m) (known_by_key _ (Look (Name d m)) _ (sym c.in-Some.ensures.found) state agrees);
+          c.number_in.ensures (state.sight.name d m) (ap (λ read. answer state (cell_of read)) (sym c.read_of-read.ensures) ∙ known_by_key _ c.read_of-read.result _ (sym c.in-Some.ensures.found) state agrees);
       among = within_same c.args.self.now.reads.entries (NameIn d m ∷ []);
     }
 
@@ -34,24 +34,18 @@ pub returns : goal.returns
 returns g c =
     let d = c.args.key.now.0 in
     let m = c.args.key.now.1 in
-    let number = c.target_near-number.result in
-    let read = Look (Name d m) in
+    let number = c.target-number.result in
     let told = answers.Look (looks.Name number) in
-    let old = c.args.self.now.reads.entries in
-    let new = c.add.new.self.entries in
+    let old = c.args.self.now in
     let last = ap (λ (r : ReadsShown). r.entries) c.in_ok-add.ensures.ok in
-    let shown : answer (seen_by c.args.self.now) (cell_of read) ≡ answer_of told = ap Number (sym c.target_near-number.ensures) in
-    record {
-      goes = record {
-        grows = grows_by_one old new read told last;
-        same = refl;
-        keeps = ap (λ (r : ReadsShown). r.keeps) c.in_ok-add.ensures.ok;
-        agrees = agrees_by_one old new read told _ last shown;
-        once = λ kept. once_by_one old new read told last (c.in_default.ensures.none kept);
-      };
-      known = λ state agrees. leads state (known_at_end old new read told last state agrees);
-      among = within_one old new read told last;
-    }
+    looks_at_one old _ (Look (Name d m)) told
+    (read_as old.reads.entries told c.read_of-read.ensures last)
+    (ap (λ (r : ReadsShown). r.keeps) c.in_ok-add.ensures.ok)
+    (ap (λ view. client_sight_in view old.client) c.target-number.ensures.same)
+    (ap Number (sym c.target-number.ensures.target))
+    number (λ found before. before.sight.name d m ≡ found)
+    (λ kept. once_by_one old.reads.entries c.add.new.self.entries c.read_of-read.result told last (c.in_default.ensures.none kept))
+    leads
   where
-    leads : (state : ClientSight) → answer state (cell_of (Look (Name c.args.key.now.0 c.args.key.now.1))) ≡ answer_of (answers.Look (looks.Name c.target_near-number.result)) → state.sight.name c.args.key.now.0 c.args.key.now.1 ≡ c.target_near-number.result
+    leads : (state : ClientSight) → answer state (cell_of (Look (Name c.args.key.now.0 c.args.key.now.1))) ≡ answer_of (answers.Look (looks.Name c.target-number.result)) → state.sight.name c.args.key.now.0 c.args.key.now.1 ≡ c.target-number.result
     leads state is = cc

@@ -8,4 +8,4 @@ use Rattle.kfs_judge.specs.Check.View.{contents_of}
 use Rattle.kfs_judge.proofs.check.reads.Recorder.view_answer.Goals as goal
 
 pub returns-in-Look : goal.returns-in-Look
-returns-in-Look g c = ap (λ read. answer (seen_by c.args.self.now) (cell_of read)) c.in-Look.is ∙ look_shows (contents_of c.args.self.now.view.now) (seen_by c.args.self.now).held c.in-Look.cell c.look.result c.look.ensures
+returns-in-Look g c = ap (λ read. answer (seen_by c.args.self.now) (cell_of read)) c.in-Look.is ∙ look_shows (contents_of c.args.self.now.looks.view.now) (seen_by c.args.self.now).held c.in-Look.cell c.look.result c.look.ensures

@@ -6,7 +6,7 @@ use Rattle.kfs_judge.specs.Draft.Overlay.{with_directory_in}
 use Rattle.kfs_judge.proofs.draft.draft.Draft.add_node.Goals as goal
 
 pub returns-clause-shown : goal.returns-clause-shown
-returns-clause-shown g c s = c.in_ok-set_directory_in.ensures.shown s ∙ ap (with_directory_in (kind_of c.args.header.kind) c.args.number c.args.key.now.0) (c.in_ok-add_name.ensures.shown s)
+returns-clause-shown g c s = c.in_ok-set_directory_in.ensures.shown s ∙ λ i. with_directory_in (kind_of c.args.header.kind) c.args.number (c.dir-dir.ensures i) (c.in_ok-add_name.ensures.shown s i)
 
 pub returns-clause-written : goal.returns-clause-written
 returns-clause-written g c among written name header =

@@ -1,7 +1,7 @@
 -- Each step shows its change, one over the other.
-use Rattle.std.proofs.Common.{pos, ap, Some, None, ◌+◌, ◌∙◌, arith}
+use Rattle.std.proofs.Common.{pos, negsuc, ap, Some, None, ◌+◌, ◌∙◌, arith}
 use Rattle.kfs_types.specs.Views.{kind_of}
-use Rattle.kfs_judge.specs.Draft.Overlay.{with_more_names, with_target, with_directory_in}
+use Rattle.kfs_judge.specs.Draft.Overlay.{over, with_more_names, with_target, with_directory_in}
 use Rattle.kfs_judge.proofs.DraftLemmas.Overlays.{shifts_wider}
 use Rattle.kfs_judge.proofs.draft.draft.Draft.move_name.Goals as goal
 
@@ -13,10 +13,11 @@ shift_count-requires-2-clause-room g c = c.in_ok-shift_count.ensures.shifts 2147
 
 pub returns-clause-shown : goal.returns-clause-shown
 returns-clause-shown g c s =
-    let counted = c.in_ok-shift_count-2.ensures.shown s ∙ ap (with_more_names c.args.new_key.now.0 (pos 1)) (c.in_ok-shift_count.ensures.shown s) in
+    let fewer = c.in_ok-shift_count.ensures.shown s ∙ ap (λ d. with_more_names d (negsuc 0) (over c.args.self.now s)) c.dir.ensures in
+    let counted = c.in_ok-shift_count-2.ensures.shown s ∙ (λ i. with_more_names (c.dir-new_dir.ensures i) (pos 1) (fewer i)) in
     let unnamed = c.in_ok-set_target.ensures.shown s ∙ ap (with_target c.args.key.now.0 c.args.key.now.1 None) counted in
     let named = c.in_ok-set_target-2.ensures.shown s ∙ ap (with_target c.args.new_key.now.0 c.args.new_key.now.1 (Some c.args.number)) unnamed in
-    c.in_ok-set_directory_in.ensures.shown s ∙ ap (with_directory_in (kind_of c.args.kind) c.args.number c.args.new_key.now.0) named
+    c.in_ok-set_directory_in.ensures.shown s ∙ λ i. with_directory_in (kind_of c.args.kind) c.args.number (c.dir-new_dir.ensures i) (named i)
 
 pub returns-clause-written : goal.returns-clause-written
 returns-clause-written g c among written old_name new_name =

@@ -1,13 +1,13 @@
 -- Each step shows its change, one over the other.
-use Rattle.std.proofs.Common.{ap, None, ◌+◌, ◌∙◌}
+use Rattle.std.proofs.Common.{negsuc, ap, None, ◌+◌, ◌∙◌}
 use Rattle.std.specs.Option.{option_map}
 use Rattle.kfs_types.specs.Views.{header_of}
-use Rattle.kfs_judge.specs.Draft.Overlay.{with_header, with_target, with_parent}
+use Rattle.kfs_judge.specs.Draft.Overlay.{over, with_header, with_target, with_more_names, with_parent}
 use Rattle.kfs_judge.proofs.draft.draft.Draft.remove_name.Goals as goal
 
 pub returns-clause-shown : goal.returns-clause-shown
 returns-clause-shown g c s =
-    let counted = c.in_ok-shift_count.ensures.shown s in
+    let counted = c.in_ok-shift_count.ensures.shown s ∙ ap (λ d. with_more_names d (negsuc 0) (over c.args.self.now s)) c.dir.ensures in
     let unnamed = c.in_ok-set_target.ensures.shown s ∙ ap (with_target c.args.key.now.0 c.args.key.now.1 None) counted in
     let placed = c.in_ok-set_parent.ensures.shown s ∙ ap (with_parent c.args.number None) unnamed in
     c.in_ok-set_header.ensures.shown s ∙ ap (with_header c.args.number (option_map header_of c.args.header)) placed
