@@ -1,7 +1,8 @@
 """Frames and replies of docs/PROTOCOL.md, for hosts and tests in Python.
 
-`frame` makes the bytes of a frame, `replies` cuts replies out of a stream of bytes, and `Reply` says what one tells. A `Server` is a
-running program with its pipes: it sends frames and reads their replies.
+`frame` makes the bytes of a frame, and `node`, `state` and `checkpoint` the bodies of look-ups.
+`replies` cuts replies out of a stream of bytes, and `Reply` says what one tells. A `Server` is a running program with its pipes: it
+sends frames and reads their replies.
 """
 import collections
 import struct
@@ -9,11 +10,18 @@ import subprocess
 
 FRONT = 0xFFFFFFFF
 BODY_LIMIT = 16_777_216
-ANSWERED, REFUSED = 1, 2
+ANSWERED, REFUSED, FOUND = 1, 2, 3
 REFUSALS = {1: "TooLong", 2: "CutShort", 3: "BadField", 4: "Trailing", 5: "NotYours", 6: "memory", 7: "full"}
 
-# number: the frame's; answer: the bytes of an answer, or None; refusal: its name and index, or None
+NODE, STATE, CHECKPOINT = range(0x40, 0x43)
+
+# number: the frame's; answer: the bytes of an answer, what a look-up found, or None; refusal: its name and index, or None
 Reply = collections.namedtuple("Reply", "number answer refusal")
+# What look-ups find. `header` is None where there is no such node; a kind is 1 for a file and 2 for a directory.
+Header = collections.namedtuple("Header", "kind mode uid gid links size")
+NodeIs = collections.namedtuple("NodeIs", "header")
+StateIs = collections.namedtuple("StateIs", "moment rows free")
+Renewed = collections.namedtuple("Renewed", "")
 
 
 def frame(number, sender, body):
@@ -21,10 +29,46 @@ def frame(number, sender, body):
     return struct.pack(">III", len(body), number, sender) + body
 
 
+# ---- The bodies of look-ups
+
+def node(number):
+    return struct.pack(">BI", NODE, number)
+
+
+def state():
+    return bytes([STATE])
+
+
+def checkpoint():
+    return bytes([CHECKPOINT])
+
+
+# ---- Replies
+
+def header_in(data):
+    return None if data == b"\0" else Header(*struct.unpack(">BHIIHQ", data))
+
+
+def found_in(data):
+    """What a look-up found."""
+    tag, rest = data[0], data[1:]
+    match tag:
+        case 1:
+            return NodeIs(header_in(rest))
+        case 2:
+            moment, rows, *free = struct.unpack(">QIIII", rest)
+            return StateIs(moment, rows, tuple(free))
+        case 3 if not rest:
+            return Renewed()
+    raise ValueError(f"nothing that is found: {data.hex()}")
+
+
 def reply_of(number, body):
     """What the bytes of a reply say, its head aside."""
     if body[:1] == bytes([ANSWERED]):
         return Reply(number, body[1:], None)
+    if body[:1] == bytes([FOUND]):
+        return Reply(number, found_in(body[1:]), None)
     tag, code, index = struct.unpack(">BBI", body)
     if tag != REFUSED or code not in REFUSALS:
         raise ValueError(f"no reply: {body.hex()}")

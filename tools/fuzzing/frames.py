@@ -1,17 +1,21 @@
 """Frames with random calls, and the replies that are due to them (docs/PROTOCOL.md).
 
-A reply is a word or some: `NotYours`, `BadField(1)`, or the answer to a call as the line of `kfs run` has it, with its row.
+A reply is a word or some: `NotYours`, `BadField(1)`, what a look-up finds, or the answer to a call as the line of `kfs run` has it,
+with its row.
 """
 import random
+import struct
 
 from .calls import CallMaker, CallSession, Drop, Lease, LeaseAt, Migrate, Submit, decode_call, decoded
 from .codec import Refused
-from .desk import hex_of
+from .desk import U32, hex_of
 
 FRONT = 0xFFFFFFFF
 BODY_LIMIT = 16_777_216
 # How often a frame is forged before the right one, has a byte changed, is cut or lengthened, is none, or is too long.
 FORGED, CHANGED, LONG = 0.3, 0.5, 0.0005
+# How often a look-up stands before a call, and that of the front's own among them.
+LOOKED, OF_THE_FRONT = 0.6, 0.15
 ENTRY_REASONS = "NoSuchNode NotDirectory IsDirectory NoSuchName NameTaken NumberTaken NumberNotGranted NotEmpty BelowItself TooManyLinks TooBig NoSearch NoWrite NotOwner NoLease Sticky NotInGroup".split()
 LEASE_REASONS = "UnknownClient BadPath NoSuchName NotDirectory NoSearch Past LeaseHeld NoLeaseHeld Backwards NoSuchNode NotAllowed".split()
 MOVE_REASONS = "NotMapped OutOfRange NotFree Overlap TooManyMoves".split()
@@ -74,9 +78,29 @@ def frames_of(seed, numbers, calls):
             wrong = changed(chance, data)
             if not is_unknown(wrong):
                 yield chance.choice([owner_in(wrong), chance.choice(others)]), wrong
+        if chance.random() < LOOKED:
+            yield from look_ups(chance, numbers)
         if chance.random() < LONG:
             yield chance.choice(others), bytes(BODY_LIMIT + 1)
         yield owner_in(data), data
+
+
+# ---- Look-ups
+
+def look_up(chance):
+    """The bytes of a look-up."""
+    return struct.pack(">BI", 0x40, chance.choice([0, 1, 2, 3, 4, 5, 6, 7, 8, 9, 10, chance.randrange(64), U32]))
+
+
+def look_ups(chance, numbers):
+    """Senders and some look-ups of theirs, right ones and others."""
+    for _ in range(1 + chance.randrange(3)):
+        body = look_up(chance)
+        if chance.random() < OF_THE_FRONT:
+            body = bytes([chance.choice([0x41, 0x42])])
+        if chance.random() < CHANGED / 4:
+            body = changed(chance, body)
+        yield chance.choice([*numbers, *numbers, FRONT, 0]), body
 
 
 # ---- What is due
@@ -88,6 +112,9 @@ class FrameSession(CallSession):
         """Returns the reply that is due. `said` is the program's, for what is left open."""
         if len(body) > BODY_LIMIT:
             return "TooLong"
+        looked = self.looked_up(sender, body)
+        if looked is not None:
+            return looked
         try:
             call = decode_call(body)
         except Refused as refused:
@@ -95,6 +122,20 @@ class FrameSession(CallSession):
         if owner_of(call) != sender:
             return "NotYours"
         return self.expected(b"call " + hex_of(body).encode(), said and said.encode()).decode()
+
+    def looked_up(self, sender, body):
+        """Returns what is due to a look-up, None to a body that is none's."""
+        tag, fields = body[:1], body[1:]
+        if tag in (b"\x41", b"\x42") and not fields:
+            if sender != FRONT:
+                return "NotYours"
+            free = " ".join(str(self.free(tier)) for tier in range(3))
+            return f"state {self.leases.moment} {self.docket} {free}" if tag == b"\x41" else "renewed"
+        if tag == b"\x40" and len(fields) == 4:
+            header = self.tree.header(*struct.unpack(">I", fields))
+            # A kind is 1 or 2 there, as in a plan.
+            return f"node {None if header is None else (header.kind + 1, *header[1:])}"
+        return None
 
 
 # ---- What a reply says
@@ -161,9 +202,23 @@ def told_in(data):
     raise ValueError(f"no answer: {data.hex()}")
 
 
+def found_text(found):
+    """What a look-up found, in words."""
+    match type(found).__name__, *found:
+        case "NodeIs", header:
+            return f"node {None if header is None else tuple(header)}"
+        case "StateIs", moment, rows, free:
+            return f"state {moment} {rows} {' '.join(map(str, free))}"
+        case "Renewed", :
+            return "renewed"
+    raise ValueError(f"nothing that is found: {found}")
+
+
 def reply_text(reply):
     """A reply of hosts/python/frames.py in words."""
     if reply.refusal is not None:
         name, index = reply.refusal
         return f"{name}({index})" if name == "BadField" else name
+    if isinstance(reply.answer, tuple):
+        return found_text(reply.answer)
     return f"{int.from_bytes(reply.answer[:4], 'big')} {told_in(reply.answer[4:])}"

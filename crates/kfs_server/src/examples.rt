@@ -2,8 +2,9 @@
 ghost use Rattle.std.specs.Prelude.{◌≡◌};
 ghost use Rattle.kfs_call.specs.Examples.{lease_call};
 ghost use Rattle.kfs_server.specs.Asking.{Asks};
-ghost use Rattle.kfs_server.specs.Examples.{forged_reply, forged_reply_bytes, lease_frame, lease_frame_bytes, leased_reply, leased_reply_bytes};
+ghost use Rattle.kfs_server.specs.Examples.{forged_reply, forged_reply_bytes, lease_frame, lease_frame_bytes, leased_reply, leased_reply_bytes, node_frame, node_frame_bytes, node_reply, node_reply_bytes, state_frame, state_frame_bytes, state_reply, state_reply_bytes};
 ghost use Rattle.kfs_server.specs.Frames.Frame.{frame_bytes};
+ghost use Rattle.kfs_server.specs.LookUps.LookUp.{AsksLookUp, Node, State};
 ghost use Rattle.kfs_server.specs.Replies.Reply.{reply_bytes};
 
 /// Client 7 asks for a write lease on the root: 29 bytes.
@@ -18,4 +19,20 @@ pub fn frames()
 pub fn replies()
     ensures leased { reply_bytes 1 leased_reply ≡ leased_reply_bytes }
     ensures forged { reply_bytes 2 forged_reply ≡ forged_reply_bytes }
+{}
+
+/// Client 7 asks for node 1, and the front for the state: 17 and 13 bytes.
+#[tactic(auto, unfolding(kfs_model::specs::Spelling::number16, kfs_model::specs::Spelling::number32, kfs_model::specs::Spelling::number64))]
+pub fn look_ups()
+    ensures node { frame_bytes node_frame ≡ node_frame_bytes }
+    ensures node_asked { AsksLookUp node_frame (Node 1) }
+    ensures state { frame_bytes state_frame ≡ state_frame_bytes }
+    ensures state_asked { AsksLookUp state_frame State }
+{}
+
+/// Node 1 is a directory, and what the state is: 31 and 34 bytes.
+#[tactic(auto, unfolding(kfs_model::specs::Spelling::number16, kfs_model::specs::Spelling::number32, kfs_model::specs::Spelling::number64))]
+pub fn found()
+    ensures node { reply_bytes 3 node_reply ≡ node_reply_bytes }
+    ensures state { reply_bytes 4 state_reply ≡ state_reply_bytes }
 {}

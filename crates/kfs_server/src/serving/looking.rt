@@ -1,0 +1,159 @@
+//! Look-ups answered from the desk.
+ghost use Rattle.std.specs.Prelude.{◌≡◌, ◌↔◌, ℕ, ◌∷◌, [], IfOk, IfSome, IsErrOf, IsFalse, IsTrue, OnErr, OnOk};
+ghost use Rattle.kfs_journal.specs.Disk.{LeavesOnly};
+ghost use Rattle.kfs_journal.specs.Format.{meaning};
+ghost use Rattle.kfs_kept.specs.Keeping.{IsKept};
+ghost use Rattle.kfs_kept.specs.Standing.{StandFor};
+ghost use Rattle.kfs_program_text.specs.Streams.{IsWritten, Writes};
+ghost use Rattle.kfs_server.specs.Frames.Begun.{IsFrameOf};
+ghost use Rattle.kfs_server.specs.Frames.Frame.{Frame, front};
+ghost use Rattle.kfs_server.specs.LookUps.LookUp as asked;
+ghost use Rattle.kfs_server.specs.LookUps.LookUp.{AsksLookUp, MayAsk};
+ghost use Rattle.kfs_server.specs.LookUps.Views.{look_up_shown};
+ghost use Rattle.kfs_server.specs.Serving.Looking.{IsLookedUp, looked_up_bytes};
+ghost use Rattle.kfs_server.specs.Serving.Transcript.{IsServed};
+ghost use Rattle.kfs_server.specs.declared.serving.fault.GroupFault.TheVariants as groups;
+ghost use Rattle.kfs_server.specs.declared.serving.fault.ServeFault.TheVariants as faults;
+
+use crate::frames::{FRONT, Incoming};
+use crate::look_ups::{Found, LookUp, found_node, found_state, spell_found};
+use crate::replies::{NumberedReply, Refusal, Reply, spell_reply};
+use crate::serving::fault::{GroupFault, ServeFault};
+use kfs_desk::Desk;
+use kfs_journal::Disk;
+use kfs_kept::{Kept, SaveFault};
+use kfs_program_text::{OutputFault, flush, write_whole};
+use std::alloc::Allocator;
+use std::io::Write;
+
+/// Answers a frame that asks for a look-up. Condition: the desk is open.
+pub fn answer_look_up<A, B, C, D, O>(
+    alloc: B,
+    kept: &mut Kept<A, D>,
+    incoming: &Incoming<C>,
+    look_up: LookUp,
+    writer: &mut O,
+) -> Result<(), ServeFault>
+where
+    A: Allocator + Copy,
+    B: Allocator + Copy,
+    C: Allocator,
+    D: Disk + Drop,
+    O: Write,
+    requires kept { IsKept D.seen D.may_leave kept.old }
+    requires open { IsTrue kept.old.is_open }
+    requires asks { (f : Frame) → IsFrameOf incoming.now f → AsksLookUp f (look_up_shown look_up) }
+    ensures kept { IsKept D.seen D.may_leave kept.new }
+    ensures open { OnOk result (IsTrue kept.new.is_open) }
+    ensures failed { IsErrOf result (faults.Group groups.Failed) → IsTrue (D.has_failed kept.new.disk) }
+    ensures served { (f : Frame) → IsFrameOf incoming.now f → Writes (O.contents writer.old) (O.contents writer.new) (IsServed D.may_leave D.moment D.left_since result kept.old kept.new (f ∷ [])) }
+{
+    let found = look(alloc, kept, incoming.from, look_up)?;
+    say(incoming.number, &found, writer)?;
+    Ok(())
+}
+
+/// Writes what was found, or why nothing was looked up.
+fn say<O: Write>(
+    number: u32,
+    found: &Result<Found, Refusal>,
+    writer: &mut O,
+) -> Result<(), OutputFault>
+    ensures { Writes (O.contents writer.old) (O.contents writer.new) (IsWritten result (looked_up_bytes number found.now)) }
+{
+    match found {
+        Ok(found) => {
+            let bytes = spell_found(number, found);
+            write_out(bytes.as_slice(), writer)
+        }
+        Err(refusal) => {
+            let bytes = spell_reply(&NumberedReply {
+                number,
+                reply: Reply::Refused(*refusal),
+            });
+            write_out(bytes.as_slice(), writer)
+        }
+    }
+}
+
+/// Writes bytes, and hands them on.
+fn write_out<O: Write>(bytes: &[u8], writer: &mut O) -> Result<(), OutputFault>
+    ensures { Writes (O.contents writer.old) (O.contents writer.new) (IsWritten result bytes.now) }
+{
+    write_whole(writer, bytes)?;
+    flush(writer)?;
+    Ok(())
+}
+
+/// Looks up for whom it may be looked up. Condition: the desk is open. `Err` where the disk has failed.
+fn look<A: Allocator + Copy, B: Allocator + Copy, D: Disk + Drop>(
+    alloc: B,
+    kept: &mut Kept<A, D>,
+    from: u32,
+    look_up: LookUp,
+) -> Result<Result<Found, Refusal>, GroupFault>
+    requires kept { IsKept D.seen D.may_leave kept.old }
+    requires open { IsTrue kept.old.is_open }
+    ensures kept { IsKept D.seen D.may_leave kept.new }
+    ensures desk { kept.new.desk ≡ kept.old.desk }
+    ensures open { OnOk result (IsTrue kept.new.is_open) }
+    ensures failed { OnErr result (IsTrue (D.has_failed kept.new.disk)) }
+    ensures found { IfOk result (IsLookedUp kept.old.desk (look_up_shown look_up) from) }
+    ensures any_moment { LeavesOnly D.moment D.left_since kept.old.disk kept.new.disk (λ c. StandFor c kept.old.desk.state) }
+{
+    if !may_ask(look_up, from) {
+        return Ok(Err(Refusal::NotYours));
+    }
+    match look_up {
+        LookUp::Node { number } => Ok(Ok(found_node(open_desk(kept), number))),
+        LookUp::State => Ok(Ok(found_state(open_desk(kept)))),
+        LookUp::Checkpoint => begin_anew(alloc, kept),
+    }
+}
+
+/// Begins the journal anew. Where it isn't, all is as it was: memory was refused, or the state has too many rows or
+/// bytes for the file.
+fn begin_anew<A: Allocator + Copy, B: Allocator + Copy, D: Disk + Drop>(
+    alloc: B,
+    kept: &mut Kept<A, D>,
+) -> Result<Result<Found, Refusal>, GroupFault>
+    requires kept { IsKept D.seen D.may_leave kept.old }
+    requires open { IsTrue kept.old.is_open }
+    ensures kept { IsKept D.seen D.may_leave kept.new }
+    ensures desk { kept.new.desk ≡ kept.old.desk }
+    ensures open { OnOk result (IsTrue kept.new.is_open) }
+    ensures failed { OnErr result (IsTrue (D.has_failed kept.new.disk)) }
+    ensures found { IfOk result (λ found. (from : ℕ) → from ≡ front → IsLookedUp kept.old.desk asked.Checkpoint from found) }
+    // The journal has no group then.
+    ensures anew { IfOk result (λ found. OnOk found (IfSome (meaning (D.seen kept.new.disk)) (λ is. is.1 ≡ []))) }
+    ensures any_moment { LeavesOnly D.moment D.left_since kept.old.disk kept.new.disk (λ c. StandFor c kept.old.desk.state) }
+{
+    match kept.checkpoint(alloc) {
+        Ok(()) => Ok(Ok(Found::Renewed)),
+        Err(SaveFault::Failed) => Err(GroupFault::Failed),
+        Err(_) => Ok(Err(Refusal::OutOfMemory)),
+    }
+}
+
+/// The desk of now. Condition: it is open.
+fn open_desk<A: Allocator + Copy, D: Disk + Drop>(kept: &Kept<A, D>) -> &Desk<A>
+    requires kept { IsKept D.seen D.may_leave kept.now }
+    requires open { IsTrue kept.now.is_open }
+    ensures { result.now ≡ kept.now.desk }
+{
+    match kept.desk() {
+        Some(desk) => desk,
+        // The condition says that it is open.
+        None => unreachable!(),
+    }
+}
+
+/// Whether the look-up is the sender's to ask.
+fn may_ask(look_up: LookUp, from: u32) -> bool
+    ensures { IsTrue result ↔ MayAsk (look_up_shown look_up) from }
+{
+    match look_up {
+        LookUp::Node { .. } => true,
+        LookUp::State | LookUp::Checkpoint => from == FRONT,
+    }
+}
