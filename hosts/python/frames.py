@@ -1,6 +1,6 @@
 """Frames and replies of docs/PROTOCOL.md, for hosts and tests in Python.
 
-`frame` makes the bytes of a frame, and `node`, `state` and `checkpoint` the bodies of look-ups.
+`frame` makes the bytes of a frame, and `node`, `state`, `checkpoint`, `find`, `names`, `read` and `places` those of look-ups.
 `replies` cuts replies out of a stream of bytes, and `Reply` says what one tells. A `Server` is a running program with its pipes: it
 sends frames and reads their replies.
 """
@@ -13,15 +13,21 @@ BODY_LIMIT = 16_777_216
 ANSWERED, REFUSED, FOUND = 1, 2, 3
 REFUSALS = {1: "TooLong", 2: "CutShort", 3: "BadField", 4: "Trailing", 5: "NotYours", 6: "memory", 7: "full"}
 
-NODE, STATE, CHECKPOINT = range(0x40, 0x43)
+DENIALS = {1: "UnknownClient", 2: "NoSuchNode", 3: "NotDirectory", 4: "IsDirectory", 5: "NoSearch", 6: "NoRead"}
+NODE, STATE, CHECKPOINT, FIND, NAMES, READ, PLACES = range(0x40, 0x47)
 
 # number: the frame's; answer: the bytes of an answer, what a look-up found, or None; refusal: its name and index, or None
 Reply = collections.namedtuple("Reply", "number answer refusal")
-# What look-ups find. `header` is None where there is no such node; a kind is 1 for a file and 2 for a directory.
+# What look-ups find. `header` and `number` are None where there is none; a kind is 1 for a file and 2 for a directory.
 Header = collections.namedtuple("Header", "kind mode uid gid links size")
 NodeIs = collections.namedtuple("NodeIs", "header")
 StateIs = collections.namedtuple("StateIs", "moment rows free")
 Renewed = collections.namedtuple("Renewed", "")
+Denied = collections.namedtuple("Denied", "why")
+LeadsTo = collections.namedtuple("LeadsTo", "number")
+NamesAre = collections.namedtuple("NamesAre", "more names")
+BytesAre = collections.namedtuple("BytesAre", "data")
+PlacesAre = collections.namedtuple("PlacesAre", "tiers")
 
 
 def frame(number, sender, body):
@@ -43,10 +49,41 @@ def checkpoint():
     return bytes([CHECKPOINT])
 
 
+def find(directory, name):
+    return struct.pack(">BI", FIND, directory) + name
+
+
+def names(directory, limit, after=b""):
+    """Asks for the names behind `after`, in at most so many bytes."""
+    return struct.pack(">BII", NAMES, directory, limit) + after
+
+
+def read(number, start, count):
+    return struct.pack(">BIQI", READ, number, start, count)
+
+
+def places():
+    return bytes([PLACES])
+
+
 # ---- Replies
 
 def header_in(data):
     return None if data == b"\0" else Header(*struct.unpack(">BHIIHQ", data))
+
+
+def number_in(data):
+    return None if data == b"\0" else struct.unpack(">xI", data)[0]
+
+
+def names_in(data):
+    """Names with the numbers that they lead to."""
+    listed = []
+    while data:
+        number, length = struct.unpack(">IB", data[:5])
+        listed.append((data[5 : 5 + length], number))
+        data = data[5 + length :]
+    return listed
 
 
 def found_in(data):
@@ -60,6 +97,16 @@ def found_in(data):
             return StateIs(moment, rows, tuple(free))
         case 3 if not rest:
             return Renewed()
+        case 4:
+            return Denied(DENIALS[rest[0]])
+        case 5:
+            return LeadsTo(number_in(rest))
+        case 6:
+            return NamesAre(bool(rest[0]), names_in(rest[1:]))
+        case 7:
+            return BytesAre(rest)
+        case 8:
+            return PlacesAre(tuple(struct.iter_unpack(">II", rest)))
     raise ValueError(f"nothing that is found: {data.hex()}")
 
 

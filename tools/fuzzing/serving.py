@@ -30,9 +30,9 @@ def run_once(program, room, first, limit, data):
 
 
 def kind_of(due):
-    """In which way a frame is answered."""
+    """In which way a frame is answered: of a denial with its reason."""
     words = due.split("(")[0].split(" ")
-    return words[1] if due[0].isdigit() else words[0]
+    return words[1] if due[0].isdigit() else " ".join(words[:2]) if words[0] == "denied" else words[0]
 
 
 def one_seed(program, seed, lines):

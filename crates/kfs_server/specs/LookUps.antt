@@ -1,3 +1,4 @@
 pub mod LookUp
+pub mod Reading
 pub mod Found
 pub mod Views

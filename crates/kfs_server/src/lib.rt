@@ -15,6 +15,9 @@ mod replies;
 mod serving;
 
 pub use frames::{BODY_LIMIT, BodyFault, FRONT, FrameReader, Incoming};
-pub use look_ups::{FOUND_LIMIT, Figures, Found, LookUp, look_up_of, spell_found};
+pub use look_ups::{
+    FOUND_HEAD_LIMIT, FOUND_LIMIT, Figures, Found, LookUp, TierFigures, found_tail, look_up_of,
+    spell_found_head,
+};
 pub use replies::{NumberedReply, REPLY_LIMIT, Refusal, Reply, spell_reply, write_replies};
 pub use serving::{GroupFault, RunFault, ServeFault, exit_status, run_new, run_opened, serve};

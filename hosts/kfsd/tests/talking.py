@@ -51,6 +51,10 @@ def look_ups_are_answered(made):
         made_file = frames.NodeIs(frames.Header(kind=1, mode=0o644, uid=1000, gid=1000, links=1, size=0))
         found = [replies[at].answer for at in (1, 3, 4, 6)]
         assert found == [frames.NodeIs(None), made_file, root, made_file], replies
+        assert seven.ask(4, frames.find(1, b"file0")).answer == frames.LeadsTo(2)
+        assert seven.ask(5, frames.names(1, 1000)).answer == frames.NamesAre(False, [(b"file0", 2)])
+        assert seven.ask(6, frames.read(2, 0, 1 << 20)).answer == frames.BytesAre(b"")
+        assert seven.ask(7, frames.read(1, 0, 1)).answer == frames.Denied("IsDirectory")
         # 1: Yes. 2: No, since the name is taken
         assert [replies[2].answer[4], replies[5].answer[4]] == [1, 2], replies
         assert daemon.stop()[0] == 0

@@ -27,7 +27,7 @@ pub record IsFoundFor (desk : Desk) (f : Frame) (found : finding.Found) : Type 0
   pub look_up : LookUp
   pub asks : AsksLookUp f look_up
   pub yours : MayAsk look_up f.from
-  pub is : IsFound desk look_up found
+  pub is : IsFound desk f.from look_up found
 
 -- the frame is refused for a reason that is right: it is bad, the docket is full, or its look-up isn't its sender's
 abbrev pub IsRefusedFor : Desk → Frame → Refusal → Type 0

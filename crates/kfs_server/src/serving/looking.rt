@@ -9,14 +9,19 @@ ghost use Rattle.kfs_server.specs.Frames.Begun.{IsFrameOf};
 ghost use Rattle.kfs_server.specs.Frames.Frame.{Frame, front};
 ghost use Rattle.kfs_server.specs.LookUps.LookUp as asked;
 ghost use Rattle.kfs_server.specs.LookUps.LookUp.{AsksLookUp, MayAsk};
-ghost use Rattle.kfs_server.specs.LookUps.Views.{look_up_shown};
-ghost use Rattle.kfs_server.specs.Serving.Looking.{IsLookedUp, looked_up_bytes};
+ghost use Rattle.kfs_server.specs.LookUps.Views.{IsWithin, found_shown, look_up_shown};
+ghost use Rattle.kfs_server.specs.Replies.Reply as spelled;
+ghost use Rattle.kfs_server.specs.Replies.Reply.{reply_bytes};
+ghost use Rattle.kfs_server.specs.Serving.Looking.{IsLookedUp, IsSought, looked_up_bytes};
 ghost use Rattle.kfs_server.specs.Serving.Transcript.{IsServed};
 ghost use Rattle.kfs_server.specs.declared.serving.fault.GroupFault.TheVariants as groups;
 ghost use Rattle.kfs_server.specs.declared.serving.fault.ServeFault.TheVariants as faults;
 
 use crate::frames::{FRONT, Incoming};
-use crate::look_ups::{Found, LookUp, found_node, found_state, spell_found};
+use crate::look_ups::{
+    Found, LookUp, figures_now, found_bytes, found_names, found_number, found_tail,
+    spell_found_head, tier_now,
+};
 use crate::replies::{NumberedReply, Refusal, Reply, spell_reply};
 use crate::serving::fault::{GroupFault, ServeFault};
 use kfs_desk::Desk;
@@ -31,7 +36,7 @@ pub fn answer_look_up<A, B, C, D, O>(
     alloc: B,
     kept: &mut Kept<A, D>,
     incoming: &Incoming<C>,
-    look_up: LookUp,
+    look_up: &LookUp,
     writer: &mut O,
 ) -> Result<(), ServeFault>
 where
@@ -42,7 +47,7 @@ where
     O: Write,
     requires kept { IsKept D.seen D.may_leave kept.old }
     requires open { IsTrue kept.old.is_open }
-    requires asks { (f : Frame) → IsFrameOf incoming.now f → AsksLookUp f (look_up_shown look_up) }
+    requires asks { (f : Frame) → IsFrameOf incoming.now f → AsksLookUp f (look_up_shown look_up.now) }
     ensures kept { IsKept D.seen D.may_leave kept.new }
     ensures open { OnOk result (IsTrue kept.new.is_open) }
     ensures failed { IsErrOf result (faults.Group groups.Failed) → IsTrue (D.has_failed kept.new.disk) }
@@ -53,19 +58,18 @@ where
     Ok(())
 }
 
-/// Writes what was found, or why nothing was looked up.
-fn say<O: Write>(
+/// Writes what was found, or why nothing was looked up. Condition: what was found has at most 65,536 bytes behind its
+/// fixed part.
+fn say<B: Allocator, O: Write>(
     number: u32,
-    found: &Result<Found, Refusal>,
+    found: &Result<Found<B>, Refusal>,
     writer: &mut O,
 ) -> Result<(), OutputFault>
+    requires { IfOk found.now IsWithin }
     ensures { Writes (O.contents writer.old) (O.contents writer.new) (IsWritten result (looked_up_bytes number found.now)) }
 {
     match found {
-        Ok(found) => {
-            let bytes = spell_found(number, found);
-            write_out(bytes.as_slice(), writer)
-        }
+        Ok(found) => say_found(number, found, writer),
         Err(refusal) => {
             let bytes = spell_reply(&NumberedReply {
                 number,
@@ -74,6 +78,20 @@ fn say<O: Write>(
             write_out(bytes.as_slice(), writer)
         }
     }
+}
+
+/// Writes what was found. Condition as for `say`.
+fn say_found<B: Allocator, O: Write>(
+    number: u32,
+    found: &Found<B>,
+    writer: &mut O,
+) -> Result<(), OutputFault>
+    requires { IsWithin found.now }
+    ensures { Writes (O.contents writer.old) (O.contents writer.new) (IsWritten result (reply_bytes number (spelled.Found (found_shown found.now)))) }
+{
+    let head = spell_found_head(number, found);
+    write_whole(writer, head.as_slice())?;
+    write_out(found_tail(found), writer)
 }
 
 /// Writes bytes, and hands them on.
@@ -90,24 +108,53 @@ fn look<A: Allocator + Copy, B: Allocator + Copy, D: Disk + Drop>(
     alloc: B,
     kept: &mut Kept<A, D>,
     from: u32,
-    look_up: LookUp,
-) -> Result<Result<Found, Refusal>, GroupFault>
+    look_up: &LookUp,
+) -> Result<Result<Found<B>, Refusal>, GroupFault>
     requires kept { IsKept D.seen D.may_leave kept.old }
     requires open { IsTrue kept.old.is_open }
     ensures kept { IsKept D.seen D.may_leave kept.new }
     ensures desk { kept.new.desk ≡ kept.old.desk }
     ensures open { OnOk result (IsTrue kept.new.is_open) }
     ensures failed { OnErr result (IsTrue (D.has_failed kept.new.disk)) }
-    ensures found { IfOk result (IsLookedUp kept.old.desk (look_up_shown look_up) from) }
+    ensures found { IfOk result (IsLookedUp kept.old.desk from (look_up_shown look_up.now)) }
     ensures any_moment { LeavesOnly D.moment D.left_since kept.old.disk kept.new.disk (λ c. StandFor c kept.old.desk.state) }
 {
     if !may_ask(look_up, from) {
         return Ok(Err(Refusal::NotYours));
     }
     match look_up {
-        LookUp::Node { number } => Ok(Ok(found_node(open_desk(kept), number))),
-        LookUp::State => Ok(Ok(found_state(open_desk(kept)))),
         LookUp::Checkpoint => begin_anew(alloc, kept),
+        _ => Ok(look_at(alloc, open_desk(kept), from, look_up)),
+    }
+}
+
+/// Looks up at a desk. A checkpoint is none of it.
+fn look_at<A: Allocator + Copy, B: Allocator + Copy>(
+    alloc: B,
+    desk: &Desk<A>,
+    from: u32,
+    look_up: &LookUp,
+) -> Result<Found<B>, Refusal>
+    ensures { IsSought desk.now from (look_up_shown look_up.now) result }
+{
+    match look_up {
+        LookUp::Node { number } => Ok(Found::NodeIs(desk.header(*number))),
+        LookUp::State => Ok(Found::StateIs(figures_now(desk))),
+        LookUp::Checkpoint => Ok(Found::Renewed),
+        LookUp::Find { directory, name } => found_number(desk, from, *directory, name),
+        LookUp::Names {
+            directory,
+            limit,
+            after,
+        } => found_names(alloc, desk, from, *directory, *limit, after),
+        LookUp::Read { file, start, count } => found_bytes(
+            alloc, desk, from, *file, *start, *count,
+        ),
+        LookUp::Places => Ok(Found::PlacesAre(
+            tier_now(desk, 0),
+            tier_now(desk, 1),
+            tier_now(desk, 2),
+        )),
     }
 }
 
@@ -116,14 +163,14 @@ fn look<A: Allocator + Copy, B: Allocator + Copy, D: Disk + Drop>(
 fn begin_anew<A: Allocator + Copy, B: Allocator + Copy, D: Disk + Drop>(
     alloc: B,
     kept: &mut Kept<A, D>,
-) -> Result<Result<Found, Refusal>, GroupFault>
+) -> Result<Result<Found<B>, Refusal>, GroupFault>
     requires kept { IsKept D.seen D.may_leave kept.old }
     requires open { IsTrue kept.old.is_open }
     ensures kept { IsKept D.seen D.may_leave kept.new }
     ensures desk { kept.new.desk ≡ kept.old.desk }
     ensures open { OnOk result (IsTrue kept.new.is_open) }
     ensures failed { OnErr result (IsTrue (D.has_failed kept.new.disk)) }
-    ensures found { IfOk result (λ found. (from : ℕ) → from ≡ front → IsLookedUp kept.old.desk asked.Checkpoint from found) }
+    ensures found { IfOk result (λ found. (from : ℕ) → IsSought kept.old.desk from asked.Checkpoint found) }
     // The journal has no group then.
     ensures anew { IfOk result (λ found. OnOk found (IfSome (meaning (D.seen kept.new.disk)) (λ is. is.1 ≡ []))) }
     ensures any_moment { LeavesOnly D.moment D.left_since kept.old.disk kept.new.disk (λ c. StandFor c kept.old.desk.state) }
@@ -149,11 +196,11 @@ fn open_desk<A: Allocator + Copy, D: Disk + Drop>(kept: &Kept<A, D>) -> &Desk<A>
 }
 
 /// Whether the look-up is the sender's to ask.
-fn may_ask(look_up: LookUp, from: u32) -> bool
-    ensures { IsTrue result ↔ MayAsk (look_up_shown look_up) from }
+fn may_ask(look_up: &LookUp, from: u32) -> bool
+    ensures { IsTrue result ↔ MayAsk (look_up_shown look_up.now) from }
 {
     match look_up {
-        LookUp::Node { .. } => true,
         LookUp::State | LookUp::Checkpoint => from == FRONT,
+        _ => true,
     }
 }

@@ -85,7 +85,7 @@ where
     match frames.split_first() {
         Some((first, others)) => match look_up_in(first) {
             Some(look_up) => {
-                answer_look_up(alloc, kept, first, look_up, writer)?;
+                answer_look_up(alloc, kept, first, &look_up, writer)?;
                 Ok(others)
             }
             None => answer_run(alloc, kept, frames, 1 + calls_before(others), said, writer),
