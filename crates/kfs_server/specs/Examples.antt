@@ -1,9 +1,9 @@
 -- Worked frames and replies, byte by byte, as docs/PROTOCOL.md has them.
-use Rattle.std.specs.Prelude.{ℕ, List, [], ◌∷◌, ◌++◌, Some}
+use Rattle.std.specs.Prelude.{ℕ, false, List, [], ◌∷◌, ◌++◌, Some}
 use Rattle.kfs_call.specs.Examples.{lease_call_bytes, leased_answer}
 use Rattle.kfs_model.specs.Header.{Header, Directory}
 use Rattle.kfs_server.specs.Frames.Frame.{Frame}
-use Rattle.kfs_server.specs.LookUps.Found.{NodeIs, StateIs}
+use Rattle.kfs_server.specs.LookUps.Found.{NamesAre, NodeIs, StateIs, listing_bytes}
 use Rattle.kfs_server.specs.Replies.Reply.{Reply, Answered, Refused, Found, NotYours}
 
 -- frame 1: client 7 asks for a write lease on the root
@@ -64,3 +64,19 @@ abbrev pub state_reply_bytes : List ℕ
 state_reply_bytes =
     (0 ∷ 0 ∷ 0 ∷ 26 ∷ 0 ∷ 0 ∷ 0 ∷ 4 ∷ 3 ∷ 2 ∷ 0 ∷ 0 ∷ 0 ∷ 0 ∷ 0 ∷ 0 ∷ 0 ∷ 0 ∷ 0 ∷ 0 ∷ 0 ∷ 1 ∷ [])
     ++ (0 ∷ 0 ∷ 0 ∷ 4 ∷ 0 ∷ 0 ∷ 0 ∷ 5 ∷ 0 ∷ 0 ∷ 0 ∷ 6 ∷ [])
+
+-- frame 5: client 7 asks for the names of node 1, in 260 bytes
+abbrev pub names_frame : Frame
+names_frame = record { number = 5; from = 7; body = 68 ∷ 0 ∷ 0 ∷ 0 ∷ 1 ∷ 0 ∷ 0 ∷ 1 ∷ 4 ∷ [] }
+
+abbrev pub names_frame_bytes : List ℕ
+names_frame_bytes = 0 ∷ 0 ∷ 0 ∷ 9 ∷ 0 ∷ 0 ∷ 0 ∷ 5 ∷ 0 ∷ 0 ∷ 0 ∷ 7 ∷ 68 ∷ 0 ∷ 0 ∷ 0 ∷ 1 ∷ 0 ∷ 0 ∷ 1 ∷ 4 ∷ []
+
+-- a leads to 3 and b to 5, and there are no more
+abbrev pub names_reply : Reply
+names_reply = Found (NamesAre false (listing_bytes ((97 ∷ [], 3) ∷ (98 ∷ [], 5) ∷ [])))
+
+abbrev pub names_reply_bytes : List ℕ
+names_reply_bytes =
+    (0 ∷ 0 ∷ 0 ∷ 15 ∷ 0 ∷ 0 ∷ 0 ∷ 5 ∷ 3 ∷ 6 ∷ 0 ∷ [])
+    ++ (0 ∷ 0 ∷ 0 ∷ 3 ∷ 1 ∷ 97 ∷ 0 ∷ 0 ∷ 0 ∷ 5 ∷ 1 ∷ 98 ∷ [])

@@ -1,11 +1,11 @@
 -- Bytes of a desk's file, and names of its directory, from its image.
-use Rattle.std.proofs.Common.{◌≡◌, ℕ, zero, suc, Bool, true, false, List, [], ◌++◌, length, take, drop, Option, Some, None, option_map, refl, sym, ap, subst, ◌∙◌}
+use Rattle.std.proofs.Common.{◌≡◌, ℕ, zero, suc, List, [], length, take, drop, Option, Some, None, option_map, refl, sym, ap, ◌∙◌}
 use Rattle.std.specs.Prelude.{IsTrue}
 use Rattle.std.proofs.Math.Seq.{take-append_seam}
 use Rattle.kfs_model.specs.Header.{Kind, Header, File, Directory}
 use Rattle.kfs_model.specs.Sight.{is_directory}
 use Rattle.kfs_model.specs.Table.{get}
-use Rattle.kfs_model.specs.Tree.{NameTable, content_of, node_over, body_over}
+use Rattle.kfs_model.specs.Tree.{content_of, node_over}
 use Rattle.kfs_model.specs.Device.ShownTree.{DeviceImage, file_bytes, shown_tree}
 use Rattle.kfs_model.proofs.TableLaws.{get-mapped}
 use Rattle.kfs_image.specs.Read.{FileIsRead, bytes_from}

@@ -1,8 +1,8 @@
 -- Names of a directory, listed one behind another.
-use Rattle.std.proofs.Common.{◌≡◌, ℕ, ◌+◌, ◌-◌, ◌≤◌, ◌<◌, Bool, true, false, List, [], ◌∷◌, ◌++◌, length, length-append, Option, Some, None, refl, sym, ap, subst, ◌∙◌, append_assoc, append-nil, arith}
+use Rattle.std.proofs.Common.{◌≡◌, ℕ, ◌+◌, ◌-◌, ◌≤◌, ◌<◌, Bool, true, false, List, [], ◌∷◌, ◌++◌, length, length-append, Option, Some, refl, sym, ap, subst, ◌∙◌, append_assoc, append-nil, arith}
 use Rattle.kfs_model.specs.Tree.{NameTable}
 use Rattle.kfs_model.specs.Spelling.{byte, number32}
-use Rattle.kfs_server.specs.LookUps.Found.{HasNoName, IsListedIn, IsListing, IsNextLonger, IsNextName, listed_bytes, listing_bytes}
+use Rattle.kfs_server.specs.LookUps.Found.{HasNoName, IsListedIn, IsListing, IsNextName, listed_bytes, listing_bytes}
 
 listed_len : (name : List ℕ) (number : ℕ) → length (listed_bytes name number) ≡ 5 + length name
 unfolding number32

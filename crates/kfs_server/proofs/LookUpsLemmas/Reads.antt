@@ -1,10 +1,10 @@
 -- A look-up is read exactly where it stands.
-use Rattle.std.proofs.Common.{◌≡◌, ◌≢◌, ℕ, ◌+◌, ◌^◌, ◌<◌, Bool, true, false, cond, eqb, List, [], ◌∷◌, ◌++◌, length, Option, Some, None, refl, sym, ap, subst, ◌∙◌, append_assoc, append-nil, inl, inr, option_map, arith}
+use Rattle.std.proofs.Common.{◌≡◌, ℕ, ◌<◌, List, [], ◌∷◌, ◌++◌, length, Option, Some, None, refl, sym, ap, subst, ◌∙◌, append_assoc, append-nil, inl, inr, option_map, arith}
 use Rattle.std.specs.Prelude.{IfSome, IsNone}
 use Rattle.kfs_model.specs.Steps.{◌>>=◌}
-use Rattle.kfs_model.specs.Spelling.{IsBytes, IsName, byte, is_name, number32, number64}
-use Rattle.kfs_model.proofs.Reading.{◌&◌, byte_read, number32_read, number64_read}
-use Rattle.kfs_model.proofs.Fields.{Stands, both, byte_is, byte_field, number32_field, number64_field, some_from, some_if, some_is}
+use Rattle.kfs_model.specs.Spelling.{IsBytes, IsName, is_name, number32, number64}
+use Rattle.kfs_model.proofs.Reading.{byte_read, number32_read, number64_read}
+use Rattle.kfs_model.proofs.Fields.{byte_is, byte_field, number32_field, number64_field, some_from, some_if, some_is}
 use Rattle.kfs_model.proofs.NameTest.{is_name_true, is_name_sound}
 use Rattle.kfs_server.specs.LookUps.LookUp.{LookUp, Node, State, Checkpoint, Find, Names, Read, Places, IsAfterName, IsLookUp, IsNoLookUp, after_bytes, look_up_bytes}
 use Rattle.kfs_server.specs.LookUps.Reading.{after_read, ended, find_read, look_up_read, name_of, names_read, node_read, read_read, tagged_read}

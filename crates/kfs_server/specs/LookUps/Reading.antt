@@ -2,7 +2,7 @@
 use Rattle.std.specs.Prelude.{ℕ, List, [], ◌∷◌, Option, Some, None, ◌==◌, if◌then◌else◌}
 use Rattle.kfs_model.specs.Steps.{◌>>=◌}
 use Rattle.kfs_model.specs.Spelling.{is_name}
-use Rattle.kfs_model.proofs.Reading.{◌&◌, byte_read, number32_read, number64_read}
+use Rattle.kfs_model.proofs.Reading.{byte_read, number32_read, number64_read}
 use Rattle.kfs_server.specs.LookUps.LookUp.{LookUp, Node, State, Checkpoint, Find, Names, Read, Places}
 
 -- the look-up, where nothing stands behind it

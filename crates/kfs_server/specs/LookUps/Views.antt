@@ -1,5 +1,5 @@
 -- The code's look-ups and what they find, as the definitions have them.
-use Rattle.std.specs.Prelude.{option_map, List, [], ℕ, ◌+◌, ◌≤◌, length}
+use Rattle.std.specs.Prelude.{option_map, List, [], ℕ, ◌≤◌, length}
 use Rattle.kfs_types.specs.Views.{header_of}
 use Rattle.kfs_server.specs.LookUps.LookUp as spelled
 use Rattle.kfs_server.specs.LookUps.Found as finding
