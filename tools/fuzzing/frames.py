@@ -1,17 +1,23 @@
 """Frames with random calls, and the replies that are due to them (docs/PROTOCOL.md).
 
-A reply is a word or some: `NotYours`, `BadField(1)`, or the answer to a call as the line of `kfs run` has it, with its row.
+A reply is a word or some: `NotYours`, `BadField(1)`, what a look-up finds, or the answer to a call as the line of `kfs run` has it,
+with its row.
 """
 import random
+import struct
 
 from .calls import CallMaker, CallSession, Drop, Lease, LeaseAt, Migrate, Submit, decode_call, decoded
-from .codec import Refused
-from .desk import hex_of
+from .codec import DIRECTORY, FILE, Refused
+from .desk import U32, U64, hex_of
 
 FRONT = 0xFFFFFFFF
 BODY_LIMIT = 16_777_216
 # How often a frame is forged before the right one, has a byte changed, is cut or lengthened, is none, or is too long.
 FORGED, CHANGED, LONG = 0.3, 0.5, 0.0005
+# How often a look-up stands before a call, and that of the front's own among them.
+LOOKED, OF_THE_FRONT = 0.6, 0.15
+# The most bytes of a file, or of names, that a look-up is answered.
+FOUND_LIMIT = 65_536
 ENTRY_REASONS = "NoSuchNode NotDirectory IsDirectory NoSuchName NameTaken NumberTaken NumberNotGranted NotEmpty BelowItself TooManyLinks TooBig NoSearch NoWrite NotOwner NoLease Sticky NotInGroup".split()
 LEASE_REASONS = "UnknownClient BadPath NoSuchName NotDirectory NoSearch Past LeaseHeld NoLeaseHeld Backwards NoSuchNode NotAllowed".split()
 MOVE_REASONS = "NotMapped OutOfRange NotFree Overlap TooManyMoves".split()
@@ -74,9 +80,51 @@ def frames_of(seed, numbers, calls):
             wrong = changed(chance, data)
             if not is_unknown(wrong):
                 yield chance.choice([owner_in(wrong), chance.choice(others)]), wrong
+        if chance.random() < LOOKED:
+            yield from look_ups(chance, numbers)
         if chance.random() < LONG:
             yield chance.choice(others), bytes(BODY_LIMIT + 1)
         yield owner_in(data), data
+
+
+# ---- Look-ups
+
+def name_of(chance):
+    """A name as calls have them, or bytes that are none."""
+    return chance.choice([b"a", b"b", b"f", b"d", b"x", b"", b".", b"a/b", b"a\0", chance.randbytes(1 + chance.randrange(3)), bytes([97]) * 256])
+
+
+def look_up(chance):
+    """The bytes of a look-up."""
+    number = chance.choice([0, 1, 2, 3, 4, 5, 6, 7, 8, 9, 10, chance.randrange(64), U32])
+    limit = chance.choice([0, 6, 7, 12, 40, 260, FOUND_LIMIT + 1, U32])
+    start = chance.choice([0, 1, 4_095, 4_096, chance.randrange(10_000), U64])
+    match chance.randrange(6):
+        case 0:
+            return struct.pack(">BI", 0x40, number)
+        case 1:
+            return struct.pack(">BI", 0x43, number) + name_of(chance)
+        case 2:
+            return struct.pack(">BII", 0x44, number, limit) + name_of(chance)
+        case 3 | 4:
+            return struct.pack(">BIQI", 0x45, number, start, limit)
+        case _:
+            return bytes([0x46])
+
+
+def look_ups(chance, numbers):
+    """Senders and some look-ups of theirs, right ones and others."""
+    for _ in range(1 + chance.randrange(3)):
+        body = look_up(chance)
+        if chance.random() < OF_THE_FRONT:
+            body = bytes([chance.choice([0x41, 0x42])])
+        if chance.random() < CHANGED / 4:
+            body = changed(chance, body)
+        yield chance.choice([*numbers, *numbers, FRONT, 0]), body
+
+
+def is_name(data):
+    return 0 < len(data) < 256 and not {0, 47} & {*data} and data not in (b".", b"..")
 
 
 # ---- What is due
@@ -88,6 +136,9 @@ class FrameSession(CallSession):
         """Returns the reply that is due. `said` is the program's, for what is left open."""
         if len(body) > BODY_LIMIT:
             return "TooLong"
+        looked = self.looked_up(sender, body)
+        if looked is not None:
+            return looked
         try:
             call = decode_call(body)
         except Refused as refused:
@@ -95,6 +146,65 @@ class FrameSession(CallSession):
         if owner_of(call) != sender:
             return "NotYours"
         return self.expected(b"call " + hex_of(body).encode(), said and said.encode()).decode()
+
+    def looked_up(self, sender, body):
+        """Returns what is due to a look-up, None to a body that is none's."""
+        tag, fields = body[:1], body[1:]
+        if tag in (b"\x41", b"\x42") and not fields:
+            if sender != FRONT:
+                return "NotYours"
+            free = " ".join(str(self.free(tier)) for tier in range(3))
+            return f"state {self.leases.moment} {self.docket} {free}" if tag == b"\x41" else "renewed"
+        if tag == b"\x40" and len(fields) == 4:
+            header = self.tree.header(*struct.unpack(">I", fields))
+            # A kind is 1 or 2 there, as in a plan.
+            return f"node {None if header is None else (header.kind + 1, *header[1:])}"
+        if tag == b"\x43" and is_name(fields[4:]):
+            return self.found(sender, *struct.unpack(">I", fields[:4]), fields[4:])
+        if tag == b"\x44" and len(fields) >= 8 and (len(fields) == 8 or is_name(fields[8:])):
+            return self.named(sender, *struct.unpack(">II", fields[:8]), fields[8:])
+        if tag == b"\x45" and len(fields) == 16:
+            return self.bytes_read(sender, *struct.unpack(">IQI", fields))
+        if tag == b"\x46" and not fields:
+            return "places " + " ".join(f"{self.sizes[tier]}:{self.free(tier)}" for tier in range(3))
+        return None
+
+    def denied(self, sender, number, kind, bit):
+        """Why the client may not, if it may not: 4 is to read, 1 to search."""
+        client, node = self.clients.get(sender), self.tree.nodes.get(number)
+        if client is None:
+            return "denied UnknownClient"
+        if node is None:
+            return "denied NoSuchNode"
+        if node.kind != kind:
+            return "denied IsDirectory" if kind == FILE else "denied NotDirectory"
+        if not client.may(node, bit):
+            return "denied NoSearch" if bit == 1 else "denied NoRead"
+        return None
+
+    def found(self, sender, directory, name):
+        return self.denied(sender, directory, DIRECTORY, 1) or f"leads {self.tree.names.get((directory, name))}"
+
+    def named(self, sender, directory, limit, after):
+        denied = self.denied(sender, directory, DIRECTORY, 4)
+        if denied:
+            return denied
+        left, listed = min(limit, FOUND_LIMIT), []
+        for name, number in self.tree.listed(directory):
+            if name <= after:
+                continue
+            left -= 5 + len(name)
+            if left < 0:
+                return f"names True {listed}"
+            listed.append((name, number))
+        return f"names False {listed}"
+
+    def bytes_read(self, sender, number, start, count):
+        denied = self.denied(sender, number, FILE, 4)
+        if denied:
+            return denied
+        end = min(start + min(count, FOUND_LIMIT), self.tree.nodes[number].size)
+        return f"bytes {hex_of(self.contents[number].read(start, end))}"
 
 
 # ---- What a reply says
@@ -161,9 +271,33 @@ def told_in(data):
     raise ValueError(f"no answer: {data.hex()}")
 
 
+def found_text(found):
+    """What a look-up found, in words."""
+    match type(found).__name__, *found:
+        case "NodeIs", header:
+            return f"node {None if header is None else tuple(header)}"
+        case "StateIs", moment, rows, free:
+            return f"state {moment} {rows} {' '.join(map(str, free))}"
+        case "Renewed", :
+            return "renewed"
+        case "Denied", why:
+            return f"denied {why}"
+        case "LeadsTo", number:
+            return f"leads {number}"
+        case "NamesAre", more, listed:
+            return f"names {more} {listed}"
+        case "BytesAre", data:
+            return f"bytes {hex_of(data)}"
+        case "PlacesAre", tiers:
+            return "places " + " ".join(f"{size}:{free}" for size, free in tiers)
+    raise ValueError(f"nothing that is found: {found}")
+
+
 def reply_text(reply):
     """A reply of hosts/python/frames.py in words."""
     if reply.refusal is not None:
         name, index = reply.refusal
         return f"{name}({index})" if name == "BadField" else name
+    if isinstance(reply.answer, tuple):
+        return found_text(reply.answer)
     return f"{int.from_bytes(reply.answer[:4], 'big')} {told_in(reply.answer[4:])}"

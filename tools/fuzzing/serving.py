@@ -29,6 +29,12 @@ def run_once(program, room, first, limit, data):
     return ran.returncode, found
 
 
+def kind_of(due):
+    """In which way a frame is answered: of a denial with its reason."""
+    words = due.split("(")[0].split(" ")
+    return words[1] if due[0].isdigit() else " ".join(words[:2]) if words[0] == "denied" else words[0]
+
+
 def one_seed(program, seed, lines):
     """Returns how many frames a seed has, in which ways they are answered, and the first that is answered otherwise."""
     first, limit, calls = opening_and_calls(seed, lines)
@@ -46,7 +52,7 @@ def one_seed(program, seed, lines):
     for at, ((sender, body), reply) in enumerate(zip(frames, found)):
         said = reply_text(reply)
         due = session.due(sender, body, said)
-        kinds[due.split("(")[0] if not due[0].isdigit() else due.split(" ")[1]] += 1
+        kinds[kind_of(due)] += 1
         if (reply.number, said) != (at, due):
             return at, kinds, f"frame {at} of client {sender}, {body[:60].hex()}: {said}, and not {due}"
     if found[-1].number != CUT or reply_text(found[-1]) != "CutShort":

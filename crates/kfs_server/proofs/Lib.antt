@@ -1,2 +1,3 @@
 pub mod FramesLemmas
+pub mod LookUpsLemmas
 pub mod ServingLemmas

@@ -1,4 +1,5 @@
 pub mod Frames
+pub mod LookUps
 pub mod Replies
 pub mod Asking
 pub mod Examples

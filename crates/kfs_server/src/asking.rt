@@ -1,10 +1,11 @@
 //! What a frame asks for, decided before any call is made.
 ghost use Rattle.std.specs.Prelude.{◌≡◌, ◌≤◌, IfOk, length};
-ghost use Rattle.std.specs.List.{AllZip};
+ghost use Rattle.std.specs.List.{AllByRecursion, AllZip};
 ghost use Rattle.kfs_call.specs.Views.{call_shown};
 ghost use Rattle.kfs_server.specs.Frames.Begun.{IsFrameOf, body_limit};
 ghost use Rattle.kfs_server.specs.Frames.Frame.{Frame};
-ghost use Rattle.kfs_server.specs.Asking.{IsDecided, IsDecidedFor, owner};
+ghost use Rattle.kfs_server.specs.Asking.{HasNoLookUp, IsDecided, IsDecidedFor, owner};
+ghost use Rattle.kfs_server.specs.LookUps.LookUp.{IsNoLookUp};
 
 use crate::frames::{BodyFault, FRONT, Incoming};
 use crate::replies::Refusal;
@@ -27,12 +28,13 @@ pub enum Decision<'a> {
     Refuse(Refusal),
 }
 
-/// Decides of each frame, in order. `alloc` serves the list of moves of a call, too. `Err` where memory for the
-/// decisions is refused.
+/// Decides of each frame, in order. Condition: none asks for a look-up. `alloc` serves the list of moves of a call, too.
+/// `Err` where memory for the decisions is refused.
 pub fn decide_all<A: Allocator, B: Allocator + Copy>(
     alloc: B,
     group: &[Incoming<A>],
 ) -> Result<Vec<Decided<'_>, B>, AllocError>
+    requires { AllByRecursion HasNoLookUp group.now }
     ensures { IfOk result (λ decided. AllZip IsDecidedFor group.entry.now decided.items) }
 {
     let mut decided = Vec::with_capacity(alloc, group.len())?;
@@ -42,8 +44,9 @@ pub fn decide_all<A: Allocator, B: Allocator + Copy>(
     Ok(decided)
 }
 
-/// Decides of a frame.
+/// Decides of a frame. Condition: it asks for no look-up.
 fn decide<A: Allocator, B: Allocator>(alloc: B, incoming: &Incoming<A>) -> Decided<'_>
+    requires { HasNoLookUp incoming.now }
     ensures { IsDecidedFor incoming.entry.now result }
 {
     let what = match &incoming.body {
@@ -57,8 +60,9 @@ fn decide<A: Allocator, B: Allocator>(alloc: B, incoming: &Incoming<A>) -> Decid
     }
 }
 
-/// Decides of a body.
+/// Decides of a body. Condition: it is no look-up's.
 fn decide_body<B: Allocator>(alloc: B, from: u32, body: &[u8]) -> Decision<'_>
+    requires { IsNoLookUp body.now }
     ensures { (f : Frame) → f.body ≡ body.entry.now → f.from ≡ from → length f.body ≤ body_limit → IsDecided f result }
 {
     match decode_call(alloc, body) {

@@ -2,13 +2,14 @@
 mod calling;
 mod fault;
 mod group;
+mod looking;
 mod merging;
+mod onward;
 mod renewal;
 mod room;
 mod running;
 mod session;
 
 pub use self::fault::{GroupFault, RunFault, ServeFault};
-pub use self::group::answer_group;
 pub use self::running::{exit_status, run_new, run_opened};
 pub use self::session::serve;

@@ -10,8 +10,9 @@ pub const BODY_LIMIT: u32 = 16_777_216;
 pub const HEAD: usize = 12;
 pub const REPLY_HEAD: usize = 8;
 
-/// The most bytes behind the head of a reply. An answer has at most 20, and its tag.
-pub const REPLY_LIMIT: u32 = 1024;
+/// The most bytes behind the head of a reply. An answer has at most 20, and its tag; what a look-up finds at most 65,536
+/// of a file or of names, and what stands before them.
+pub const REPLY_LIMIT: u32 = 65_536 + 64;
 
 /// The tag of a reply that refuses.
 const REFUSED: u8 = 2;

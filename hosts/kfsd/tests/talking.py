@@ -4,7 +4,9 @@ import random
 import struct
 import threading
 
-from running import FRONT, HELLO, Daemon, frame, lease, user
+from running import FRONT, HELLO, Daemon, frame, frames, lease, user
+
+from killing import submission
 
 LONGEST = 16_777_216
 TICK = struct.pack(">BQ", 4, 10)
@@ -29,6 +31,33 @@ def a_client_is_named_by_the_kernel(made):
         assert seven.ask(4, lease(7, 10) + b"x").refusal == ("Trailing", 0)
         assert daemon.stop()[0] == 0
         assert daemon.kept() == [lease(7, 10)]
+
+
+def look_ups_are_answered(made):
+    """A node is told of as the frames before left it, also within one read. The front's look-ups are no client's."""
+    with Daemon(*made).start() as daemon:
+        seven, eight = daemon.connect(7), daemon.connect(8)
+        root = frames.NodeIs(frames.Header(kind=2, mode=0o777, uid=0, gid=0, links=1, size=0))
+        assert seven.ask(1, frames.node(1)).answer == root
+        assert eight.ask(1, frames.node(2)).answer == frames.NodeIs(None)
+        for body in (frames.state(), frames.checkpoint()):
+            assert seven.ask(2, body).refusal == ("NotYours", 0)
+        for body in (frames.node(1) + b"x", frames.node(1)[:4], frames.state() + b"x"):
+            assert seven.ask(3, body).refusal == ("BadField", 0)
+        bodies = [lease(7, 1000, writes=True), frames.node(2), submission(0), frames.node(2), frames.node(1), submission(0), frames.node(2)]
+        seven.socket.sendall(b"".join(frame(at, 7, body) for at, body in enumerate(bodies)))
+        replies = [seven.reply() for _ in bodies]
+        assert [it.number for it in replies] == list(range(len(bodies)))
+        made_file = frames.NodeIs(frames.Header(kind=1, mode=0o644, uid=1000, gid=1000, links=1, size=0))
+        found = [replies[at].answer for at in (1, 3, 4, 6)]
+        assert found == [frames.NodeIs(None), made_file, root, made_file], replies
+        assert seven.ask(4, frames.find(1, b"file0")).answer == frames.LeadsTo(2)
+        assert seven.ask(5, frames.names(1, 1000)).answer == frames.NamesAre(False, [(b"file0", 2)])
+        assert seven.ask(6, frames.read(2, 0, 1 << 20)).answer == frames.BytesAre(b"")
+        assert seven.ask(7, frames.read(1, 0, 1)).answer == frames.Denied("IsDirectory")
+        # 1: Yes. 2: No, since the name is taken
+        assert [replies[2].answer[4], replies[5].answer[4]] == [1, 2], replies
+        assert daemon.stop()[0] == 0
 
 
 def a_stranger_is_refused(made):
@@ -172,4 +201,4 @@ def random_streams(made):
         assert set(daemon.kept()) == {lease(9, 10)}
 
 
-TESTS = [a_client_is_named_by_the_kernel, a_stranger_is_refused, long_and_cut_frames, the_longest_frames, replies_keep_their_order, many_at_once, random_frames, random_streams]
+TESTS = [a_client_is_named_by_the_kernel, look_ups_are_answered, a_stranger_is_refused, long_and_cut_frames, the_longest_frames, replies_keep_their_order, many_at_once, random_frames, random_streams]

@@ -1,5 +1,5 @@
 -- Frames that are read one after another.
-use Rattle.std.proofs.Common.{◌≡◌, ℕ, ◌+◌, ◌^◌, ◌<◌, List, [], ◌∷◌, ◌++◌, length, take, get_or, Option, Some, None, Result, refl, sym, ap, subst, ◌∙◌, append_assoc, append-nil}
+use Rattle.std.proofs.Common.{◌≡◌, ℕ, zero, suc, ◌+◌, ◌^◌, ◌<◌, List, [], ◌∷◌, ◌++◌, length, take, get_or, Option, Some, None, Result, refl, sym, ap, subst, ◌∙◌, append_assoc, append-nil, arith}
 use Rattle.std.specs.List.{flat_map, AllByRecursion, AllZip}
 use Rattle.std.proofs.lemmas.List.{take_more}
 use Rattle.std.proofs.lemmas.Grind.{flat_map-append}
@@ -21,6 +21,23 @@ zip_more R [] [] x y all is = (is, tt)
 zip_more R [] (z ∷ ys) x y all is = absurd all
 zip_more R (z ∷ xs) [] x y all is = absurd all
 zip_more R (w ∷ xs) (z ∷ ys) x y all is = (all.0, zip_more R xs ys x y all.1 is)
+
+-- the next item of a list has it, too
+pub all_taken : {X : Type 0} (P : X → Type 0) (xs : List X) (i : ℕ) (x : X) → i < length xs → x ≡ get_or xs i x → AllByRecursion P (take i xs) → P x → AllByRecursion P (take (i + 1) xs)
+all_taken {X} P xs i x lt is all one =
+    subst (λ (zs : List X). AllByRecursion P zs) (ap (λ (z : X). take i xs ++ z ∷ []) is ∙ sym (take_more xs i x lt)) (all_more P (take i xs) x all one)
+
+-- the first one and so many others
+pub all_first : {X : Type 0} (P : X → Type 0) (x : X) (xs : List X) (k : ℕ) → P x → AllByRecursion P (take k xs) → AllByRecursion P (take (1 + k) (x ∷ xs))
+all_first {X} P x xs k one all =
+    let more : suc k ≡ 1 + k = omega arith in
+    subst (λ (n : ℕ). AllByRecursion P (take n (x ∷ xs))) more (one, all)
+
+-- the item at a place has what all have
+pub all_at : {X : Type 0} (P : X → Type 0) (xs : List X) (i : ℕ) (d : X) → AllByRecursion P xs → i < length xs → P (get_or xs i d)
+all_at P [] i d all lt = absurd (omega (arith, lt))
+all_at P (x ∷ xs) zero d all lt = all.0
+all_at P (x ∷ xs) (suc i) d all lt = all_at P xs i d all.1 (omega (arith, lt))
 
 -- so they are of one item of a list more
 pub zip_take : {X Y : Type 0} (R : X → Y → Type 0) (xs : List X) (ys : List Y) (i : ℕ) (x : X) (y : Y) → i < length xs → x ≡ get_or xs i x → AllZip R (take i xs) ys → R x y

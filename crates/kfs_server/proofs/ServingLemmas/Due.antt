@@ -20,6 +20,8 @@ use Rattle.kfs_server.specs.Frames.Frame.{Frame}
 use Rattle.kfs_server.specs.Replies.Reply.{Refusal, BadField, Trailing, OutOfMemory, DocketFull, Reply, Answered, Refused}
 use Rattle.kfs_server.specs.Replies.Views.{refusal_shown}
 use Rattle.kfs_server.specs.Serving.Group.{call_in, calls_of}
+use Rattle.kfs_server.specs.LookUps.LookUp.{IsNoLookUp}
+use Rattle.kfs_server.proofs.LookUpsLemmas.Apart.{call_is_no_look_up}
 use Rattle.kfs_server.specs.Serving.Machine.{IsRefusedFor, Replies, Serves}
 use Rattle.kfs_server.proofs.ServingLemmas.Runs.{IsDecidedOf, same_call}
 use Rattle.kfs_server.specs.declared.asking.Decided.{Decided}
@@ -68,12 +70,12 @@ refusal_due (faults.BadCall fields.OutOfMemory) = OutOfMemory
 refusal_due faults.OutOfMemory = OutOfMemory
 refusal_due faults.DocketFull = DocketFull
 
-refusal_right : (desk : Desk) (f : Frame) (bytes : List ℕ) (fault : CallFault) → bytes ≡ f.body → IsRefusal bytes desk fault → IsRefusedFor desk f (refusal_due fault)
-refusal_right desk f bytes (faults.BadCall (fields.BadField k)) is why = inl (subst (λ (bs : List ℕ). CallAnswer bs (Err (layouts.BadField k))) is why)
-refusal_right desk f bytes (faults.BadCall fields.Trailing) is why = inl (subst (λ (bs : List ℕ). CallAnswer bs (Err layouts.Trailing)) is why)
-refusal_right desk f bytes (faults.BadCall fields.OutOfMemory) is why = absurd why
-refusal_right desk f bytes faults.OutOfMemory is why = inl tt
-refusal_right desk f bytes faults.DocketFull is why = inr (refl, why)
+refusal_right : (desk : Desk) (f : Frame) (bytes : List ℕ) (fault : CallFault) → bytes ≡ f.body → IsNoLookUp f.body → IsRefusal bytes desk fault → IsRefusedFor desk f (refusal_due fault)
+refusal_right desk f bytes (faults.BadCall (fields.BadField k)) is none why = inl (subst (λ (bs : List ℕ). CallAnswer bs (Err (layouts.BadField k))) is why, none)
+refusal_right desk f bytes (faults.BadCall fields.Trailing) is none why = inl (subst (λ (bs : List ℕ). CallAnswer bs (Err layouts.Trailing)) is why)
+refusal_right desk f bytes (faults.BadCall fields.OutOfMemory) is none why = absurd why
+refusal_right desk f bytes faults.OutOfMemory is none why = inl tt
+refusal_right desk f bytes faults.DocketFull is none why = inr (inl (refl, why))
 
 -- ---- frames
 
@@ -99,7 +101,7 @@ step_due desk last f (Make bytes) calls (Ok called ∷ answers) decided runs =
       runs = runs.2;
     }
 step_due desk last f (Make bytes) calls (Err fault ∷ answers) decided runs =
-    record { next = desk; reply = Refused (refusal_due fault); others = answers; replied = (refusal_right desk f bytes.now fault decided.0 runs.0, refl); runs = runs.1 }
+    record { next = desk; reply = Refused (refusal_due fault); others = answers; replied = (refusal_right desk f bytes.now fault decided.0 (subst IsNoLookUp (sym decided.2.spelled) (call_is_no_look_up decided.1)) runs.0, refl); runs = runs.1 }
 step_due desk last f (Refuse refusal) calls answers decided runs =
     record { next = desk; reply = Refused (refusal_shown refusal); others = answers; replied = (inl decided, refl); runs = runs }
 

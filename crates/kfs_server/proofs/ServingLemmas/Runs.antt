@@ -13,12 +13,13 @@ use Rattle.kfs_call_desk.specs.declared.made.Called.{Called}
 use Rattle.kfs_call_desk.specs.declared.made.CallFault.{CallFault}
 use Rattle.kfs_call_desk.specs.declared.made.CallFault.TheVariants as faults
 use Rattle.kfs_kept.specs.Calls.Making.{Runs}
+use Rattle.kfs_server.specs.LookUps.LookUp.{IsNoLookUp}
+use Rattle.kfs_server.proofs.LookUpsLemmas.Apart.{call_is_no_look_up}
 use Rattle.kfs_server.specs.Asking.{IsDecided, IsDecidedFor}
 use Rattle.kfs_server.specs.Frames.Begun.{IsFrameOf}
 use Rattle.kfs_server.specs.Frames.Frame.{Frame}
 use Rattle.kfs_server.specs.declared.frames.frame.Incoming.{Incoming}
 use Rattle.kfs_server.specs.Replies.Views.{refusal_shown, reply_shown}
-use Rattle.kfs_server.specs.Replies.Reply as spelled
 use Rattle.kfs_server.specs.Serving.Group.{AreReplies, AreServed, IsReplied, IsReplyTo, call_in, calls_of, refused_for_memory}
 use Rattle.kfs_server.specs.Serving.Machine.{IsRefusedFor, Replies}
 use Rattle.kfs_server.specs.declared.asking.Decided.{Decided}
@@ -42,15 +43,15 @@ same_call a b fa fb e =
     ap (λ (p : Call × List ℕ). p.0) pair
 
 -- a call that has no answer is refused for the same reason
-refused_right : (desk : Desk) (f : Frame) (bytes : List ℕ) (fault : CallFault) (refusal : Refusal) → bytes ≡ f.body → IsRefusal bytes desk fault → IsReplyTo (Err fault) (Refused refusal)
+refused_right : (desk : Desk) (f : Frame) (bytes : List ℕ) (fault : CallFault) (refusal : Refusal) → bytes ≡ f.body → IsNoLookUp f.body → IsRefusal bytes desk fault → IsReplyTo (Err fault) (Refused refusal)
     → IsRefusedFor desk f (refusal_shown refusal)
-refused_right desk f bytes (faults.BadCall (fields.BadField k)) refusal is why said =
-    subst (λ (r : Refusal). IsRefusedFor desk f (refusal_shown r)) (sym said) (inl (subst (λ (bs : List ℕ). CallAnswer bs (Err (layouts.BadField k))) is why))
-refused_right desk f bytes (faults.BadCall fields.Trailing) refusal is why said =
+refused_right desk f bytes (faults.BadCall (fields.BadField k)) refusal is none why said =
+    subst (λ (r : Refusal). IsRefusedFor desk f (refusal_shown r)) (sym said) (inl (subst (λ (bs : List ℕ). CallAnswer bs (Err (layouts.BadField k))) is why, none))
+refused_right desk f bytes (faults.BadCall fields.Trailing) refusal is none why said =
     subst (λ (r : Refusal). IsRefusedFor desk f (refusal_shown r)) (sym said) (inl (subst (λ (bs : List ℕ). CallAnswer bs (Err layouts.Trailing)) is why))
-refused_right desk f bytes (faults.BadCall fields.OutOfMemory) refusal is why said = absurd why
-refused_right desk f bytes faults.OutOfMemory refusal is why said = subst (λ (r : Refusal). IsRefusedFor desk f (refusal_shown r)) (sym said) (inl tt)
-refused_right desk f bytes faults.DocketFull refusal is why said = subst (λ (r : Refusal). IsRefusedFor desk f (refusal_shown r)) (sym said) (inr (refl, why))
+refused_right desk f bytes (faults.BadCall fields.OutOfMemory) refusal is none why said = absurd why
+refused_right desk f bytes faults.OutOfMemory refusal is none why said = subst (λ (r : Refusal). IsRefusedFor desk f (refusal_shown r)) (sym said) (inl tt)
+refused_right desk f bytes faults.DocketFull refusal is none why said = subst (λ (r : Refusal). IsRefusedFor desk f (refusal_shown r)) (sym said) (inr (inl (refl, why)))
 
 never_answered : (fault : CallFault) (answer : AnswerRow) → IsReplyTo (Err fault) (Answered answer) → ⊥
 never_answered (faults.BadCall (fields.BadField k)) answer said = said
@@ -74,7 +75,7 @@ serves_step desk last f (Make bytes) calls (Ok called ∷ answers) others (Answe
 serves_step desk last f (Make bytes) calls (Ok called ∷ answers) others (Refused refusal) decided runs said = absurd said.0
 serves_step desk last f (Make bytes) calls (Err fault ∷ answers) others (Answered answer) decided runs said = absurd (never_answered fault answer said.0)
 serves_step desk last f (Make bytes) calls (Err fault ∷ answers) others (Refused refusal) decided runs said =
-    (desk, (refused_right desk f bytes.now fault refusal decided.0 runs.0 said.0, refl), subst (λ (rest : List (Result Called CallFault)). Runs desk calls rest last) (sym said.1) runs.1)
+    (desk, (refused_right desk f bytes.now fault refusal decided.0 (subst IsNoLookUp (sym decided.2.spelled) (call_is_no_look_up decided.1)) runs.0 said.0, refl), subst (λ (rest : List (Result Called CallFault)). Runs desk calls rest last) (sym said.1) runs.1)
 serves_step desk last f (Refuse refusal) calls answers others reply decided runs said =
     (desk, subst (λ (r : Reply). Replies desk f (reply_shown r) desk) (sym said.0) (inl decided, refl), subst (λ (rest : List (Result Called CallFault)). Runs desk calls rest last) (sym said.1) runs)
 

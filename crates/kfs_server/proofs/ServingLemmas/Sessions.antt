@@ -67,7 +67,7 @@ text_more desk mid (f ∷ fs) gs (x ∷ xs) ys first =
     ap (λ (bs : List ℕ). reply_bytes f.number x ++ bs) (text_more first.0 mid fs gs xs ys first.2) ∙ sym (append_assoc (reply_bytes f.number x) (text_of fs xs) (text_of gs ys))
 
 -- some of the first frames are some of all
-some_more : (desk : Desk) (fs gs : List Frame) (c : Files) → StandForSome desk fs c → StandForSome desk (fs ++ gs) c
+pub some_more : (desk : Desk) (fs gs : List Frame) (c : Files) → StandForSome desk fs c → StandForSome desk (fs ++ gs) c
 some_more desk fs gs c some = record {
   done = some.done;
   later = some.later ++ gs;

@@ -3,6 +3,8 @@ use Rattle.std.specs.Prelude.{ℕ, List, [], ◌∷◌, ◌++◌, length}
 use Rattle.kfs_model.specs.Spelling.{byte, number32}
 use Rattle.kfs_call.specs.AnswerRow.{AnswerRow, answer_bytes}
 use Rattle.kfs_server.specs.Frames.Frame.{Frame}
+use Rattle.kfs_server.specs.LookUps.Found as finding
+use Rattle.kfs_server.specs.LookUps.Found.{found_bytes}
 
 -- why a frame is refused
 pub data Refusal : Type 0 where
@@ -10,10 +12,10 @@ pub data Refusal : Type 0 where
   TooLong : Refusal
   -- the input ended within it
   CutShort : Refusal
-  -- the body is no call: so many of its fields were read, and the next one isn't there; or bytes remain
+  -- the body is no call and no look-up: so many of its fields were read, and the next one isn't there; or bytes remain
   BadField : (k : ℕ) → Refusal
   Trailing : Refusal
-  -- the call is another's than the frame
+  -- the call is another's than the frame, or the look-up is the front's
   NotYours : Refusal
   -- memory was refused
   OutOfMemory : Refusal
@@ -26,6 +28,8 @@ pub data Reply : Type 0 where
   Answered : (answer : AnswerRow) → Reply
   -- nothing was done
   Refused : (refusal : Refusal) → Reply
+  -- a look-up found this
+  Found : (found : finding.Found) → Reply
 
 -- the number of a refusal
 abbrev pub refusal_code : Refusal → ℕ
@@ -47,10 +51,11 @@ refusal_index NotYours = 0
 refusal_index OutOfMemory = 0
 refusal_index DocketFull = 0
 
--- the encoding of a reply: a tag, and then the answer, or the refusal's number and index
+-- the encoding of a reply: a tag, and then the answer, the refusal's number and index, or what was found
 abbrev pub reply_body : Reply → List ℕ
 reply_body (Answered answer) = byte 1 ++ answer_bytes answer
 reply_body (Refused refusal) = byte 2 ++ (byte (refusal_code refusal) ++ number32 (refusal_index refusal))
+reply_body (Found found) = byte 3 ++ found_bytes found
 
 -- a reply under the frame's number
 abbrev pub reply_bytes : (number : ℕ) → Reply → List ℕ

@@ -1,6 +1,9 @@
 //! What a frame is replied.
+ghost use Rattle.std.specs.Prelude.{◌≡◌};
+ghost use Rattle.kfs_server.specs.declared.replies.reply.Refusal.TheVariants as refusals;
 
 use kfs_call::AnswerRow;
+use std::alloc::AllocError;
 use thiserror::Error;
 
 /// Why a frame is refused. Nothing was done for it then.
@@ -27,6 +30,14 @@ pub enum Refusal {
     /// 7: the docket has as many rows as its limit allows.
     #[error("full")]
     DocketFull,
+}
+
+impl From<AllocError> for Refusal {
+    ghost from_gives = { λ _ why. why ≡ refusals.OutOfMemory };
+
+    fn from(_error: AllocError) -> Refusal {
+        Refusal::OutOfMemory
+    }
 }
 
 /// What a frame is replied.

@@ -1,10 +1,11 @@
 //! The calls of a group, made and kept.
 ghost use Rattle.std.specs.Prelude.{◌≡◌, [], ◌++◌, ◌≤◌, List, length, map, vec_capacity, IfOk, IsErrOf, IsFalse, IsTrue, OnOk};
-ghost use Rattle.std.specs.List.{AllZip};
+ghost use Rattle.std.specs.List.{AllByRecursion, AllZip};
 ghost use Rattle.kfs_journal.specs.Disk.{Files, LeavesOnly};
 ghost use Rattle.kfs_kept.specs.Calls.Making.{Runs};
 ghost use Rattle.kfs_kept.specs.Keeping.{IsKept};
 ghost use Rattle.kfs_kept.specs.Standing.{StandFor, StandForBeforeOrAfter};
+ghost use Rattle.kfs_server.specs.Asking.{HasNoLookUp};
 ghost use Rattle.kfs_server.specs.Frames.Begun.{IsFrameOf};
 ghost use Rattle.kfs_server.specs.Frames.Frame.{Frame};
 ghost use Rattle.kfs_server.specs.Serving.Group.{AreServed, call_in, calls_of};
@@ -52,6 +53,7 @@ pub fn make_calls<A: Allocator + Copy, B: Allocator + Copy, C: Allocator, D: Dis
     requires open { IsTrue kept.old.is_open }
     requires none { replies.old.items ≡ [] }
     requires room { length group.now ≤ vec_capacity replies.old }
+    requires calls { AllByRecursion HasNoLookUp group.now }
     ensures kept { IsKept D.seen D.may_leave kept.new }
     ensures served { (frames : List Frame) → AllZip IsFrameOf group.now frames → OnOk result (AreServed kept.old.desk frames replies.new.items kept.new.desk) }
     ensures as_many { OnOk result (length replies.new.items ≡ length group.now) }

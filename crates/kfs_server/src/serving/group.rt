@@ -1,9 +1,10 @@
 //! A group of frames, answered together once what they did is kept.
 ghost use Rattle.std.specs.Prelude.{◌≡◌, [], ◌≤◌, List, length, map, vec_capacity, IsErrOf, IsTrue, OnOk};
-ghost use Rattle.std.specs.List.{AllZip};
+ghost use Rattle.std.specs.List.{AllByRecursion, AllZip};
 ghost use Rattle.kfs_journal.specs.Disk.{Files, LeavesOnly};
 ghost use Rattle.kfs_kept.specs.Keeping.{IsKept};
 ghost use Rattle.kfs_kept.specs.Standing.{StandFor};
+ghost use Rattle.kfs_server.specs.Asking.{HasNoLookUp};
 ghost use Rattle.kfs_server.specs.Frames.Begun.{IsFrameOf};
 ghost use Rattle.kfs_server.specs.Frames.Frame.{Frame};
 ghost use Rattle.kfs_server.specs.Serving.Group.{AreServed, refused_for_memory};
@@ -19,8 +20,8 @@ use std::alloc::Allocator;
 
 /// Answers a group of frames. Calls are made in the order of the frames, and are kept before this returns.
 ///
-/// Conditions: the desk is open; `replies` is empty, and has room for all. A frame that is refused changes nothing.
-/// Where memory is refused before the first call, each frame is refused for that.
+/// Conditions: the desk is open; `replies` is empty, and has room for all; no frame asks for a look-up. A frame that is
+/// refused changes nothing. Where memory is refused before the first call, each frame is refused for that.
 pub fn answer_group<A: Allocator + Copy, B: Allocator + Copy, C: Allocator, D: Disk + Drop>(
     alloc: B,
     kept: &mut Kept<A, D>,
@@ -31,6 +32,7 @@ pub fn answer_group<A: Allocator + Copy, B: Allocator + Copy, C: Allocator, D: D
     requires open { IsTrue kept.old.is_open }
     requires none { replies.old.items ≡ [] }
     requires room { length group.now ≤ vec_capacity replies.old }
+    requires calls { AllByRecursion HasNoLookUp group.now }
     ensures kept { IsKept D.seen D.may_leave kept.new }
 
     // The replies are the machine's. With them, each crash leaves the state after all of the frames.

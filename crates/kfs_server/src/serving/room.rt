@@ -1,6 +1,6 @@
 //! What a group takes in memory, taken once.
 ghost use Rattle.std.specs.Prelude.{◌≡◌, [], ◌≤◌, IfOk};
-ghost use Rattle.kfs_server.specs.Serving.Room.{IsAmple, IsRoom};
+ghost use Rattle.kfs_server.specs.Serving.Room.{IsAmple, IsAmpleSaid, IsRoom, IsUnsaid};
 
 use crate::frames::Incoming;
 use crate::replies::NumberedReply;
@@ -12,12 +12,29 @@ pub const CHUNK: usize = 65_536;
 /// The most bytes of the replies to a group: 29 for each of its frames.
 const TEXT: usize = 1_900_544;
 
-/// What a group takes: its frames, the replies, and their bytes.
+/// What is said to a group: the replies, and their bytes.
+#[derive(Drop)]
+pub struct Said<B: Allocator> {
+    pub replies: Vec<NumberedReply, B>,
+    pub text: Vec<u8, B>,
+}
+
+impl<B: Allocator> Said<B> {
+    /// Drops what was said, and keeps the room.
+    pub fn clear(&mut self)
+        requires { IsAmpleSaid self.old }
+        ensures { IsUnsaid self.new }
+    {
+        self.replies.clear();
+        self.text.clear();
+    }
+}
+
+/// What a read takes: its frames, and what is said to a group of them.
 #[derive(Drop)]
 pub struct Room<B: Allocator> {
     pub group: Vec<Incoming<B>, B>,
-    pub replies: Vec<NumberedReply, B>,
-    pub text: Vec<u8, B>,
+    pub said: Said<B>,
 }
 
 impl<B: Allocator + Copy> Room<B> {
@@ -27,8 +44,10 @@ impl<B: Allocator + Copy> Room<B> {
     {
         Ok(Room {
             group: Vec::with_capacity(alloc, CHUNK)?,
-            replies: Vec::with_capacity(alloc, CHUNK)?,
-            text: Vec::with_capacity(alloc, TEXT)?,
+            said: Said {
+                replies: Vec::with_capacity(alloc, CHUNK)?,
+                text: Vec::with_capacity(alloc, TEXT)?,
+            },
         })
     }
 
@@ -38,7 +57,6 @@ impl<B: Allocator + Copy> Room<B> {
         ensures { IsRoom self.new }
     {
         self.group.clear();
-        self.replies.clear();
-        self.text.clear();
+        self.said.clear();
     }
 }

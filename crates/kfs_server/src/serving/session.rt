@@ -12,9 +12,9 @@ ghost use Rattle.kfs_server.specs.declared.serving.fault.GroupFault.TheVariants 
 ghost use Rattle.kfs_server.specs.declared.serving.fault.ServeFault.TheVariants as faults;
 
 use crate::frames::FrameReader;
-use crate::replies::{NumberedReply, Refusal, Reply, spell_reply, write_replies};
+use crate::replies::{NumberedReply, Refusal, Reply, spell_reply};
 use crate::serving::fault::ServeFault;
-use crate::serving::group::answer_group;
+use crate::serving::onward::answer_frames;
 use crate::serving::renewal::renew;
 use crate::serving::room::{CHUNK, Room};
 use kfs_journal::Disk;
@@ -24,8 +24,9 @@ use std::alloc::{AllocError, Allocator};
 use std::io::{Read, Write};
 
 /// Serves frames from `reader` to its end, and writes the replies to `writer`. All frames that are whole with one
-/// read are one group: their calls are kept together, and then all of their replies are written. Behind a group the
-/// journal is begun anew where that is due (`Kept::checkpoint_if_due`).
+/// read are answered together. Calls that stand behind one another there are one group: they are kept together, and
+/// then all of their replies are written. A look-up between them is answered from the desk. Behind the frames of a read
+/// the journal is begun anew where that is due (`Kept::checkpoint_if_due`).
 ///
 /// Condition: the desk is open. At `Ok` the input has ended, the desk is open, and each crash leaves its state. At
 /// `Err` serving has stopped: what was answered is kept. Memory for reading and writing is taken before the first
@@ -126,36 +127,8 @@ where
     if room.group.is_empty() {
         return Ok(());
     }
-    write_answers(alloc, kept, room, writer)?;
+    answer_frames(alloc, kept, &room.group, &mut room.said, writer)?;
     renew(alloc, kept)?;
-    Ok(())
-}
-
-/// Answers a group of frames, and writes the replies once the group is kept.
-fn write_answers<A, B, D, O>(
-    alloc: B,
-    kept: &mut Kept<A, D>,
-    room: &mut Room<B>,
-    writer: &mut O,
-) -> Result<(), ServeFault>
-where
-    A: Allocator + Copy,
-    B: Allocator + Copy,
-    D: Disk + Drop,
-    O: Write,
-    requires kept { IsKept D.seen D.may_leave kept.old }
-    requires open { IsTrue kept.old.is_open }
-    requires room { HasRoom room.old }
-    ensures kept { IsKept D.seen D.may_leave kept.new }
-    ensures open { OnOk result (IsTrue kept.new.is_open) }
-    ensures failed { IsErrOf result (faults.Group groups.Failed) → IsTrue (D.has_failed kept.new.disk) }
-    ensures room { IsAmple room.new }
-    ensures served { (frames : List Frame) → AllZip IsFrameOf room.old.group.items frames → Writes (O.contents writer.old) (O.contents writer.new) (IsServed D.may_leave D.moment D.left_since result kept.old kept.new frames) }
-{
-    answer_group(alloc, kept, &room.group, &mut room.replies)?;
-    write_replies(&mut room.text, &room.replies);
-    write_whole(writer, &room.text)?;
-    flush(writer)?;
     Ok(())
 }
 

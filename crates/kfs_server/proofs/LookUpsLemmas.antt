@@ -1,0 +1,4 @@
+pub mod Apart
+pub mod Reads
+pub mod Listings
+pub mod Contents

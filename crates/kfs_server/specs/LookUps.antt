@@ -1,0 +1,4 @@
+pub mod LookUp
+pub mod Reading
+pub mod Found
+pub mod Views
