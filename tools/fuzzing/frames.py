@@ -9,6 +9,7 @@ import struct
 from .calls import CallMaker, CallSession, Drop, Lease, LeaseAt, Migrate, Submit, decode_call, decoded
 from .codec import DIRECTORY, FILE, Refused
 from .desk import U32, U64, hex_of
+from .scripts import NAMES
 
 FRONT = 0xFFFFFFFF
 BODY_LIMIT = 16_777_216
@@ -91,12 +92,13 @@ def frames_of(seed, numbers, calls):
 
 def name_of(chance):
     """A name as calls have them, or bytes that are none."""
-    return chance.choice([b"a", b"b", b"f", b"d", b"x", b"", b".", b"a/b", b"a\0", chance.randbytes(1 + chance.randrange(3)), bytes([97]) * 256])
+    return chance.choice([*NAMES] * 3 + [b"", b".", b"a/b", b"a\0", chance.randbytes(1 + chance.randrange(3)), b"a" * 256])
 
 
 def look_up(chance):
     """The bytes of a look-up."""
-    number = chance.choice([0, 1, 2, 3, 4, 5, 6, 7, 8, 9, 10, chance.randrange(64), U32])
+    # The root, the numbers that calls give first, and others.
+    number = chance.choice([1] * 8 + [*range(11)] * 2 + [chance.randrange(64), U32])
     limit = chance.choice([0, 6, 7, 12, 40, 260, FOUND_LIMIT + 1, U32])
     start = chance.choice([0, 1, 4_095, 4_096, chance.randrange(10_000), U64])
     match chance.randrange(6):
@@ -120,7 +122,7 @@ def look_ups(chance, numbers):
             body = bytes([chance.choice([0x41, 0x42])])
         if chance.random() < CHANGED / 4:
             body = changed(chance, body)
-        yield chance.choice([*numbers, *numbers, FRONT, 0]), body
+        yield chance.choice([*numbers] * 4 + [FRONT, 0]), body
 
 
 def is_name(data):
