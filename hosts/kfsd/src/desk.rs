@@ -153,11 +153,13 @@ impl Desk {
         let mut is_done = false;
         if has_begun {
             info!("kfs_serve is ready");
+            figures.opened.set(1);
             ready.send_replace(true);
             is_done = talk(to, &mut from, queue, &flight, figures).await;
         } else {
             drop(to);
         }
+        figures.opened.set(0);
         let status = end(&mut child, &self.program).await?;
         figures.process.set(0);
         // Dropped, each asker hears that nobody knows.

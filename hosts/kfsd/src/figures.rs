@@ -39,9 +39,10 @@ pub struct Figures {
     pub answered_here: Count,
     /// Connections that were ended because a frame came or a reply went too slowly.
     pub too_slow: Count,
-    /// How often `kfs_serve` was started, and its process now; 0 where there is none.
+    /// How often `kfs_serve` was started, and its process now; 0 where there is none. 1 where that has opened its files.
     pub starts: Count,
     pub process: Count,
+    pub opened: Count,
 }
 
 /// What `kfsctl status` prints.
@@ -56,6 +57,7 @@ struct Status {
 #[derive(Debug, Serialize)]
 struct DeskStatus {
     process: u64,
+    is_open: bool,
     starts: u64,
     waiting_calls: usize,
 }
@@ -94,7 +96,12 @@ pub fn status(figures: &Figures, table: &Table, waiting_calls: usize) -> Result<
         bytes_left: account.bytes.available_permits(),
     });
     toml::to_string(&Status {
-        kfs_serve: DeskStatus { process: figures.process.get(), starts: figures.starts.get(), waiting_calls },
+        kfs_serve: DeskStatus {
+            process: figures.process.get(),
+            is_open: figures.opened.get() == 1,
+            starts: figures.starts.get(),
+            waiting_calls,
+        },
         connections: ConnectionStatus {
             taken: figures.connections.get(),
             turned_away: figures.turned_away.get(),

@@ -182,13 +182,14 @@ class Daemon:
         return tomllib.loads(subprocess.run(words, check=True, capture_output=True, text=True, timeout=SOON).stdout)
 
     def kill_desk(self):
-        """Kills kfs_serve, once it runs."""
+        """Kills kfs_serve, once it has opened its files: of processes that never do, one after another, kfsd takes only five."""
         self.wait_for(self.has_killed_desk)
 
-    def has_killed_desk(self):
-        """Kills the process that kfsd names, where it is a child of kfsd. Returns whether it was."""
-        pid = self.status()["kfs_serve"]["process"]
-        if pid == 0:
+    def has_killed_desk(self, while_opening=False):
+        """Kills the process that kfsd names, where it is a child of kfsd, and has opened its files or still does. Returns whether it was."""
+        found = self.status()["kfs_serve"]
+        pid = found["process"]
+        if pid == 0 or found["is_open"] == while_opening:
             return False
         try:
             # by this the process is meant, and not another one that has its number by then
