@@ -44,6 +44,8 @@ pub struct Config {
     pub rows: u32,
     #[serde(default)]
     pub limits: Limits,
+    #[serde(default)]
+    pub duties: Duties,
     #[serde(default, rename = "user")]
     pub users: Vec<User>,
 }
@@ -72,6 +74,22 @@ pub struct Limits {
     pub reply_seconds: u64,
     /// How long a stop may wait for what is under way.
     pub stop_seconds: u64,
+}
+
+/// What kfsd does by itself.
+#[derive(Clone, Copy, Debug, Deserialize, PartialEq, Eq)]
+#[serde(default, deny_unknown_fields)]
+pub struct Duties {
+    /// How long the desk may be without a tick while a lease is live.
+    pub tick_seconds: u64,
+    /// How long a lease may live; 0 where that isn't limited.
+    pub lease_seconds: u64,
+}
+
+impl Default for Duties {
+    fn default() -> Duties {
+        Duties { tick_seconds: 60, lease_seconds: 3600 }
+    }
 }
 
 impl Default for Limits {
@@ -149,6 +167,7 @@ impl Config {
             && self.tiers == other.tiers
             && self.rows == other.rows
             && self.limits == other.limits
+            && self.duties == other.duties
     }
 }
 
@@ -178,6 +197,7 @@ mod tests {
         let config = read(SMALL).unwrap();
         assert_eq!(config.rows, u32::MAX);
         assert_eq!(config.limits, Limits::default());
+        assert_eq!(config.duties, Duties::default());
         assert_eq!(config.users[0].groups, Vec::<u32>::new());
         assert!(!config.users[0].privileged);
     }

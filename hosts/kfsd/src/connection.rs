@@ -2,9 +2,11 @@
 //!
 //! What it waits for is its own: its reader's bytes, its writer's room, and places of its own user. So it holds up no other user.
 
-use crate::config::{Limits, FRAME_COST};
+use crate::calls::{Note, Wish};
+use crate::config::{Duties, Limits, FRAME_COST};
 use crate::figures::Figures;
-use crate::frames::{asked, reply, welcome, Asked, Head, Refusal, HEAD};
+use crate::following::Following;
+use crate::frames::{asked, moment, reply, welcome, Asked, Head, Refusal, HEAD};
 use crate::queue::{Answer, Asker, Call, Permits, Queue};
 use crate::users::{Account, Place, Table};
 use std::io;
@@ -25,6 +27,9 @@ pub struct Shared {
     pub queue: Queue,
     pub figures: Figures,
     pub limits: Limits,
+    pub duties: Duties,
+    /// How the desk stands.
+    pub following: Following,
     /// The users that may be connected now.
     pub table: watch::Receiver<Arc<Table>>,
     /// Whether no frame is read any more.
@@ -189,14 +194,30 @@ impl<R: AsyncRead + Unpin> Reader<'_, R> {
         if !is_own {
             return self.refuse(head, frame, Refusal::NotYours).await;
         }
-        if what == Asked::Hello {
-            let said = welcome(head.number, client, self.account.user.grant);
-            return self.put(head, frame, Said::Here(said)).await;
+        let now = self.shared.following.clock.now();
+        let longest = self.shared.duties.lease_seconds;
+        match what {
+            Asked::Hello => {
+                let said = welcome(head.number, client, self.account.user.grant);
+                return self.put(head, frame, Said::Here(said)).await;
+            }
+            Asked::Moment => return self.put(head, frame, Said::Here(moment(head.number, now, longest))).await,
+            _ => {}
+        }
+        let note = Note::of(&body);
+        if matches!(&note, Note::Lease(wish) if self.is_too_far(wish, now)) {
+            return self.refuse(head, frame, Refusal::TooFar).await;
         }
         let (to, answer) = oneshot::channel();
-        let asker = Asker { to, frame: Arc::clone(&frame) };
-        self.shared.queue.push(Call { client, body, bytes, asker });
+        let asker = Asker { to, frame: Some(Arc::clone(&frame)) };
+        self.shared.queue.push(Call { client, body, note, bytes: Some(bytes), asker });
         self.put(head, frame, Said::Waits(answer)).await
+    }
+
+    /// Whether a lease is asked for that would live for longer than any may.
+    fn is_too_far(&self, wish: &Wish, now: u64) -> bool {
+        let longest = self.shared.duties.lease_seconds;
+        longest != 0 && wish.end > now.saturating_add(longest)
     }
 
     async fn refuse(&self, head: Head, frame: Arc<Permits>, refusal: Refusal) -> Result<(), End> {

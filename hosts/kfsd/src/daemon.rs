@@ -3,8 +3,10 @@
 use crate::config::{Config, ConfigFault};
 use crate::connection::Shared;
 use crate::desk::{Desk, DeskFault};
+use crate::duties;
 use crate::figures::Figures;
 use crate::folder::Folder;
+use crate::following::Following;
 use crate::queue::Queue;
 use crate::sockets::{accept, Sockets};
 use crate::users::{lines_of, Table};
@@ -22,6 +24,9 @@ use tracing::{info, warn};
 
 /// How long to wait before the lock of a folder is tried again.
 const AGAIN: Duration = Duration::from_millis(100);
+
+/// How long the last tick may take.
+const LAST_TICK: Duration = Duration::from_secs(1);
 
 /// Descriptors beside those of connections.
 const OTHER_FILES: u64 = 64;
@@ -124,13 +129,15 @@ impl Daemon {
             queue: Queue::default(),
             figures: Figures::default(),
             limits: config.limits,
+            duties: config.duties,
+            following: Following::default(),
             table: tables,
             stopping: stops,
         });
         let desk = Desk { program: config.program.clone(), folder: Arc::new(folder), rows: config.rows, tiers: config.tiers };
         let of_desk = Arc::clone(&shared);
         let desk = tokio::spawn(async move {
-            let ended = desk.run(&of_desk.queue, &of_desk.figures, &is_ready).await;
+            let ended = desk.run(&of_desk, &is_ready).await;
             // Nobody answers any more.
             of_desk.queue.give_up();
             ended
@@ -141,6 +148,7 @@ impl Daemon {
     /// Serves connections until a signal says to stop, or the desk is lost.
     async fn serve(mut self, sockets: Sockets, mut signals: Signals) -> Result<(), DaemonFault> {
         let accepting = tokio::spawn(accept(sockets, Arc::clone(&self.shared)));
+        let ticking = tokio::spawn(duties::tick_on(Arc::clone(&self.shared)));
         let lost = loop {
             tokio::select! {
                 asked = signals.next() => match asked {
@@ -154,6 +162,9 @@ impl Daemon {
         self.stopping.send_replace(true);
         if timeout(self.config.limits.stop_time(), accepting).await.is_err() {
             warn!("some connections haven't ended in time");
+        }
+        if timeout(LAST_TICK, ticking).await.is_err() {
+            warn!("the desk isn't told the last moment in time");
         }
         match lost {
             Some(ended) => Ok(ended??),

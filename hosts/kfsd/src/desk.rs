@@ -1,9 +1,9 @@
 //! `kfs_serve`: the process, its two pipes, and a new one where it ends before its time.
 
-use crate::figures::Figures;
+use crate::connection::Shared;
 use crate::folder::{Folder, Found};
 use crate::frames::{read_reply, Head, Reply};
-use crate::queue::{Answer, Batch, Queue, Sent};
+use crate::queue::{Answer, Batch, Sent};
 use crate::users::FRONT;
 use std::collections::VecDeque;
 use std::ffi::OsString;
@@ -91,6 +91,11 @@ impl Flight {
         self.under().sent.len()
     }
 
+    /// How many frames of clients aren't answered.
+    fn count_of_clients(&self) -> usize {
+        self.under().sent.iter().filter(|one| one.client != FRONT).count()
+    }
+
     /// Waits until there is room, and tells how many bytes of it.
     async fn room(&self) -> usize {
         loop {
@@ -125,10 +130,11 @@ impl Flight {
 impl Desk {
     /// Has `kfs_serve` answer the calls of the queue, until the queue is closed and empty. `ready` becomes true when the
     /// files are open for the first time.
-    pub async fn run(&self, queue: &Queue, figures: &Figures, ready: &watch::Sender<bool>) -> Result<(), DeskFault> {
+    pub async fn run(&self, shared: &Shared, ready: &watch::Sender<bool>) -> Result<(), DeskFault> {
         let mut fruitless = 0;
         loop {
-            let ended = self.once(queue, figures, ready).await?;
+            shared.following.read(self.folder.path()).map_err(DeskFault::Folder)?;
+            let ended = self.once(shared, ready).await?;
             if ended.is_done {
                 return Ok(());
             }
@@ -143,7 +149,8 @@ impl Desk {
     }
 
     /// Starts a process, and has it answer calls until it ends.
-    async fn once(&self, queue: &Queue, figures: &Figures, ready: &watch::Sender<bool>) -> Result<Ended, DeskFault> {
+    async fn once(&self, shared: &Shared, ready: &watch::Sender<bool>) -> Result<Ended, DeskFault> {
+        let figures = &shared.figures;
         let (mut child, mut to, from) = self.start()?;
         figures.starts.add(1);
         figures.process.set(child.id().map_or(0, u64::from));
@@ -155,7 +162,7 @@ impl Desk {
             info!("kfs_serve is ready");
             figures.opened.set(1);
             ready.send_replace(true);
-            is_done = talk(to, &mut from, queue, &flight, figures).await;
+            is_done = talk(to, &mut from, shared, &flight).await;
         } else {
             drop(to);
         }
@@ -163,7 +170,7 @@ impl Desk {
         let status = end(&mut child, &self.program).await?;
         figures.process.set(0);
         // Dropped, each asker hears that nobody knows.
-        figures.unknown.add(flight.count());
+        figures.unknown.add(flight.count_of_clients());
         Ok(Ended { status, is_done: is_done && status.success(), has_begun })
     }
 
@@ -217,9 +224,9 @@ async fn is_open(to: &mut (impl AsyncWrite + Unpin), from: &mut (impl AsyncRead 
 }
 
 /// Sends calls and hands their answers out. Answers whether the queue has ended, and all calls were answered.
-async fn talk(to: ChildStdin, from: &mut (impl AsyncRead + Unpin), queue: &Queue, flight: &Flight, figures: &Figures) -> bool {
-    let writing = write_calls(to, queue, flight, figures);
-    let reading = read_replies(from, flight, figures);
+async fn talk(to: ChildStdin, from: &mut (impl AsyncRead + Unpin), shared: &Shared, flight: &Flight) -> bool {
+    let writing = write_calls(to, shared, flight);
+    let reading = read_replies(from, shared, flight);
     tokio::pin!(writing, reading);
     let is_sent = tokio::select! {
         sent = &mut writing => match sent {
@@ -244,9 +251,9 @@ fn say_why(read: io::Result<()>) {
 }
 
 /// Sends calls until the queue has ended. Then the input of `kfs_serve` ends, too.
-async fn write_calls(mut to: ChildStdin, queue: &Queue, flight: &Flight, figures: &Figures) -> io::Result<()> {
-    while let Some(Batch { bytes, sent }) = queue.next(flight.room().await).await {
-        figures.sent.add(sent.len());
+async fn write_calls(mut to: ChildStdin, shared: &Shared, flight: &Flight) -> io::Result<()> {
+    while let Some(Batch { bytes, sent }) = shared.queue.next(flight.room().await).await {
+        shared.figures.sent.add(sent.iter().filter(|one| one.client != FRONT).count());
         flight.add(sent);
         to.write_all(&bytes).await?;
     }
@@ -254,11 +261,15 @@ async fn write_calls(mut to: ChildStdin, queue: &Queue, flight: &Flight, figures
 }
 
 /// Hands answers out until the output of `kfs_serve` ends.
-async fn read_replies(from: &mut (impl AsyncRead + Unpin), flight: &Flight, figures: &Figures) -> io::Result<()> {
+async fn read_replies(from: &mut (impl AsyncRead + Unpin), shared: &Shared, flight: &Flight) -> io::Result<()> {
     while let Some(reply) = read_reply(from).await? {
         let wrong = || io::Error::new(io::ErrorKind::InvalidData, format!("a reply to frame {}", reply.number));
         let sent = flight.take(reply.number).ok_or_else(wrong)?;
-        figures.answered.add(1);
+        let count = if sent.client == FRONT { &shared.figures.own } else { &shared.figures.answered };
+        count.add(1);
+        if let Some(answer) = reply.answer() {
+            shared.following.answered(&sent.note, answer);
+        }
         // Where the connection is gone nobody hears it.
         let _ = sent.asker.to.send(Answer::Said(reply));
     }

@@ -35,8 +35,9 @@ pub struct Figures {
     pub sent: Count,
     pub answered: Count,
     pub unknown: Count,
-    /// Frames that kfsd answered itself.
+    /// Frames that kfsd answered itself, and calls of its own that were answered.
     pub answered_here: Count,
+    pub own: Count,
     /// Connections that were ended because a frame came or a reply went too slowly.
     pub too_slow: Count,
     /// How often `kfs_serve` was started, and its process now; 0 where there is none. 1 where that has opened its files.
@@ -75,6 +76,7 @@ struct FrameStatus {
     answered: u64,
     unknown: u64,
     answered_here: u64,
+    own: u64,
 }
 
 #[derive(Debug, Serialize)]
@@ -112,6 +114,7 @@ pub fn status(figures: &Figures, table: &Table, waiting_calls: usize) -> Result<
             answered: figures.answered.get(),
             unknown: figures.unknown.get(),
             answered_here: figures.answered_here.get(),
+            own: figures.own.get(),
         },
         user: user.collect(),
     })

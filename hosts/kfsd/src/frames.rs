@@ -13,6 +13,9 @@ pub const REPLY_HEAD: usize = 8;
 /// The most bytes behind the head of a reply. An answer has at most 20, and its tag.
 pub const REPLY_LIMIT: u32 = 1024;
 
+/// The tag of a reply with an answer: a position (4), and what the desk says.
+const ANSWERED: u8 = 1;
+
 /// The tag of a reply that refuses.
 const REFUSED: u8 = 2;
 
@@ -21,6 +24,9 @@ const HELLO: u8 = 0xf0;
 
 /// The tag of kfsd's answer to it.
 const WELCOME: u8 = 0xf0;
+
+/// The tag of a body that asks kfsd for the moment, and of the answer.
+const MOMENT: u8 = 0xf1;
 
 /// What stands before a body.
 #[derive(Clone, Copy, Debug, PartialEq, Eq)]
@@ -68,6 +74,8 @@ pub enum Refusal {
     Unlisted = 130,
     /// The user, or all users, have as many connections as they may. The connection ends.
     TooMany = 131,
+    /// The lease would live for longer than any may. Nothing was done.
+    TooFar = 132,
 }
 
 impl Refusal {
@@ -96,11 +104,22 @@ pub fn welcome(number: u32, client: u32, grant: [u32; 2]) -> Vec<u8> {
     reply(number, &said)
 }
 
+/// The reply that tells the moment, and how many seconds a lease may live; 0 where that isn't limited.
+pub fn moment(number: u32, now: u64, longest: u64) -> Vec<u8> {
+    let mut said = vec![MOMENT];
+    for long in [now, longest] {
+        said.extend_from_slice(&long.to_be_bytes());
+    }
+    reply(number, &said)
+}
+
 /// What a body asks for, as far as kfsd looks into it.
 #[derive(Clone, Copy, Debug, PartialEq, Eq)]
 pub enum Asked {
     /// Who the client is. kfsd answers.
     Hello,
+    /// The moment. kfsd answers.
+    Moment,
     /// A call of this client.
     Of(u32),
     /// A call that is the front's alone.
@@ -113,6 +132,7 @@ pub enum Asked {
 pub fn asked(body: &[u8]) -> Asked {
     match *body {
         [HELLO] => Asked::Hello,
+        [MOMENT] => Asked::Moment,
         [1 | 2 | 3 | 6, a, b, c, d, ..] => Asked::Of(u32::from_be_bytes([a, b, c, d])),
         [4 | 5, ..] => Asked::OfFront,
         _ => Asked::Other,
@@ -125,6 +145,16 @@ pub struct Reply {
     pub number: u32,
     /// What stands behind the head.
     pub said: Vec<u8>,
+}
+
+impl Reply {
+    /// The answer, without its position; none where the frame is refused.
+    pub fn answer(&self) -> Option<&[u8]> {
+        match self.said.as_slice() {
+            [ANSWERED, _, _, _, _, answer @ ..] => Some(answer),
+            _ => None,
+        }
+    }
 }
 
 /// The next reply, or none where the output ends.
@@ -172,6 +202,7 @@ mod tests {
         assert_eq!(asked(&[]), Asked::Other);
         assert_eq!(asked(&[7, 0, 0, 0, 1]), Asked::Other);
         assert_eq!(asked(&[HELLO]), Asked::Hello);
+        assert_eq!(asked(&[MOMENT]), Asked::Moment);
         assert_eq!(asked(&[HELLO, 0]), Asked::Other);
     }
 

@@ -6,14 +6,21 @@
 
 #![forbid(unsafe_code)]
 
+pub mod bytes;
+pub mod calls;
+pub mod clock;
 pub mod config;
 pub mod connection;
 pub mod control;
 pub mod daemon;
 pub mod desk;
+pub mod duties;
 pub mod figures;
 pub mod folder;
+pub mod following;
 pub mod frames;
+pub mod journal;
+pub mod leases;
 pub mod peer;
 pub mod queue;
 pub mod sockets;

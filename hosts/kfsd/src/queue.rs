@@ -1,7 +1,9 @@
 //! The calls that wait for `kfs_serve`, by client. Clients take turns by bytes, so none waits for all that another has sent.
 
+use crate::calls::Note;
 use crate::config::FRAME_COST;
 use crate::frames::{Head, Reply, HEAD};
+use crate::users::FRONT;
 use std::collections::{HashMap, VecDeque};
 use std::sync::{Mutex, MutexGuard, PoisonError};
 use tokio::sync::{oneshot, Notify, OwnedSemaphorePermit};
@@ -31,8 +33,10 @@ pub struct Call {
     /// The client that sends it, as the kernel's answer and the table of users say.
     pub client: u32,
     pub body: Vec<u8>,
-    /// The bytes that it takes, until it is sent.
-    pub bytes: Permits,
+    /// What kfsd follows of it.
+    pub note: Note,
+    /// The bytes that it takes, until it is sent. None of kfsd's own.
+    pub bytes: Option<Permits>,
     pub asker: Asker,
 }
 
@@ -40,8 +44,8 @@ pub struct Call {
 #[derive(Debug)]
 pub struct Asker {
     pub to: oneshot::Sender<Answer>,
-    /// The place among the frames that are under way. Its connection holds it, too.
-    pub frame: std::sync::Arc<Permits>,
+    /// The place among the frames that are under way. Its connection holds it, too. None of kfsd's own.
+    pub frame: Option<std::sync::Arc<Permits>>,
 }
 
 impl Call {
@@ -54,6 +58,8 @@ impl Call {
 #[derive(Debug)]
 pub struct Sent {
     pub number: u32,
+    pub client: u32,
+    pub note: Note,
     /// How many bytes it has.
     pub length: usize,
     pub asker: Asker,
@@ -109,6 +115,13 @@ impl Queue {
         lines.push(call);
         drop(lines);
         self.changed.notify_one();
+    }
+
+    /// Puts a call of kfsd's own in line. Where the answer is dropped, nobody knows it.
+    pub fn push_own(&self, body: Vec<u8>) -> oneshot::Receiver<Answer> {
+        let (to, answer) = oneshot::channel();
+        self.push(Call { client: FRONT, body, note: Note::Nothing, bytes: None, asker: Asker { to, frame: None } });
+        answer
     }
 
     /// How many calls wait.
@@ -181,7 +194,8 @@ impl Lines {
             let head = Head { length: call.body.len() as u32, number, from: call.client };
             batch.bytes.extend_from_slice(&head.bytes());
             batch.bytes.extend_from_slice(&call.body);
-            batch.sent.push(Sent { number, length: HEAD + call.body.len(), asker: call.asker });
+            let Call { client, body, note, asker, .. } = call;
+            batch.sent.push(Sent { number, client, note, length: HEAD + body.len(), asker });
         }
         batch
     }
@@ -228,8 +242,8 @@ mod tests {
 
     fn call(client: u32, length: usize) -> (Call, oneshot::Receiver<Answer>) {
         let (to, answer) = oneshot::channel();
-        let asker = Asker { to, frame: Arc::new(permits()) };
-        (Call { client, body: vec![7; length], bytes: permits(), asker }, answer)
+        let asker = Asker { to, frame: Some(Arc::new(permits())) };
+        (Call { client, body: vec![7; length], note: Note::Nothing, bytes: Some(permits()), asker }, answer)
     }
 
     /// The clients of the frames in these bytes, with the length of each body.
@@ -292,6 +306,17 @@ mod tests {
         }
         // 8,192 bytes of frames that cost 276 each
         assert_eq!(before, [29; 20]);
+    }
+
+    #[tokio::test]
+    async fn a_call_of_its_own_is_from_the_front() {
+        let queue = Queue::default();
+        queue.push(call(7, 3).0);
+        let answer = queue.push_own(vec![4; 9]);
+        let batch = queue.next(MOST).await.unwrap();
+        assert_eq!(clients_in(&batch.bytes), [(7, 3), (FRONT, 9)]);
+        drop(batch);
+        assert!(answer.await.is_err());
     }
 
     #[tokio::test]

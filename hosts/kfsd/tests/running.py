@@ -20,8 +20,10 @@ import frames  # noqa: E402
 from frames import FRONT, frame  # noqa: E402,F401
 
 # What kfsd refuses by itself (docs/KFSD.md).
-frames.REFUSALS |= {128: "Unknown", 129: "Stopping", 130: "Unlisted", 131: "TooMany"}
-HELLO = b"\xf0"
+frames.REFUSALS |= {128: "Unknown", 129: "Stopping", 130: "Unlisted", 131: "TooMany", 132: "TooFar"}
+HELLO, MOMENT = b"\xf0", b"\xf1"
+# The tags of calls that are the front's.
+FRONTS = (4, 5)
 # How long a test waits for what is due at once.
 SOON = 30
 
@@ -99,6 +101,13 @@ class Connection:
         assert reply.number == number, (reply, number)
         return reply
 
+    def moment(self, number=0):
+        """The moment, and how many seconds a lease may live."""
+        self.send(number, MOMENT)
+        found, said = self.next()
+        assert found == number and said[0] == MOMENT[0], (found, said)
+        return struct.unpack(">QQ", said[1:])
+
     def is_ended(self):
         """Whether the other end has closed, with nothing more to read."""
         try:
@@ -114,8 +123,10 @@ class Connection:
 class Daemon:
     """A kfsd with a folder of its own."""
 
-    def __init__(self, binaries, program, users=None, tiers=(64, 64, 64), **limits):
+    def __init__(self, binaries, program, users=None, tiers=(64, 64, 64), duties=None, **limits):
         self.binaries, self.users, self.limits, self.tiers = binaries, list(USERS if users is None else users), limits, tiers
+        # most tests ask for leases up to any end, and count seconds of none
+        self.duties = {"lease_seconds": 0, **(duties or {})}
         self.room = tempfile.mkdtemp(prefix="kfsd-")
         os.chmod(self.room, 0o755)
         self.folder, self.program = f"{self.room}/desk", program
@@ -139,6 +150,7 @@ class Daemon:
         lines = [f'{name} = "{self.room}/{name}"' for name in ("socket", "control")]
         lines += [f'folder = "{self.folder}"', f'program = "{self.program}"', f"tiers = {list(self.tiers)}", "[limits]"]
         lines += [f"{name} = {value}" for name, value in self.limits.items()]
+        lines += ["[duties]", *(f"{name} = {value}" for name, value in self.duties.items())]
         for it in self.users:
             lines += ["[[user]]", *(f"{name} = {json.dumps(value)}" for name, value in it.items())]
         with open(f"{self.room}/kfsd.toml", "w", encoding="utf-8") as it:
@@ -229,8 +241,8 @@ class Daemon:
             return int(it.read().split()[1]) * os.sysconf("SC_PAGE_SIZE")
 
     def kept(self):
-        """The calls in the file that counts."""
-        return kept_in(self.folder)[1]
+        """The calls of clients in the file that counts. Ticks and moves are kfsd's own."""
+        return [call for call in kept_in(self.folder)[1] if call[0] not in FRONTS]
 
 
 def pretender(daemon, text):
