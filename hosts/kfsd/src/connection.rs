@@ -6,7 +6,8 @@ use crate::calls::{Note, Wish};
 use crate::config::{Duties, Limits, FRAME_COST};
 use crate::figures::Figures;
 use crate::following::Following;
-use crate::frames::{asked, moment, reply, welcome, Asked, Head, Refusal, HEAD};
+use crate::frames::{asked, moment, reply, told_again, welcome, Asked, Head, Refusal, HEAD, NUMBERED_HEAD};
+use crate::outcomes::Stands;
 use crate::queue::{Answer, Asker, Call, Permits, Queue};
 use crate::users::{Account, Place, Table};
 use std::io;
@@ -187,36 +188,61 @@ impl<R: AsyncRead + Unpin> Reader<'_, R> {
     }
 
     /// Answers a frame that is whole, or hands it to the desk.
-    async fn answer(&self, head: Head, body: Vec<u8>, bytes: Permits, frame: Arc<Permits>) -> Result<(), End> {
+    async fn answer(&self, head: Head, mut body: Vec<u8>, bytes: Permits, frame: Arc<Permits>) -> Result<(), End> {
         let client = self.account.user.client;
         let what = asked(&body);
-        let is_own = head.from == client && what != Asked::OfFront && !matches!(what, Asked::Of(other) if other != client);
-        if !is_own {
+        let is_others = matches!(what, Asked::Of(other) | Asked::Numbered(other, _) if other != client);
+        if head.from != client || what == Asked::OfFront || is_others {
             return self.refuse(head, frame, Refusal::NotYours).await;
         }
-        let now = self.shared.following.clock.now();
-        let longest = self.shared.duties.lease_seconds;
-        match what {
-            Asked::Hello => {
-                let said = welcome(head.number, client, self.account.user.grant);
-                return self.put(head, frame, Said::Here(said)).await;
-            }
-            Asked::Moment => return self.put(head, frame, Said::Here(moment(head.number, now, longest))).await,
-            _ => {}
+        if let Some(said) = self.said_here(head.number, what) {
+            return self.put(head, frame, Said::Here(said)).await;
+        }
+        let mut number = None;
+        if let Asked::Numbered(_, own) = what {
+            body.drain(..NUMBERED_HEAD);
+            number = Some(own);
         }
         let note = Note::of(&body);
-        if matches!(&note, Note::Lease(wish) if self.is_too_far(wish, now)) {
+        if matches!(&note, Note::Lease(wish) if self.is_too_far(wish)) {
             return self.refuse(head, frame, Refusal::TooFar).await;
+        }
+        if let Some(said) = number.and_then(|own| self.said_before(head.number, own)) {
+            return self.put(head, frame, Said::Here(said)).await;
         }
         let (to, answer) = oneshot::channel();
         let asker = Asker { to, frame: Some(Arc::clone(&frame)) };
-        self.shared.queue.push(Call { client, body, note, bytes: Some(bytes), asker });
+        self.shared.queue.push(Call { client, body, note, number, bytes: Some(bytes), asker });
         self.put(head, frame, Said::Waits(answer)).await
     }
 
+    /// The reply to what kfsd itself is asked.
+    fn said_here(&self, number: u32, what: Asked) -> Option<Vec<u8>> {
+        let (user, following) = (&self.account.user, &self.shared.following);
+        match what {
+            Asked::Hello => Some(welcome(number, user.client, user.grant)),
+            Asked::Moment => Some(moment(number, following.clock.now(), self.shared.duties.lease_seconds)),
+            Asked::Outcome(own) => Some(match following.outcomes.look(user.client, own) {
+                Stands::Done(answer) => told_again(number, &answer),
+                Stands::UnderWay => Refusal::UnderWay.reply(number),
+                Stands::New => Refusal::NotThere.reply(number),
+            }),
+            _ => None,
+        }
+    }
+
+    /// The reply to a numbered call that isn't new. A new one is under way from now on.
+    fn said_before(&self, number: u32, own: u64) -> Option<Vec<u8>> {
+        match self.shared.following.outcomes.begin(self.account.user.client, own) {
+            Stands::Done(answer) => Some(told_again(number, &answer)),
+            Stands::UnderWay => Some(Refusal::UnderWay.reply(number)),
+            Stands::New => None,
+        }
+    }
+
     /// Whether a lease is asked for that would live for longer than any may.
-    fn is_too_far(&self, wish: &Wish, now: u64) -> bool {
-        let longest = self.shared.duties.lease_seconds;
+    fn is_too_far(&self, wish: &Wish) -> bool {
+        let (now, longest) = (self.shared.following.clock.now(), self.shared.duties.lease_seconds);
         longest != 0 && wish.end > now.saturating_add(longest)
     }
 

@@ -5,15 +5,16 @@ use crate::connection::Shared;
 use crate::desk::{Desk, DeskFault};
 use crate::duties;
 use crate::figures::Figures;
-use crate::folder::Folder;
+use crate::folder::{Folder, Found};
 use crate::following::Following;
 use crate::queue::Queue;
 use crate::sockets::{accept, Sockets};
+use crate::store::Store;
 use crate::users::{lines_of, Table};
 use nix::sys::resource::{getrlimit, setrlimit, Resource};
 use std::io;
 use std::path::{Path, PathBuf};
-use std::sync::Arc;
+use std::sync::{Arc, Mutex};
 use std::time::Duration;
 use thiserror::Error;
 use tokio::signal::unix::{signal, SignalKind};
@@ -58,8 +59,10 @@ impl DaemonFault {
     /// The exit status: 3 where the desk's files have failed, 4 where `kfs_serve` doesn't run or doesn't end, and else 1.
     pub fn status(&self) -> u8 {
         match self {
-            DaemonFault::Desk(DeskFault::Files | DeskFault::HalfMade(_) | DeskFault::Folder(_)) => 3,
-            DaemonFault::Desk(DeskFault::Fruitless(_)) | DaemonFault::Killed | DaemonFault::Task(_) => 4,
+            DaemonFault::Desk(DeskFault::Files | DeskFault::HalfMade(_) | DeskFault::Folder(_) | DeskFault::Store(_)) => 3,
+            DaemonFault::Desk(DeskFault::Fruitless(_) | DeskFault::Keeping(_)) | DaemonFault::Killed | DaemonFault::Task(_) => {
+                4
+            }
             // A program that isn't there is the configuration's fault, and one that can't be run for now isn't.
             DaemonFault::Desk(DeskFault::Process(_, fault)) if !is_wrong_path(fault) => 4,
             _ => 1,
@@ -134,7 +137,13 @@ impl Daemon {
             table: tables,
             stopping: stops,
         });
-        let desk = Desk { program: config.program.clone(), folder: Arc::new(folder), rows: config.rows, tiers: config.tiers };
+        let desk = Desk {
+            program: config.program.clone(),
+            store: Arc::new(Mutex::new(open_store(&folder)?)),
+            folder,
+            rows: config.rows,
+            tiers: config.tiers,
+        };
         let of_desk = Arc::clone(&shared);
         let desk = tokio::spawn(async move {
             let ended = desk.run(&of_desk, &is_ready).await;
@@ -209,6 +218,12 @@ fn table_of(config: &Config, clients: &str, before: &Table) -> Table {
         warn!("user {} is kept out: the desk was begun without `{}`, and takes no new client", user.uid, user.line());
     }
     table
+}
+
+/// Opens what kfsd itself keeps. A desk that isn't there yet has nothing of it.
+fn open_store(folder: &Folder) -> Result<Store, DaemonFault> {
+    let is_new = folder.files().map_err(DeskFault::Folder)? == Found::None;
+    Ok(Store::open(folder.path(), is_new).map_err(DeskFault::Store)?)
 }
 
 /// Locks the folder. The `kfs_serve` of a daemon that was killed ends soon, since its input has ended.

@@ -28,6 +28,15 @@ const WELCOME: u8 = 0xf0;
 /// The tag of a body that asks kfsd for the moment, and of the answer.
 const MOMENT: u8 = 0xf1;
 
+/// The tag before a number (8) and a call: the call is made once under this number. Without a call it asks how it ended.
+const NUMBERED: u8 = 0xf2;
+
+/// How many bytes stand before the call.
+pub const NUMBERED_HEAD: usize = 9;
+
+/// What stands for the position in an answer that is told again.
+const NO_POSITION: [u8; 4] = [0xff; 4];
+
 /// What stands before a body.
 #[derive(Clone, Copy, Debug, PartialEq, Eq)]
 pub struct Head {
@@ -76,6 +85,10 @@ pub enum Refusal {
     TooMany = 131,
     /// The lease would live for longer than any may. Nothing was done.
     TooFar = 132,
+    /// The call of this number is under way. Ask again.
+    UnderWay = 133,
+    /// No call of this number has been made, or so many others since that it is forgotten.
+    NotThere = 134,
 }
 
 impl Refusal {
@@ -104,6 +117,19 @@ pub fn welcome(number: u32, client: u32, grant: [u32; 2]) -> Vec<u8> {
     reply(number, &said)
 }
 
+/// The reply with an answer that was given before, or may have been.
+pub fn told_again(number: u32, answer: &[u8]) -> Vec<u8> {
+    reply(number, &said_again(answer))
+}
+
+/// What stands behind the head of that reply.
+pub fn said_again(answer: &[u8]) -> Vec<u8> {
+    let mut said = vec![ANSWERED];
+    said.extend_from_slice(&NO_POSITION);
+    said.extend_from_slice(answer);
+    said
+}
+
 /// The reply that tells the moment, and how many seconds a lease may live; 0 where that isn't limited.
 pub fn moment(number: u32, now: u64, longest: u64) -> Vec<u8> {
     let mut said = vec![MOMENT];
@@ -120,8 +146,12 @@ pub enum Asked {
     Hello,
     /// The moment. kfsd answers.
     Moment,
+    /// How the call of this number ended. kfsd answers.
+    Outcome(u64),
     /// A call of this client.
     Of(u32),
+    /// A call of this client, under this number.
+    Numbered(u32, u64),
     /// A call that is the front's alone.
     OfFront,
     /// Something else, of which `kfs_serve` decides.
@@ -133,6 +163,14 @@ pub fn asked(body: &[u8]) -> Asked {
     match *body {
         [HELLO] => Asked::Hello,
         [MOMENT] => Asked::Moment,
+        [NUMBERED, n0, n1, n2, n3, n4, n5, n6, n7, ref call @ ..] => {
+            let number = u64::from_be_bytes([n0, n1, n2, n3, n4, n5, n6, n7]);
+            match asked(call) {
+                _ if call.is_empty() => Asked::Outcome(number),
+                Asked::Of(client) => Asked::Numbered(client, number),
+                _ => Asked::OfFront,
+            }
+        }
         [1 | 2 | 3 | 6, a, b, c, d, ..] => Asked::Of(u32::from_be_bytes([a, b, c, d])),
         [4 | 5, ..] => Asked::OfFront,
         _ => Asked::Other,
@@ -203,6 +241,12 @@ mod tests {
         assert_eq!(asked(&[7, 0, 0, 0, 1]), Asked::Other);
         assert_eq!(asked(&[HELLO]), Asked::Hello);
         assert_eq!(asked(&[MOMENT]), Asked::Moment);
+        assert_eq!(asked(&[NUMBERED, 0, 0, 0, 0, 0, 0, 1, 0]), Asked::Outcome(256));
+        assert_eq!(asked(&[NUMBERED, 0, 0, 0, 0, 0, 0, 1, 0, 1, 0, 0, 0, 7]), Asked::Numbered(7, 256));
+        for call in [4, HELLO, NUMBERED] {
+            assert_eq!(asked(&[NUMBERED, 0, 0, 0, 0, 0, 0, 1, 0, call]), Asked::OfFront);
+        }
+        assert_eq!(asked(&[NUMBERED, 0]), Asked::Other);
         assert_eq!(asked(&[HELLO, 0]), Asked::Other);
     }
 

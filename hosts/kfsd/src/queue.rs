@@ -3,6 +3,7 @@
 use crate::calls::Note;
 use crate::config::FRAME_COST;
 use crate::frames::{Head, Reply, HEAD};
+use crate::outcomes::{Marker, MARKER};
 use crate::users::FRONT;
 use std::collections::{HashMap, VecDeque};
 use std::sync::{Mutex, MutexGuard, PoisonError};
@@ -35,6 +36,8 @@ pub struct Call {
     pub body: Vec<u8>,
     /// What kfsd follows of it.
     pub note: Note,
+    /// The client's own number for it, where it has one.
+    pub number: Option<u64>,
     /// The bytes that it takes, until it is sent. None of kfsd's own.
     pub bytes: Option<Permits>,
     pub asker: Asker,
@@ -52,6 +55,12 @@ impl Call {
     fn cost(&self) -> usize {
         self.body.len() + FRAME_COST as usize
     }
+
+    /// How many bytes are sent for it, with its marker.
+    fn length(&self) -> usize {
+        let marker = self.number.map_or(0, |_| HEAD + MARKER);
+        marker + HEAD + self.body.len()
+    }
 }
 
 /// A frame that is sent.
@@ -60,9 +69,12 @@ pub struct Sent {
     pub number: u32,
     pub client: u32,
     pub note: Note,
+    /// The client's own number for it.
+    pub numbered: Option<u64>,
     /// How many bytes it has.
     pub length: usize,
-    pub asker: Asker,
+    /// None where it is a marker.
+    pub asker: Option<Asker>,
 }
 
 /// Calls that are sent at once.
@@ -120,7 +132,14 @@ impl Queue {
     /// Puts a call of kfsd's own in line. Where the answer is dropped, nobody knows it.
     pub fn push_own(&self, body: Vec<u8>) -> oneshot::Receiver<Answer> {
         let (to, answer) = oneshot::channel();
-        self.push(Call { client: FRONT, body, note: Note::Nothing, bytes: None, asker: Asker { to, frame: None } });
+        self.push(Call {
+            client: FRONT,
+            body,
+            note: Note::Nothing,
+            number: None,
+            bytes: None,
+            asker: Asker { to, frame: None },
+        });
         answer
     }
 
@@ -188,16 +207,27 @@ impl Lines {
     fn batch(&mut self, most: usize) -> Batch {
         let mut batch = Batch::default();
         while let Some(call) = self.pop(most.saturating_sub(batch.bytes.len()), batch.sent.is_empty()) {
-            let number = self.next_number;
-            self.next_number = number.wrapping_add(1);
-            // Bodies have at most 16,777,216 bytes.
-            let head = Head { length: call.body.len() as u32, number, from: call.client };
-            batch.bytes.extend_from_slice(&head.bytes());
-            batch.bytes.extend_from_slice(&call.body);
-            let Call { client, body, note, asker, .. } = call;
-            batch.sent.push(Sent { number, client, note, length: HEAD + body.len(), asker });
+            if let Some(number) = call.number {
+                let marker = Marker::new(call.client, number, &call.body).bytes();
+                let number = self.put(&mut batch.bytes, FRONT, &marker);
+                let length = HEAD + MARKER;
+                batch.sent.push(Sent { number, client: FRONT, note: Note::Nothing, numbered: None, length, asker: None });
+            }
+            let number = self.put(&mut batch.bytes, call.client, &call.body);
+            let Call { client, body, note, number: numbered, asker, .. } = call;
+            batch.sent.push(Sent { number, client, note, numbered, length: HEAD + body.len(), asker: Some(asker) });
         }
         batch
+    }
+
+    /// Puts a frame behind these bytes, and tells its number.
+    fn put(&mut self, bytes: &mut Vec<u8>, from: u32, body: &[u8]) -> u32 {
+        let number = self.next_number;
+        self.next_number = number.wrapping_add(1);
+        // Bodies have at most 16,777,216 bytes.
+        bytes.extend_from_slice(&Head { length: body.len() as u32, number, from }.bytes());
+        bytes.extend_from_slice(body);
+        number
     }
 
     /// The next call, where there is one and it fits in so many bytes or is the first.
@@ -205,7 +235,7 @@ impl Lines {
         loop {
             let client = *self.turns.front()?;
             let line = self.of.get_mut(&client)?;
-            let (cost, length) = line.calls.front().map(|call| (call.cost(), call.body.len() + HEAD))?;
+            let (cost, length) = line.calls.front().map(|call| (call.cost(), call.length()))?;
             if cost > line.credit {
                 line.credit += TURN;
                 self.turns.rotate_left(1);
@@ -243,7 +273,7 @@ mod tests {
     fn call(client: u32, length: usize) -> (Call, oneshot::Receiver<Answer>) {
         let (to, answer) = oneshot::channel();
         let asker = Asker { to, frame: Some(Arc::new(permits())) };
-        (Call { client, body: vec![7; length], note: Note::Nothing, bytes: Some(permits()), asker }, answer)
+        (Call { client, body: vec![7; length], note: Note::Nothing, number: None, bytes: Some(permits()), asker }, answer)
     }
 
     /// The clients of the frames in these bytes, with the length of each body.
@@ -317,6 +347,18 @@ mod tests {
         assert_eq!(clients_in(&batch.bytes), [(7, 3), (FRONT, 9)]);
         drop(batch);
         assert!(answer.await.is_err());
+    }
+
+    #[tokio::test]
+    async fn a_marker_stands_before_a_numbered_call() {
+        let queue = Queue::default();
+        let (mut one, _answer) = call(7, 3);
+        one.number = Some(9);
+        queue.push(one);
+        let batch = queue.next(MOST).await.unwrap();
+        assert_eq!(clients_in(&batch.bytes), [(FRONT, MARKER as u32), (7, 3)]);
+        assert_eq!(Marker::of(&batch.bytes[HEAD..HEAD + MARKER]), Some(Marker::new(7, 9, &[7; 3])));
+        assert_eq!(batch.sent.iter().map(|sent| sent.numbered).collect::<Vec<_>>(), [None, Some(9)]);
     }
 
     #[tokio::test]

@@ -20,7 +20,7 @@ import frames  # noqa: E402
 from frames import FRONT, frame  # noqa: E402,F401
 
 # What kfsd refuses by itself (docs/KFSD.md).
-frames.REFUSALS |= {128: "Unknown", 129: "Stopping", 130: "Unlisted", 131: "TooMany", 132: "TooFar"}
+frames.REFUSALS |= {128: "Unknown", 129: "Stopping", 130: "Unlisted", 131: "TooMany", 132: "TooFar", 133: "UnderWay", 134: "NotThere"}
 HELLO, MOMENT = b"\xf0", b"\xf1"
 # The tags of calls that are the front's.
 FRONTS = (4, 5)
@@ -47,6 +47,11 @@ def lease(client, end, path=b"/", writes=False):
 def user(uid, client, grant=(1, 0), gid=None):
     """A user of the configuration, without numbers to give where it says no grant."""
     return {"uid": uid, "gid": uid if gid is None else gid, "client": client, "grant": list(grant)}
+
+
+def numbered(number, call=b""):
+    """A call under a number of the client's own; without a call the question how it ended."""
+    return b"\xf2" + struct.pack(">Q", number) + call
 
 
 USERS = [user(1000, 7, (2, 99)), user(1001, 8, (100, 199)), user(1002, 9, (200, 299))]
