@@ -8,7 +8,7 @@ const TICK: u8 = 4;
 const LEASE_BY_NUMBER: u8 = 6;
 
 /// What a lease is asked on.
-#[derive(Clone, Debug, PartialEq, Eq)]
+#[derive(Clone, Debug, PartialEq, Eq, Hash)]
 pub enum On {
     Path(Vec<u8>),
     Node(u32),

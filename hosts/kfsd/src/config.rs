@@ -17,7 +17,7 @@ pub enum ConfigFault {
     Unread(PathBuf, std::io::Error),
     #[error("{0}: {1}")]
     Toml(PathBuf, toml::de::Error),
-    #[error("limits: {0}")]
+    #[error("the configuration: {0}")]
     Limit(&'static str),
     #[error("socket and control are one path")]
     OneSocket,
@@ -84,11 +84,22 @@ pub struct Duties {
     pub tick_seconds: u64,
     /// How long a lease may live; 0 where that isn't limited.
     pub lease_seconds: u64,
+    /// How long a lease is renewed that another client wants.
+    pub wanted_seconds: u64,
+}
+
+impl Duties {
+    fn check(&self) -> Result<(), ConfigFault> {
+        if self.wanted_seconds == 0 || self.tick_seconds == 0 {
+            return Err(ConfigFault::Limit("tick_seconds and wanted_seconds are 1 at least"));
+        }
+        Ok(())
+    }
 }
 
 impl Default for Duties {
     fn default() -> Duties {
-        Duties { tick_seconds: 60, lease_seconds: 3600 }
+        Duties { tick_seconds: 60, lease_seconds: 3600, wanted_seconds: 30 }
     }
 }
 
@@ -151,6 +162,7 @@ impl Config {
     fn of_text(text: &str, path: &Path) -> Result<Config, ConfigFault> {
         let config: Config = toml::from_str(text).map_err(|fault| ConfigFault::Toml(path.to_path_buf(), fault))?;
         config.limits.check()?;
+        config.duties.check()?;
         if config.socket == config.control {
             return Err(ConfigFault::OneSocket);
         }

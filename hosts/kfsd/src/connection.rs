@@ -6,13 +6,15 @@ use crate::calls::{Note, Wish};
 use crate::config::{Duties, Limits, FRAME_COST};
 use crate::figures::Figures;
 use crate::following::Following;
-use crate::frames::{asked, moment, reply, told_again, welcome, Asked, Head, Refusal, HEAD, NUMBERED_HEAD};
+use crate::frames::{asked, moment, reply, told_again, wanted, welcome, Asked, Head, Refusal, HEAD, NUMBERED_HEAD};
 use crate::outcomes::Stands;
 use crate::queue::{Answer, Asker, Call, Permits, Queue};
 use crate::users::{Account, Place, Table};
+use std::future::Future;
 use std::io;
+use std::pin::Pin;
 use std::sync::Arc;
-use std::time::Duration;
+use std::time::{Duration, Instant};
 use tokio::io::{sink, AsyncRead, AsyncReadExt, AsyncWrite, AsyncWriteExt, BufReader};
 use tokio::net::UnixStream;
 use tokio::sync::{mpsc, oneshot, watch, AcquireError, Semaphore};
@@ -21,6 +23,9 @@ use tracing::debug;
 
 /// How many bytes of small frames are read at once.
 const BUFFER: usize = 4096;
+
+/// How long a client waits that asks which of its leases others want.
+const WAITING: Duration = Duration::from_secs(20);
 
 /// What all connections share.
 #[derive(Debug)]
@@ -84,6 +89,8 @@ enum Said {
     Here(Vec<u8>),
     /// It comes from the desk.
     Waits(oneshot::Receiver<Answer>),
+    /// The whole reply, when kfsd has one.
+    Later(Pin<Box<dyn Future<Output = Vec<u8>> + Send>>),
 }
 
 /// Serves a connection to its end.
@@ -148,7 +155,7 @@ struct Reader<'a, R> {
     account: Arc<Account>,
     frames: Arc<Semaphore>,
     bytes: Arc<Semaphore>,
-    shared: &'a Shared,
+    shared: &'a Arc<Shared>,
 }
 
 impl<R: AsyncRead + Unpin> Reader<'_, R> {
@@ -198,14 +205,20 @@ impl<R: AsyncRead + Unpin> Reader<'_, R> {
         if let Some(said) = self.said_here(head.number, what) {
             return self.put(head, frame, Said::Here(said)).await;
         }
+        if let Asked::Wants(behind) = what {
+            let wants = wants_of(Arc::clone(self.shared), head.number, client, behind);
+            return self.put(head, frame, Said::Later(Box::pin(wants))).await;
+        }
         let mut number = None;
         if let Asked::Numbered(_, own) = what {
             body.drain(..NUMBERED_HEAD);
             number = Some(own);
         }
         let note = Note::of(&body);
-        if matches!(&note, Note::Lease(wish) if self.is_too_far(wish)) {
-            return self.refuse(head, frame, Refusal::TooFar).await;
+        if let Note::Lease(wish) = &note {
+            if let Some(refusal) = self.refusal_of(wish) {
+                return self.refuse(head, frame, refusal).await;
+            }
         }
         if let Some(said) = number.and_then(|own| self.said_before(head.number, own)) {
             return self.put(head, frame, Said::Here(said)).await;
@@ -240,10 +253,13 @@ impl<R: AsyncRead + Unpin> Reader<'_, R> {
         }
     }
 
-    /// Whether a lease is asked for that would live for longer than any may.
-    fn is_too_far(&self, wish: &Wish) -> bool {
-        let (now, longest) = (self.shared.following.clock.now(), self.shared.duties.lease_seconds);
-        longest != 0 && wish.end > now.saturating_add(longest)
+    /// Why kfsd refuses a lease: it would live for longer than any may, or isn't renewed, since another client wants it.
+    fn refusal_of(&self, wish: &Wish) -> Option<Refusal> {
+        let (following, longest) = (&self.shared.following, self.shared.duties.lease_seconds);
+        if longest != 0 && wish.end > following.clock.now().saturating_add(longest) {
+            return Some(Refusal::TooFar);
+        }
+        following.forbids(wish).then_some(Refusal::Wanted)
     }
 
     async fn refuse(&self, head: Head, frame: Arc<Permits>, refusal: Refusal) -> Result<(), End> {
@@ -267,6 +283,24 @@ async fn take(of_connection: &Arc<Semaphore>, of_user: &Arc<Semaphore>, count: u
     Ok(Permits { of_connection, of_user })
 }
 
+/// The reply that tells which leases others want: when there is one behind this serial, after a while, or when kfsd stops.
+async fn wants_of(shared: Arc<Shared>, number: u32, client: u32, behind: u64) -> Vec<u8> {
+    let (mut changed, mut stopping) = (shared.following.wanted(), shared.stopping.clone());
+    let now = || Instant::now();
+    let waiting = async {
+        while !*stopping.borrow_and_update() && shared.following.wants().told(client, behind, now()).is_empty() {
+            tokio::select! {
+                is_gone = changed.changed() => if is_gone.is_err() { return },
+                is_gone = stopping.changed() => if is_gone.is_err() { return },
+            }
+        }
+    };
+    // Whether there is one or not.
+    let _ = timeout(WAITING, waiting).await;
+    let wants = shared.following.wants();
+    wanted(number, behind, &wants.told(client, behind, now()))
+}
+
 /// Writes replies in the order of their frames, each as soon as it is there.
 async fn write_replies(
     mut to: impl AsyncWrite + Unpin,
@@ -276,6 +310,7 @@ async fn write_replies(
     while let Some(slot) = waiting.recv().await {
         let bytes = match slot.said {
             Said::Here(bytes) => bytes,
+            Said::Later(bytes) => bytes.await,
             Said::Waits(answer) => match answer.await {
                 Ok(Answer::Said(found)) => reply(slot.number, &found.said),
                 Ok(Answer::NeverSent) => Refusal::Stopping.reply(slot.number),

@@ -137,6 +137,7 @@ impl Daemon {
             table: tables,
             stopping: stops,
         });
+        shared.following.wants().set_time(Duration::from_secs(shared.duties.wanted_seconds));
         let desk = Desk {
             program: config.program.clone(),
             store: Arc::new(Mutex::new(open_store(&folder)?)),

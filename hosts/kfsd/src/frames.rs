@@ -1,5 +1,7 @@
 //! Frames and replies (docs/PROTOCOL.md), and what kfsd itself refuses (docs/KFSD.md).
 
+use crate::calls::On;
+use crate::wants::Want;
 use std::io;
 use tokio::io::{AsyncRead, AsyncReadExt};
 
@@ -30,6 +32,9 @@ const MOMENT: u8 = 0xf1;
 
 /// The tag before a number (8) and a call: the call is made once under this number. Without a call it asks how it ended.
 const NUMBERED: u8 = 0xf2;
+
+/// The tag before a serial (8): asks which leases of the client others want, behind that serial. And the answer's.
+const WANTED: u8 = 0xf3;
 
 /// How many bytes stand before the call.
 pub const NUMBERED_HEAD: usize = 9;
@@ -89,6 +94,8 @@ pub enum Refusal {
     UnderWay = 133,
     /// No call of this number has been made, or so many others since that it is forgotten.
     NotThere = 134,
+    /// Another client has wanted the lease for long, so it isn't renewed. Nothing was done.
+    Wanted = 135,
 }
 
 impl Refusal {
@@ -139,6 +146,26 @@ pub fn moment(number: u32, now: u64, longest: u64) -> Vec<u8> {
     reply(number, &said)
 }
 
+/// The reply that tells which leases of a client others want, and the serial of the last one.
+pub fn wanted(number: u32, behind: u64, wants: &[&Want]) -> Vec<u8> {
+    let mut said = vec![WANTED];
+    said.extend_from_slice(&wants.last().map_or(behind, |want| want.serial).to_be_bytes());
+    // There are 64 at most.
+    said.extend_from_slice(&(wants.len() as u16).to_be_bytes());
+    for want in wants {
+        let (node, path) = match &want.on {
+            On::Node(node) => (*node, &[][..]),
+            On::Path(path) => (0, path.as_slice()),
+        };
+        said.extend_from_slice(&want.by.to_be_bytes());
+        said.extend_from_slice(&node.to_be_bytes());
+        // It came with a length of two bytes.
+        said.extend_from_slice(&(path.len() as u16).to_be_bytes());
+        said.extend_from_slice(path);
+    }
+    reply(number, &said)
+}
+
 /// What a body asks for, as far as kfsd looks into it.
 #[derive(Clone, Copy, Debug, PartialEq, Eq)]
 pub enum Asked {
@@ -146,6 +173,8 @@ pub enum Asked {
     Hello,
     /// The moment. kfsd answers.
     Moment,
+    /// Which leases others want, behind this serial. kfsd answers when there is one, or after a while.
+    Wants(u64),
     /// How the call of this number ended. kfsd answers.
     Outcome(u64),
     /// A call of this client.
@@ -163,6 +192,7 @@ pub fn asked(body: &[u8]) -> Asked {
     match *body {
         [HELLO] => Asked::Hello,
         [MOMENT] => Asked::Moment,
+        [WANTED, s0, s1, s2, s3, s4, s5, s6, s7] => Asked::Wants(u64::from_be_bytes([s0, s1, s2, s3, s4, s5, s6, s7])),
         [NUMBERED, n0, n1, n2, n3, n4, n5, n6, n7, ref call @ ..] => {
             let number = u64::from_be_bytes([n0, n1, n2, n3, n4, n5, n6, n7]);
             match asked(call) {
@@ -247,6 +277,8 @@ mod tests {
             assert_eq!(asked(&[NUMBERED, 0, 0, 0, 0, 0, 0, 1, 0, call]), Asked::OfFront);
         }
         assert_eq!(asked(&[NUMBERED, 0]), Asked::Other);
+        assert_eq!(asked(&[WANTED, 0, 0, 0, 0, 0, 0, 1, 0]), Asked::Wants(256));
+        assert_eq!(asked(&[WANTED]), Asked::Other);
         assert_eq!(asked(&[HELLO, 0]), Asked::Other);
     }
 

@@ -90,7 +90,7 @@ impl Whole {
             let row = self.take(22)?;
             self.take(4 * usize::from(row[21]))?;
         }
-        let mut found = Leases { moment, ..Leases::default() };
+        let mut found = Leases::at(moment);
         for _ in 0..leases {
             let row = self.take(17)?;
             let mut bytes = Bytes(&row);

@@ -1,7 +1,7 @@
 //! The leases of the desk, as its answers tell them.
 
-use crate::calls::{Note, On, Told};
-use std::collections::BTreeMap;
+use crate::calls::{Note, On, Told, Wish};
+use std::collections::{BTreeMap, HashMap};
 
 /// A lease on a node.
 #[derive(Clone, Debug, PartialEq, Eq)]
@@ -18,9 +18,16 @@ pub struct Lease {
 pub struct Leases {
     pub moment: u64,
     pub held: BTreeMap<(u32, u32), Lease>,
+    /// The nodes of paths by which leases were asked for.
+    paths: HashMap<Vec<u8>, u32>,
 }
 
 impl Leases {
+    /// No leases, at a moment.
+    pub fn at(moment: u64) -> Leases {
+        Leases { moment, ..Leases::default() }
+    }
+
     /// Takes over what a call has done, by its answer.
     pub fn apply(&mut self, note: &Note, told: Told) {
         match (note, told) {
@@ -29,17 +36,40 @@ impl Leases {
                     On::Path(path) => Some(path.clone()),
                     On::Node(_) => None,
                 };
+                self.paths.extend(path.clone().map(|path| (path, node)));
                 self.held.insert((node, wish.client), Lease { writes: wish.writes, end: wish.end, path });
             }
             (Note::Drop { client }, Told::Dropped(node)) => {
-                self.held.remove(&(node, *client));
+                let ended = self.held.remove(&(node, *client));
+                forget(&mut self.paths, ended.as_ref());
             }
             (_, Told::Ticked(moment)) => {
                 self.moment = moment;
-                self.held.retain(|_, lease| lease.end > moment);
+                let paths = &mut self.paths;
+                self.held.retain(|_, lease| {
+                    let is_live = lease.end > moment;
+                    forget(paths, Some(&*lease).filter(|_| !is_live));
+                    is_live
+                });
             }
             _ => {}
         }
+    }
+
+    /// What is asked for by its node, where a lease of this client was asked for by the same path.
+    pub fn known(&self, on: &On, client: u32) -> On {
+        let node = match on {
+            On::Path(path) => self.paths.get(path).filter(|node| self.held.contains_key(&(**node, client))),
+            On::Node(_) => None,
+        };
+        node.map_or_else(|| on.clone(), |node| On::Node(*node))
+    }
+
+    /// The clients whose leases on a node don't go with a wish.
+    pub fn in_the_way(&self, node: u32, wish: &Wish) -> Vec<u32> {
+        let on_node = self.held.range((node, 0)..=(node, u32::MAX));
+        let others = on_node.filter(|((_, client), lease)| *client != wish.client && (lease.writes || wish.writes));
+        others.map(|((_, client), _)| *client).collect()
     }
 
     /// The moment that the desk is to be told at this one: now, where a lease ends by it, or where the last one is so old.
@@ -47,6 +77,13 @@ impl Leases {
         let first_end = self.held.values().map(|lease| lease.end).min()?;
         let is_due = first_end <= now || now.saturating_sub(self.moment) >= longest;
         (now > self.moment && is_due).then_some(now)
+    }
+}
+
+/// Forgets the path of a lease that has ended. Where another client has one by the same path, it isn't known any more.
+fn forget(paths: &mut HashMap<Vec<u8>, u32>, lease: Option<&Lease>) {
+    if let Some(path) = lease.and_then(|lease| lease.path.as_ref()) {
+        paths.remove(path);
     }
 }
 

@@ -28,3 +28,4 @@ pub mod queue;
 pub mod sockets;
 pub mod store;
 pub mod users;
+pub mod wants;
