@@ -3,6 +3,7 @@
 use crate::frames::BODY_LIMIT;
 use crate::users::{User, UsersFault};
 use serde::Deserialize;
+use std::net::SocketAddr;
 use std::path::{Path, PathBuf};
 use std::time::Duration;
 use thiserror::Error;
@@ -21,6 +22,8 @@ pub enum ConfigFault {
     Limit(&'static str),
     #[error("socket and control are one path")]
     OneSocket,
+    #[error("figures: {0} is no address of this machine alone, as 127.0.0.1 is")]
+    NotLocal(SocketAddr),
     #[error(transparent)]
     Users(#[from] UsersFault),
 }
@@ -33,6 +36,8 @@ pub struct Config {
     pub socket: PathBuf,
     /// Where `kfsctl` connects.
     pub control: PathBuf,
+    /// Where figures for Prometheus are told: an address of this machine alone. None where it isn't there.
+    pub figures: Option<SocketAddr>,
     /// The folder of the two files, which kfsd has for itself.
     pub folder: PathBuf,
     /// The program `kfs_serve`.
@@ -166,6 +171,9 @@ impl Config {
         if config.socket == config.control {
             return Err(ConfigFault::OneSocket);
         }
+        if let Some(address) = config.figures.filter(|address| !address.ip().is_loopback()) {
+            return Err(ConfigFault::NotLocal(address));
+        }
         crate::users::check(&config.users)?;
         Ok(config)
     }
@@ -174,6 +182,7 @@ impl Config {
     pub fn differs_in_users_alone(&self, other: &Config) -> bool {
         self.socket == other.socket
             && self.control == other.control
+            && self.figures == other.figures
             && self.folder == other.folder
             && self.program == other.program
             && self.tiers == other.tiers
@@ -223,6 +232,12 @@ mod tests {
     fn an_unknown_name_is_refused() {
         assert!(matches!(read(&format!("sockets = 1\n{SMALL}")), Err(ConfigFault::Toml(..))));
         assert!(matches!(read(&format!("{SMALL}\nprivilege = true")), Err(ConfigFault::Toml(..))));
+    }
+
+    #[test]
+    fn figures_are_told_on_this_machine_alone() {
+        assert!(matches!(read(&format!("figures = \"0.0.0.0:9469\"\n{SMALL}")), Err(ConfigFault::NotLocal(_))));
+        assert!(read(&format!("figures = \"[::1]:9469\"\n{SMALL}")).unwrap().figures.is_some());
     }
 
     #[test]

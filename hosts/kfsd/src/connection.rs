@@ -225,7 +225,7 @@ impl<R: AsyncRead + Unpin> Reader<'_, R> {
         }
         let (to, answer) = oneshot::channel();
         let asker = Asker { to, frame: Some(Arc::clone(&frame)) };
-        self.shared.queue.push(Call { client, body, note, number, bytes: Some(bytes), asker });
+        self.shared.queue.push(Call { client, body, note, came: Instant::now(), number, bytes: Some(bytes), asker });
         self.put(head, frame, Said::Waits(answer)).await
     }
 

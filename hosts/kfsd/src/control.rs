@@ -1,8 +1,8 @@
 //! The socket of `kfsctl`: one line that asks, and a text that answers.
 
 use crate::connection::Shared;
-use crate::figures::status;
 use crate::peer::{is_administrator, uid_of};
+use crate::status::{leases, status, users};
 use std::io;
 use std::sync::Arc;
 use std::time::Duration;
@@ -33,16 +33,10 @@ async fn answer(mut stream: UnixStream, shared: &Shared) -> io::Result<()> {
     let mut line = String::new();
     BufReader::new((&mut stream).take(LINE)).read_line(&mut line).await?;
     let text = match line.as_str() {
-        "status\n" => status_of(shared),
+        "status\n" => toml::to_string(&status(shared)).unwrap_or_else(|fault| format!("# {fault}\n")),
+        "users\n" => users(shared),
+        "leases\n" => leases(shared),
         _ => "# unknown\n".to_string(),
     };
     stream.write_all(text.as_bytes()).await
-}
-
-fn status_of(shared: &Shared) -> String {
-    let table = Arc::clone(&shared.table.borrow());
-    match status(&shared.figures, &table, shared.queue.len()) {
-        Ok(text) => text,
-        Err(fault) => format!("# {fault}\n"),
-    }
 }

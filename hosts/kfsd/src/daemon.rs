@@ -7,6 +7,7 @@ use crate::duties;
 use crate::figures::Figures;
 use crate::folder::{Folder, Found};
 use crate::following::Following;
+use crate::metrics;
 use crate::queue::Queue;
 use crate::sockets::{accept, Sockets};
 use crate::store::Store;
@@ -96,6 +97,7 @@ pub async fn run(path: &Path) -> Result<(), DaemonFault> {
         return daemon.end_desk().await;
     }
     let sockets = Sockets::bind(&daemon.config)?;
+    daemon.tell_figures().await?;
     info!("clients may connect to {}", daemon.config.socket.display());
     daemon.serve(sockets, signals).await
 }
@@ -153,6 +155,16 @@ impl Daemon {
             ended
         });
         Ok((Daemon { config, path: path.to_path_buf(), clients, shared, table, stopping, desk }, ready))
+    }
+
+    /// Tells figures where the configuration says so.
+    async fn tell_figures(&self) -> Result<(), DaemonFault> {
+        if let Some(address) = self.config.figures {
+            let failed = |fault| DaemonFault::Io(format!("figures on {address}").into(), fault);
+            let listener = metrics::listen(address).await.map_err(failed)?;
+            tokio::spawn(metrics::serve(listener, Arc::clone(&self.shared)));
+        }
+        Ok(())
     }
 
     /// Serves connections until a signal says to stop, or the desk is lost.

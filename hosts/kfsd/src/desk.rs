@@ -282,8 +282,12 @@ async fn read_replies(from: &mut (impl AsyncRead + Unpin), shared: &Shared, flig
     while let Some(reply) = read_reply(from).await? {
         let wrong = || io::Error::new(io::ErrorKind::InvalidData, format!("a reply to frame {}", reply.number));
         let sent = flight.take(reply.number).ok_or_else(wrong)?;
-        let count = if sent.client == FRONT { &shared.figures.own } else { &shared.figures.answered };
-        count.add(1);
+        if sent.client == FRONT {
+            shared.figures.own.add(1);
+        } else {
+            shared.figures.answered.add(1);
+            shared.figures.times.add(sent.came.elapsed());
+        }
         if let Some(answer) = reply.answer() {
             shared.following.answered(&sent.note, answer);
         }

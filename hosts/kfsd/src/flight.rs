@@ -152,7 +152,7 @@ mod tests {
     use tokio::time::timeout;
 
     fn sent(number: u32, length: usize, numbered: Option<u64>) -> Sent {
-        Sent { number, client: 7, note: Note::Nothing, numbered, length, asker: None }
+        Sent { number, client: 7, note: Note::Nothing, came: std::time::Instant::now(), numbered, length, asker: None }
     }
 
     /// Whether frames may be sent at once.

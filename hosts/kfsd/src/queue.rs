@@ -7,6 +7,7 @@ use crate::outcomes::{Marker, MARKER};
 use crate::users::FRONT;
 use std::collections::{HashMap, VecDeque};
 use std::sync::{Mutex, MutexGuard, PoisonError};
+use std::time::Instant;
 use tokio::sync::{oneshot, Notify, OwnedSemaphorePermit};
 
 /// How many bytes a client may send in one turn, each frame with its cost. A longer frame waits for some turns.
@@ -36,6 +37,8 @@ pub struct Call {
     pub body: Vec<u8>,
     /// What kfsd follows of it.
     pub note: Note,
+    /// When it came.
+    pub came: Instant,
     /// The client's own number for it, where it has one.
     pub number: Option<u64>,
     /// The bytes that it takes, until it is sent. None of kfsd's own.
@@ -69,6 +72,8 @@ pub struct Sent {
     pub number: u32,
     pub client: u32,
     pub note: Note,
+    /// When it came.
+    pub came: Instant,
     /// The client's own number for it.
     pub numbered: Option<u64>,
     /// How many bytes it has.
@@ -136,6 +141,7 @@ impl Queue {
             client: FRONT,
             body,
             note: Note::Nothing,
+            came: Instant::now(),
             number: None,
             bytes: None,
             asker: Asker { to, frame: None },
@@ -211,11 +217,19 @@ impl Lines {
                 let marker = Marker::new(call.client, number, &call.body).bytes();
                 let number = self.put(&mut batch.bytes, FRONT, &marker);
                 let length = HEAD + MARKER;
-                batch.sent.push(Sent { number, client: FRONT, note: Note::Nothing, numbered: None, length, asker: None });
+                batch.sent.push(Sent {
+                    number,
+                    client: FRONT,
+                    note: Note::Nothing,
+                    came: call.came,
+                    numbered: None,
+                    length,
+                    asker: None,
+                });
             }
             let number = self.put(&mut batch.bytes, call.client, &call.body);
-            let Call { client, body, note, number: numbered, asker, .. } = call;
-            batch.sent.push(Sent { number, client, note, numbered, length: HEAD + body.len(), asker: Some(asker) });
+            let Call { client, body, note, came, number: numbered, asker, .. } = call;
+            batch.sent.push(Sent { number, client, note, came, numbered, length: HEAD + body.len(), asker: Some(asker) });
         }
         batch
     }
@@ -273,7 +287,18 @@ mod tests {
     fn call(client: u32, length: usize) -> (Call, oneshot::Receiver<Answer>) {
         let (to, answer) = oneshot::channel();
         let asker = Asker { to, frame: Some(Arc::new(permits())) };
-        (Call { client, body: vec![7; length], note: Note::Nothing, number: None, bytes: Some(permits()), asker }, answer)
+        (
+            Call {
+                client,
+                body: vec![7; length],
+                note: Note::Nothing,
+                came: Instant::now(),
+                number: None,
+                bytes: Some(permits()),
+                asker,
+            },
+            answer,
+        )
     }
 
     /// The clients of the frames in these bytes, with the length of each body.

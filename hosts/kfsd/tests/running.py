@@ -128,10 +128,11 @@ class Connection:
 class Daemon:
     """A kfsd with a folder of its own."""
 
-    def __init__(self, binaries, program, users=None, tiers=(64, 64, 64), duties=None, **limits):
+    def __init__(self, binaries, program, users=None, tiers=(64, 64, 64), duties=None, figures=None, **limits):
         self.binaries, self.users, self.limits, self.tiers = binaries, list(USERS if users is None else users), limits, tiers
         # most tests ask for leases up to any end, and count seconds of none
         self.duties = {"lease_seconds": 0, **(duties or {})}
+        self.figures = figures
         self.room = tempfile.mkdtemp(prefix="kfsd-")
         os.chmod(self.room, 0o755)
         self.folder, self.program = f"{self.room}/desk", program
@@ -153,6 +154,7 @@ class Daemon:
     def put_config(self):
         """Writes the configuration."""
         lines = [f'{name} = "{self.room}/{name}"' for name in ("socket", "control")]
+        lines += [f'figures = "{self.figures}"'] if self.figures else []
         lines += [f'folder = "{self.folder}"', f'program = "{self.program}"', f"tiers = {list(self.tiers)}", "[limits]"]
         lines += [f"{name} = {value}" for name, value in self.limits.items()]
         lines += ["[duties]", *(f"{name} = {value}" for name, value in self.duties.items())]
@@ -194,9 +196,13 @@ class Daemon:
     def stranger(self, uid, client=7):
         return Connection(f"{self.room}/socket", uid, client)
 
+    def ask(self, *words):
+        """What kfsctl prints."""
+        words = [f"{self.binaries}/kfsctl", "--control", f"{self.room}/control", *words]
+        return subprocess.run(words, check=True, capture_output=True, text=True, timeout=SOON).stdout
+
     def status(self):
-        words = [f"{self.binaries}/kfsctl", "--control", f"{self.room}/control", "status"]
-        return tomllib.loads(subprocess.run(words, check=True, capture_output=True, text=True, timeout=SOON).stdout)
+        return tomllib.loads(self.ask("status"))
 
     def kill_desk(self):
         """Kills kfs_serve, once it has opened its files: of processes that never do, one after another, kfsd takes only five."""

@@ -4,10 +4,12 @@
 
 use anyhow::{bail, Context, Result};
 use clap::{Parser, Subcommand};
+use kfsd::status::Status;
 use std::io::{Read, Write};
 use std::os::unix::net::UnixStream;
-use std::path::PathBuf;
-use std::time::Duration;
+use std::path::{Path, PathBuf};
+use std::thread::sleep;
+use std::time::{Duration, Instant};
 
 /// How long an answer may take.
 const TIME: Duration = Duration::from_secs(10);
@@ -27,21 +29,73 @@ struct Words {
 enum Asked {
     /// Prints what runs, who is connected, and counts since the start.
     Status,
+    /// Prints a line for each user that may connect.
+    Users,
+    /// Prints a line for each lease, and for each that another client wants.
+    Leases,
+    /// Prints a line now and then: calls a second, and what waits.
+    Watch {
+        /// Seconds between two lines.
+        #[arg(long, default_value_t = 1)]
+        seconds: u64,
+        /// How many lines; without it there is no end.
+        #[arg(long)]
+        count: Option<u64>,
+    },
 }
 
 fn main() -> Result<()> {
     let words = Words::parse();
     let question = match words.asked {
-        Asked::Status => "status\n",
+        Asked::Status => "status",
+        Asked::Users => "users",
+        Asked::Leases => "leases",
+        Asked::Watch { seconds, count } => return watch(&words.control, Duration::from_secs(seconds), count),
     };
-    let mut stream = UnixStream::connect(&words.control).with_context(|| words.control.display().to_string())?;
+    print(&ask(&words.control, question)?)
+}
+
+fn print(text: &str) -> Result<()> {
+    std::io::stdout().write_all(text.as_bytes())?;
+    Ok(())
+}
+
+/// The answer to a question.
+fn ask(control: &Path, question: &str) -> Result<String> {
+    let mut stream = UnixStream::connect(control).with_context(|| control.display().to_string())?;
     stream.set_read_timeout(Some(TIME))?;
-    stream.write_all(question.as_bytes())?;
+    stream.write_all(format!("{question}\n").as_bytes())?;
     let mut text = String::new();
     stream.read_to_string(&mut text)?;
     match text.strip_prefix("# ") {
         Some(why) => bail!("kfsd: {}", why.trim_end()),
-        None => std::io::stdout().write_all(text.as_bytes())?,
+        None => Ok(text),
+    }
+}
+
+fn status(control: &Path) -> Result<(Instant, Status)> {
+    Ok((Instant::now(), toml::from_str(&ask(control, "status")?)?))
+}
+
+/// Prints so many lines, with so long between them.
+fn watch(control: &Path, time: Duration, count: Option<u64>) -> Result<()> {
+    print("calls/s unknown waiting connections leases wanted starts\n")?;
+    let mut before = status(control)?;
+    for _ in 0..count.unwrap_or(u64::MAX) {
+        sleep(time);
+        let now = status(control)?;
+        print(&line(&before.1, &now.1, now.0 - before.0))?;
+        before = now;
     }
     Ok(())
+}
+
+fn line(before: &Status, now: &Status, time: Duration) -> String {
+    let calls = now.frames.answered.saturating_sub(before.frames.answered) as f64 / time.as_secs_f64();
+    let unknown = now.frames.unknown.saturating_sub(before.frames.unknown);
+    let connections: u32 = now.user.iter().map(|user| user.connections).sum();
+    format!(
+        "{calls:>7.0} {unknown:>7} {:>7} {connections:>11} {:>6} {:>6} {:>6}\n",
+        now.kfs_serve.waiting_calls, now.desk.leases, now.desk.wanted_leases, now.kfs_serve.starts
+    )
 }
