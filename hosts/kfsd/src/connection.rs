@@ -6,7 +6,7 @@ use crate::calls::{Note, Wish};
 use crate::config::{Duties, Limits, FRAME_COST};
 use crate::figures::Figures;
 use crate::following::Following;
-use crate::frames::{asked, moment, reply, told_again, wanted, welcome, Asked, Head, Refusal, HEAD, NUMBERED_HEAD};
+use crate::frames::{asked, moment, reply, times, told_again, wanted, welcome, Asked, Head, Refusal, HEAD, NUMBERED_HEAD};
 use crate::outcomes::Stands;
 use crate::queue::{Answer, Asker, Call, Permits, Queue};
 use crate::users::{Account, Place, Table};
@@ -235,6 +235,7 @@ impl<R: AsyncRead + Unpin> Reader<'_, R> {
         match what {
             Asked::Hello => Some(welcome(number, user.client, user.grant)),
             Asked::Moment => Some(moment(number, following.clock.now(), self.shared.duties.lease_seconds)),
+            Asked::Times(node) => Some(times(number, following.times().of(node))),
             Asked::Outcome(own) => Some(match following.outcomes.look(user.client, own) {
                 Stands::Done(answer) => told_again(number, &answer),
                 Stands::UnderWay => Refusal::UnderWay.reply(number),

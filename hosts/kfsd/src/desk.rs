@@ -1,18 +1,20 @@
 //! `kfs_serve`: the process, its two pipes, and a new one where it ends before its time.
 
+use crate::calls::Note;
 use crate::connection::Shared;
 use crate::flight::Flight;
 use crate::folder::{Folder, Found};
 use crate::frames::{read_reply, said_again, Head, Reply};
 use crate::queue::{Answer, Batch, Sent};
 use crate::store::Store;
+use crate::times;
 use crate::users::FRONT;
 use std::collections::{HashMap, VecDeque};
 use std::ffi::OsString;
 use std::io;
 use std::path::{Path, PathBuf};
 use std::process::{ExitStatus, Stdio};
-use std::sync::{Arc, Mutex, PoisonError};
+use std::sync::{Arc, Mutex, MutexGuard, PoisonError};
 use std::time::Duration;
 use thiserror::Error;
 use tokio::io::{AsyncRead, AsyncWrite, AsyncWriteExt, BufReader};
@@ -87,7 +89,7 @@ impl Desk {
             let ended = self.once(shared, ready).await?;
             self.keep(shared)?;
             if ended.is_done {
-                return Ok(());
+                return Ok(self.store().end()?);
             }
             fault_of(ended.status)?;
             self.settle(shared, ended.left)?;
@@ -102,30 +104,48 @@ impl Desk {
 
     /// Reads what was kept, and how the desk stands.
     fn begin(&self, shared: &Shared) -> Result<(), DeskFault> {
+        let following = &shared.following;
         block_in_place(|| {
-            let found = shared.following.read(self.folder.path()).map_err(DeskFault::Folder)?;
-            let kept = self.store.lock().unwrap_or_else(PoisonError::into_inner).outcomes()?;
-            shared.following.outcomes.begin_with(kept, found);
+            let found = following.read(self.folder.path()).map_err(DeskFault::Folder)?;
+            let mut store = self.store();
+            following.outcomes.begin_with(store.outcomes()?, found.outcomes);
+            following.times().begin_with(store.stamps()?);
+            if store.begin()? {
+                // The kfsd before may not have kept these.
+                found.recent.iter().for_each(|changes| following.times().landed(changes, times::now()));
+            }
+            drop(store);
             self.keep(shared)
         })
     }
 
+    fn store(&self) -> MutexGuard<'_, Store> {
+        self.store.lock().unwrap_or_else(PoisonError::into_inner)
+    }
+
     /// Keeps what isn't kept yet.
     fn keep(&self, shared: &Shared) -> Result<(), DeskFault> {
-        let changes = shared.following.outcomes.take_unsaved();
-        block_in_place(|| self.store.lock().unwrap_or_else(PoisonError::into_inner).keep(&changes))?;
+        let changes = shared.following.take_unsaved();
+        block_in_place(|| self.store().keep(&changes))?;
         Ok(())
     }
 
-    /// Finds out of numbered calls whether they were made that a process has left without an answer. No process runs.
-    /// Of all others each asker hears that nobody knows.
+    /// Finds out of the calls that a process has left without an answer whether they were made, as far as the journal tells.
+    /// No process runs. Of calls without a number each asker hears that nobody knows.
     fn settle(&self, shared: &Shared, left: VecDeque<Sent>) -> Result<(), DeskFault> {
-        let found = block_in_place(|| shared.following.read(self.folder.path())).map_err(DeskFault::Folder)?;
-        let found: HashMap<_, _> = found.into_iter().map(|one| ((one.client, one.number), one.answer)).collect();
-        let answer_of = |sent: &Sent| sent.numbered.and_then(|number| found.get(&(sent.client, number)));
+        let following = &shared.following;
+        let found = block_in_place(|| following.read(self.folder.path())).map_err(DeskFault::Folder)?;
+        let outcomes: HashMap<_, _> = found.outcomes.into_iter().map(|one| ((one.client, one.number), one.answer)).collect();
+        let answer_of = |sent: &Sent| sent.numbered.and_then(|number| outcomes.get(&(sent.client, number)));
         for sent in &left {
             if let Some(number) = sent.numbered {
-                shared.following.outcomes.end(sent.client, number, answer_of(sent).map(Vec::as_slice));
+                following.outcomes.end(sent.client, number, answer_of(sent).map(Vec::as_slice));
+            }
+            if let Note::Submit(changes) = &sent.note {
+                // One that is like it may have landed before. Then its time is later than it was.
+                if found.recent.contains(changes) {
+                    following.times().landed(changes, times::now());
+                }
             }
         }
         self.keep(shared)?;
@@ -198,7 +218,7 @@ impl Desk {
             let _ = timeout(KEEPING, flight.due()).await;
             // Counted before they are taken: there are as many at least.
             let count = flight.count_ended();
-            let changes = shared.following.outcomes.take_unsaved();
+            let changes = shared.following.take_unsaved();
             if !changes.is_empty() {
                 let store = Arc::clone(&self.store);
                 let keeping = spawn_blocking(move || store.lock().unwrap_or_else(PoisonError::into_inner).keep(&changes));
@@ -293,6 +313,8 @@ async fn read_replies(from: &mut (impl AsyncRead + Unpin), shared: &Shared, flig
         }
         if let Some(own) = sent.numbered {
             shared.following.outcomes.end(sent.client, own, reply.answer());
+        }
+        if sent.is_kept() {
             flight.ended();
         }
         if let Some(asker) = sent.asker {

@@ -9,17 +9,21 @@ use tokio::sync::Notify;
 /// behind them waits here, where clients take turns.
 const WINDOW: usize = 65_536;
 
-/// How many bytes may be sent behind a numbered call whose outcome isn't kept here. A journal that is begun anew takes at
-/// least 2^20 bytes before it is begun anew once more. So such a call is in one of the two files (docs/KFSD.md).
-const EXPOSED: u64 = 262_144;
+/// How many bytes the journal may take behind a call of whose answer something isn't kept here yet. A journal that is begun
+/// anew takes at least 2^20 bytes before it is begun anew once more. So such a call is in one of the two files (docs/KFSD.md).
+const EXPOSED: u64 = 786_432;
+
+/// The most bytes that the journal takes for a frame, beside the frame's: it has no head there, but an answer of 16 bytes
+/// behind its own length, and maybe the 5 bytes of a group.
+const ANSWER: u64 = 14;
 
 #[derive(Debug, Default)]
 struct Under {
     sent: VecDeque<Sent>,
     bytes: usize,
-    /// How many bytes were sent in all.
+    /// How many bytes the journal takes at most for all that was sent.
     total: u64,
-    /// How many of them were sent up to the end of each numbered call whose outcome isn't kept.
+    /// How many up to the end of each call of which something isn't kept.
     ends: VecDeque<u64>,
     /// How many of these calls, from the first, have ended.
     ended: usize,
@@ -28,7 +32,7 @@ struct Under {
 }
 
 impl Under {
-    /// How many bytes were sent behind the first call whose outcome isn't kept; none where each one is.
+    /// How many bytes the journal takes behind the first call of which something isn't kept; none where all is.
     fn exposed(&self) -> Option<u64> {
         self.ends.front().map(|end| self.total - end)
     }
@@ -74,11 +78,12 @@ impl Flight {
 
     /// Adds what is about to be sent, and waits until it may be.
     pub async fn add(&self, sent: Vec<Sent>) {
-        let lengths: Vec<(u64, bool)> = sent.iter().map(|one| (one.length as u64, one.numbered.is_some())).collect();
+        let lengths: Vec<(u64, bool)> = sent.iter().map(|one| (one.length as u64 + ANSWER, one.is_kept())).collect();
         let length = lengths.iter().map(|(length, _)| length).sum::<u64>();
+        let bytes = sent.iter().map(|one| one.length).sum::<usize>();
         {
             let mut under = self.under();
-            under.bytes += length as usize;
+            under.bytes += bytes;
             under.sent.extend(sent);
         }
         loop {
@@ -86,10 +91,10 @@ impl Flight {
                 let mut under = self.under();
                 under.is_waiting = matches!(under.exposed(), Some(exposed) if exposed + length > EXPOSED);
                 if !under.is_waiting {
-                    for (length, is_numbered) in lengths {
+                    for (length, is_kept) in lengths {
                         under.total += length;
                         let total = under.total;
-                        under.ends.extend(is_numbered.then_some(total));
+                        under.ends.extend(is_kept.then_some(total));
                     }
                     return;
                 }
@@ -111,7 +116,7 @@ impl Flight {
         Some(sent)
     }
 
-    /// A numbered call has ended, and its outcome is to be kept.
+    /// A call has ended of which something is to be kept.
     pub fn ended(&self) {
         let mut under = self.under();
         under.ended += 1;
@@ -127,7 +132,7 @@ impl Flight {
         self.due.notified().await;
     }
 
-    /// How many numbered calls have ended and aren't kept.
+    /// How many of these have ended and aren't kept.
     pub fn count_ended(&self) -> usize {
         self.under().ended
     }
@@ -175,16 +180,16 @@ mod tests {
     #[tokio::test]
     async fn little_is_sent_behind_what_is_not_kept() {
         let flight = Flight::default();
-        let most = EXPOSED as usize;
+        let most = (EXPOSED - 3 * ANSWER) as usize;
         // of what isn't numbered, and of the call itself, nothing is lost
         assert!(goes(&flight, vec![sent(1, 2 * most, None), sent(2, 2 * most, Some(1))]).await);
         assert!(goes(&flight, vec![sent(3, most, None)]).await);
-        assert!(!goes(&flight, vec![sent(4, 1, None)]).await);
+        assert!(!goes(&flight, vec![sent(4, 100, None)]).await);
         flight.ended();
         assert_eq!(flight.count_ended(), 1);
         flight.kept(1);
-        assert!(goes(&flight, vec![sent(5, 1, Some(2)), sent(6, 1, Some(3)), sent(7, most - 1, None)]).await);
-        assert!(!goes(&flight, vec![sent(8, 1, None)]).await);
+        assert!(goes(&flight, vec![sent(5, 1, Some(2)), sent(6, 1, Some(3)), sent(7, most, None)]).await);
+        assert!(!goes(&flight, vec![sent(8, 100, None)]).await);
         flight.ended();
         flight.kept(1);
         assert!(goes(&flight, vec![sent(9, 1, None)]).await);

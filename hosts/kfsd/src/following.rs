@@ -1,17 +1,31 @@
 //! What kfsd knows of the desk: it follows each call and its answer, and reads the files before `kfs_serve` opens them.
 
-use crate::calls::{Note, Told, Wish};
+use crate::calls::{Change, Note, Told, Wish};
 use crate::clock::Clock;
 use crate::journal::{self, Part};
 use crate::leases::Leases;
 use crate::outcomes::{Finder, Outcomes};
-use crate::store::Outcome;
+use crate::store::{Changes, Outcome};
+use crate::times::{self, Times};
 use crate::wants::Wants;
+use std::collections::VecDeque;
 use std::io;
 use std::path::Path;
 use std::sync::{Mutex, MutexGuard, PoisonError};
 use std::time::Instant;
 use tokio::sync::watch;
+
+/// How many bytes of the journal may have landings in them that aren't kept here yet, and some more.
+const RECENT: usize = 1 << 20;
+
+/// What the files tell of calls whose answers may be lost.
+#[derive(Debug, Default)]
+pub struct Found {
+    /// How the numbered calls in them ended.
+    pub outcomes: Vec<Outcome>,
+    /// What the last logs that have landed changed.
+    pub recent: VecDeque<Vec<(u32, Change)>>,
+}
 
 /// How the desk stands by the answers so far.
 #[derive(Debug)]
@@ -20,6 +34,7 @@ pub struct Following {
     pub outcomes: Outcomes,
     leases: Mutex<Leases>,
     wants: Mutex<Wants>,
+    times: Mutex<Times>,
     /// Changes with each new want.
     is_wanted: watch::Sender<()>,
 }
@@ -31,6 +46,7 @@ impl Default for Following {
             outcomes: Outcomes::default(),
             leases: Mutex::default(),
             wants: Mutex::default(),
+            times: Mutex::default(),
             is_wanted: watch::channel(()).0,
         }
     }
@@ -47,6 +63,17 @@ impl Following {
         self.wants.lock().unwrap_or_else(PoisonError::into_inner)
     }
 
+    /// When nodes were changed.
+    pub fn times(&self) -> MutexGuard<'_, Times> {
+        self.times.lock().unwrap_or_else(PoisonError::into_inner)
+    }
+
+    /// Takes what isn't kept yet.
+    pub fn take_unsaved(&self) -> Changes {
+        let stamps = self.times().take_unsaved();
+        Changes { stamps, ..self.outcomes.take_unsaved() }
+    }
+
     /// Tells of each new want.
     pub fn wanted(&self) -> watch::Receiver<()> {
         self.is_wanted.subscribe()
@@ -58,25 +85,42 @@ impl Following {
         self.wants().forbid(wish, &leases, Instant::now())
     }
 
-    /// Begins anew with what the files say, and tells how the numbered calls in them ended. No `kfs_serve` may run.
-    pub fn read(&self, folder: &Path) -> io::Result<Vec<Outcome>> {
-        let (mut found, mut outcomes, mut finder) = (Leases::default(), Vec::new(), Finder::default());
+    /// Begins anew with what the files say, and tells more of it. No `kfs_serve` may run.
+    pub fn read(&self, folder: &Path) -> io::Result<Found> {
+        let (mut leases, mut found, mut finder) = (Leases::default(), Found::default(), Finder::default());
+        let (mut lengths, mut length) = (VecDeque::new(), 0);
         journal::read(folder, |part| match part {
-            Part::State(leases) => found = leases,
+            Part::State(state) => leases = state,
             Part::Call(call, answer) => {
-                found.apply(&Note::of(call), Told::of(answer));
-                outcomes.extend(finder.next(call, answer));
+                let (note, told) = (Note::of(call), Told::of(answer));
+                leases.apply(&note, told);
+                found.outcomes.extend(finder.next(call, answer));
+                let changes = match (note, told) {
+                    (Note::Submit(changes), Told::Landed) => changes,
+                    _ => vec![],
+                };
+                found.recent.push_back(changes);
+                lengths.push_back(call.len());
+                length += call.len();
+                while length - lengths.front().copied().unwrap_or(0) > RECENT {
+                    length -= lengths.pop_front().unwrap_or(0);
+                    found.recent.pop_front();
+                }
             }
         })?;
-        self.clock.at_least(found.moment);
-        *self.leases() = found;
-        Ok(outcomes)
+        self.clock.at_least(leases.moment);
+        *self.leases() = leases;
+        found.recent.retain(|changes| !changes.is_empty());
+        Ok(found)
     }
 
     /// Takes over what a call has done. Answers come in the order of the calls.
     pub fn answered(&self, note: &Note, answer: &[u8]) {
         let (mut leases, told) = (self.leases(), Told::of(answer));
         leases.apply(note, told);
+        if let (Note::Submit(changes), Told::Landed) = (note, told) {
+            self.times().landed(changes, times::now());
+        }
         if let Note::Lease(wish) = note {
             if self.wants().apply(wish, told, &leases, Instant::now()) {
                 self.is_wanted.send_replace(());

@@ -1,6 +1,7 @@
 //! Frames and replies (docs/PROTOCOL.md), and what kfsd itself refuses (docs/KFSD.md).
 
 use crate::calls::On;
+use crate::times::Stamp;
 use crate::wants::Want;
 use std::io;
 use tokio::io::{AsyncRead, AsyncReadExt};
@@ -35,6 +36,9 @@ const NUMBERED: u8 = 0xf2;
 
 /// The tag before a serial (8): asks which leases of the client others want, behind that serial. And the answer's.
 const WANTED: u8 = 0xf3;
+
+/// The tag before a node (4): asks when it was changed. And the answer's.
+const TIMES: u8 = 0xf4;
 
 /// How many bytes stand before the call.
 pub const NUMBERED_HEAD: usize = 9;
@@ -166,6 +170,15 @@ pub fn wanted(number: u32, behind: u64, wants: &[&Want]) -> Vec<u8> {
     reply(number, &said)
 }
 
+/// The reply that tells when a node was changed, as far as kfsd knows.
+pub fn times(number: u32, stamp: Option<Stamp>) -> Vec<u8> {
+    let mut said = vec![TIMES, u8::from(stamp.is_some())];
+    for time in stamp.iter().flat_map(|stamp| [stamp.modified, stamp.changed]) {
+        said.extend_from_slice(&time.to_be_bytes());
+    }
+    reply(number, &said)
+}
+
 /// What a body asks for, as far as kfsd looks into it.
 #[derive(Clone, Copy, Debug, PartialEq, Eq)]
 pub enum Asked {
@@ -175,6 +188,8 @@ pub enum Asked {
     Moment,
     /// Which leases others want, behind this serial. kfsd answers when there is one, or after a while.
     Wants(u64),
+    /// When this node was changed. kfsd answers.
+    Times(u32),
     /// How the call of this number ended. kfsd answers.
     Outcome(u64),
     /// A call of this client.
@@ -193,6 +208,7 @@ pub fn asked(body: &[u8]) -> Asked {
         [HELLO] => Asked::Hello,
         [MOMENT] => Asked::Moment,
         [WANTED, s0, s1, s2, s3, s4, s5, s6, s7] => Asked::Wants(u64::from_be_bytes([s0, s1, s2, s3, s4, s5, s6, s7])),
+        [TIMES, a, b, c, d] => Asked::Times(u32::from_be_bytes([a, b, c, d])),
         [NUMBERED, n0, n1, n2, n3, n4, n5, n6, n7, ref call @ ..] => {
             let number = u64::from_be_bytes([n0, n1, n2, n3, n4, n5, n6, n7]);
             match asked(call) {
@@ -279,6 +295,7 @@ mod tests {
         assert_eq!(asked(&[NUMBERED, 0]), Asked::Other);
         assert_eq!(asked(&[WANTED, 0, 0, 0, 0, 0, 0, 1, 0]), Asked::Wants(256));
         assert_eq!(asked(&[WANTED]), Asked::Other);
+        assert_eq!(asked(&[TIMES, 0, 0, 1, 0]), Asked::Times(256));
         assert_eq!(asked(&[HELLO, 0]), Asked::Other);
     }
 

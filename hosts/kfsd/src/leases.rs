@@ -1,6 +1,6 @@
 //! The leases of the desk, as its answers tell them.
 
-use crate::calls::{Note, On, Told, Wish};
+use crate::calls::{Change, Note, On, Told, Wish};
 use std::collections::{BTreeMap, HashMap};
 
 /// A lease on a node.
@@ -43,6 +43,11 @@ impl Leases {
                 let ended = self.held.remove(&(node, *client));
                 forget(&mut self.paths, ended.as_ref());
             }
+            (Note::Submit(changes), Told::Landed) => {
+                for (node, _) in changes.iter().filter(|(_, change)| *change == Change::Gone) {
+                    self.end_all_on(*node);
+                }
+            }
             (_, Told::Ticked(moment)) => {
                 self.moment = moment;
                 let paths = &mut self.paths;
@@ -53,6 +58,15 @@ impl Leases {
                 });
             }
             _ => {}
+        }
+    }
+
+    /// Ends the leases on a node that is gone.
+    fn end_all_on(&mut self, node: u32) {
+        let keys: Vec<_> = self.held.range((node, 0)..=(node, u32::MAX)).map(|(key, _)| *key).collect();
+        for key in keys {
+            let ended = self.held.remove(&key);
+            forget(&mut self.paths, ended.as_ref());
         }
     }
 
@@ -105,6 +119,11 @@ mod tests {
         assert_eq!(leases.held.keys().collect::<Vec<_>>(), [&(3, 7), &(4, 7)]);
         leases.apply(&Note::Nothing, Told::Ticked(10));
         assert_eq!((leases.moment, leases.held.len()), (10, 1));
+        leases.apply(&wish(7, 20), Told::Leased(5));
+        leases.apply(&Note::Submit(vec![(5, Change::Gone), (4, Change::Bytes)]), Told::Else);
+        assert_eq!(leases.held.len(), 2);
+        leases.apply(&Note::Submit(vec![(5, Change::Gone), (4, Change::Bytes)]), Told::Landed);
+        assert_eq!(leases.held.len(), 1);
         leases.apply(&Note::Drop { client: 7 }, Told::Dropped(4));
         assert!(leases.held.is_empty());
     }

@@ -29,5 +29,6 @@ pub mod queue;
 pub mod sockets;
 pub mod status;
 pub mod store;
+pub mod times;
 pub mod users;
 pub mod wants;

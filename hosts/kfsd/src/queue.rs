@@ -82,6 +82,13 @@ pub struct Sent {
     pub asker: Option<Asker>,
 }
 
+impl Sent {
+    /// Whether something of its answer is kept here.
+    pub fn is_kept(&self) -> bool {
+        self.numbered.is_some() || matches!(self.note, Note::Submit(_))
+    }
+}
+
 /// Calls that are sent at once.
 #[derive(Debug, Default)]
 pub struct Batch {
