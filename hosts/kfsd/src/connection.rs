@@ -18,11 +18,14 @@ use std::time::{Duration, Instant};
 use tokio::io::{sink, AsyncRead, AsyncReadExt, AsyncWrite, AsyncWriteExt, BufReader};
 use tokio::net::UnixStream;
 use tokio::sync::{mpsc, oneshot, watch, AcquireError, Semaphore};
-use tokio::time::timeout;
+use tokio::time::{sleep, timeout};
 use tracing::debug;
 
 /// How many bytes of small frames are read at once.
 const BUFFER: usize = 4096;
+
+/// How many bytes of replies are written at once, and one reply more.
+const TOGETHER: usize = 16_384;
 
 /// How long a client waits that asks which of its leases others want.
 const WAITING: Duration = Duration::from_secs(20);
@@ -82,6 +85,39 @@ struct Slot {
     said: Said,
     /// The frame is under way until its reply is written.
     _frame: Arc<Permits>,
+}
+
+impl Slot {
+    /// The whole reply, when it is there.
+    async fn reply(&mut self) -> Vec<u8> {
+        match &mut self.said {
+            Said::Here(bytes) => std::mem::take(bytes),
+            Said::Later(bytes) => bytes.await,
+            Said::Waits(answer) => reply_of(self.number, answer.await.ok()),
+        }
+    }
+
+    /// The whole reply, where it is there.
+    fn reply_now(&mut self) -> Option<Vec<u8>> {
+        match &mut self.said {
+            Said::Here(bytes) => Some(std::mem::take(bytes)),
+            Said::Later(_) => None,
+            Said::Waits(answer) => match answer.try_recv() {
+                Ok(found) => Some(reply_of(self.number, Some(found))),
+                Err(oneshot::error::TryRecvError::Empty) => None,
+                Err(oneshot::error::TryRecvError::Closed) => Some(reply_of(self.number, None)),
+            },
+        }
+    }
+}
+
+/// The reply to a frame that was handed to the desk. Where there is no answer, nobody knows.
+fn reply_of(number: u32, answer: Option<Answer>) -> Vec<u8> {
+    match answer {
+        Some(Answer::Said(found)) => reply(number, &found.said),
+        Some(Answer::NeverSent) => Refusal::Stopping.reply(number),
+        None => Refusal::Unknown.reply(number),
+    }
 }
 
 enum Said {
@@ -271,6 +307,10 @@ impl<R: AsyncRead + Unpin> Reader<'_, R> {
     async fn put(&self, head: Head, frame: Arc<Permits>, said: Said) -> Result<(), End> {
         if matches!(said, Said::Here(_)) {
             self.shared.figures.answered_here.add(1);
+            let wait = self.account.answers.wait();
+            if !wait.is_zero() {
+                sleep(wait).await;
+            }
         }
         self.slots.send(Slot { number: head.number, said, _frame: frame }).await?;
         Ok(())
@@ -302,24 +342,35 @@ async fn wants_of(shared: Arc<Shared>, number: u32, client: u32, behind: u64) ->
     wanted(number, behind, &wants.told(client, behind, now()))
 }
 
-/// Writes replies in the order of their frames, each as soon as it is there.
+/// Writes replies in the order of their frames, each as soon as it is there. Those that are there together are written at once.
 async fn write_replies(
     mut to: impl AsyncWrite + Unpin,
     mut waiting: mpsc::Receiver<Slot>,
     time: Duration,
 ) -> Result<(), tokio::time::error::Elapsed> {
-    while let Some(slot) = waiting.recv().await {
-        let bytes = match slot.said {
-            Said::Here(bytes) => bytes,
-            Said::Later(bytes) => bytes.await,
-            Said::Waits(answer) => match answer.await {
-                Ok(Answer::Said(found)) => reply(slot.number, &found.said),
-                Ok(Answer::NeverSent) => Refusal::Stopping.reply(slot.number),
-                Err(_) => Refusal::Unknown.reply(slot.number),
-            },
-        };
+    let mut next = waiting.recv().await;
+    while let Some(mut slot) = next {
+        let mut bytes = slot.reply().await;
+        // Frames are under way until their replies are written.
+        let mut written = vec![slot];
+        next = waiting.try_recv().ok();
+        while let Some(mut slot) = next.take() {
+            let more = if bytes.len() < TOGETHER { slot.reply_now() } else { None };
+            if let Some(more) = more {
+                bytes.extend_from_slice(&more);
+                written.push(slot);
+                next = waiting.try_recv().ok();
+            } else {
+                next = Some(slot);
+                break;
+            }
+        }
         if timeout(time, to.write_all(&bytes)).await?.is_err() {
             break;
+        }
+        drop(written);
+        if next.is_none() {
+            next = waiting.recv().await;
         }
     }
     Ok(())

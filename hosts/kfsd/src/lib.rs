@@ -24,6 +24,7 @@ pub mod journal;
 pub mod leases;
 pub mod metrics;
 pub mod outcomes;
+pub mod pace;
 pub mod peer;
 pub mod queue;
 pub mod sockets;

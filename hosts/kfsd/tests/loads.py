@@ -109,6 +109,12 @@ def idle(daemon, _chance):
 
 def coming_and_going(daemon, _chance):
     """Connections that end within a frame."""
+    os.setuid(HOSTILE[0]["uid"])
+    strangers(daemon, _chance)
+
+
+def strangers(daemon, _chance):
+    """The same of a user that isn't listed."""
     while True:
         with contextlib.suppress(OSError), socket.socket(socket.AF_UNIX) as it:
             it.connect(f"{daemon.room}/socket")
@@ -139,8 +145,8 @@ def beside(daemon, kinds, seconds):
 
 def hostile(made, seconds):
     """Prints how long calls of ten users take beside each kind of hostile clients, two of each, and beside all."""
-    kinds = [forged, random_frames, never_reading, long_frames, idle, coming_and_going]
-    cases = [[], *([kind] for kind in kinds), kinds[:3] + [idle, coming_and_going], kinds, []]
+    kinds = [forged, random_frames, never_reading, idle, coming_and_going, strangers, long_frames]
+    cases = [[], *([kind] for kind in kinds), kinds[:-1], kinds, []]
     print("beside                   calls/s    median 99 of 100      most, in microseconds; 99 of 100 beside alone")
     alone = None
     for case in cases:
@@ -151,5 +157,5 @@ def hostile(made, seconds):
             found = beside(daemon, case, seconds)
             daemon.process.kill()
         alone = alone or found["micros_of_99_in_100"]
-        name = case[0].__name__ if len(case) == 1 else {0: "nobody", 6: "all"}.get(len(case), "all but long_frames")
+        name = case[0].__name__ if len(case) == 1 else {0: "nobody", len(kinds): "all"}.get(len(case), "all but long_frames")
         print(f"{name:<20} {line(found)} {found['micros_of_99_in_100'] / alone:>9.2f}", flush=True)

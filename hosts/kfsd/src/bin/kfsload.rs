@@ -135,7 +135,15 @@ impl Client {
     fn new(shared: &Arc<Shared>, user: User, at: u32, place: u32) -> Client {
         let file = |slot| File { slot, number: user.first + place * FILES + slot, step: 0, fill: 0 };
         let number = u64::from(std::process::id() & 0xffff) << 48 | u64::from(at) << 32;
-        Client { shared: Arc::clone(shared), user, at, files: (0..FILES).map(file).collect(), number, stream: None, micros: vec![] }
+        Client {
+            shared: Arc::clone(shared),
+            user,
+            at,
+            files: (0..FILES).map(file).collect(),
+            number,
+            stream: None,
+            micros: vec![],
+        }
     }
 
     fn name(&self, slot: u32) -> String {
@@ -222,7 +230,8 @@ impl Client {
         let name = self.name(file.slot);
         let created = [&[1][..], &word(self.user.directory), &name_bytes(&name), &word(file.number), &[0, 1, 0xa4]].concat();
         let written = [&[2][..], &word(file.number), &[0; 8], &word(file.size()), &self.bytes(file)].concat();
-        let header = [&[1, 1, 0xa4][..], &word(self.user.uid), &word(self.user.gid), &[0, 1], &long(file.size().into())].concat();
+        let header =
+            [&[1, 1, 0xa4][..], &word(self.user.uid), &word(self.user.gid), &[0, 1], &long(file.size().into())].concat();
         let names = [&word(self.user.directory)[..], &name_bytes(&name), &word(file.number)].concat();
         let nodes = [&word(file.number)[..], &header].concat();
         self.submit(&[created, written], &[names], &[nodes], &[piece(file, 1)])
