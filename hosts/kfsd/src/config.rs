@@ -1,6 +1,6 @@
 //! The file that an administrator writes.
 
-use crate::frames::BODY_LIMIT;
+use crate::frames::{BODY_LIMIT, FOUND_BYTES};
 use crate::users::{User, UsersFault};
 use serde::Deserialize;
 use std::net::SocketAddr;
@@ -91,6 +91,8 @@ pub struct Duties {
     pub lease_seconds: u64,
     /// How long a lease is renewed that another client wants.
     pub wanted_seconds: u64,
+    /// Whether the journal is begun anew at a stop, so that the next start is a short one.
+    pub checkpoint_at_stop: bool,
 }
 
 impl Duties {
@@ -104,7 +106,7 @@ impl Duties {
 
 impl Default for Duties {
     fn default() -> Duties {
-        Duties { tick_seconds: 60, lease_seconds: 3600, wanted_seconds: 30 }
+        Duties { tick_seconds: 60, lease_seconds: 3600, wanted_seconds: 30, checkpoint_at_stop: true }
     }
 }
 
@@ -141,13 +143,13 @@ impl Limits {
     }
 
     fn check(&self) -> Result<(), ConfigFault> {
-        let longest = self.frame_bytes.saturating_add(FRAME_COST);
+        let longest = self.frame_bytes.saturating_add(FRAME_COST).max(FOUND_BYTES);
         let wrong = [
             (self.connections_a_user == 0, "no connection is allowed"),
             (self.frames_a_connection == 0 || self.frames_a_user == 0, "no frame is allowed"),
             (self.frame_bytes > BODY_LIMIT, "frame_bytes is over 16,777,216"),
-            (self.bytes_a_connection < longest, "bytes_a_connection is less than a longest frame and 256"),
-            (self.bytes_a_user < longest, "bytes_a_user is less than a longest frame and 256"),
+            (self.bytes_a_connection < longest, "bytes_a_connection is less than a longest frame and 256, or than 66,560"),
+            (self.bytes_a_user < longest, "bytes_a_user is less than a longest frame and 256, or than 66,560"),
             (self.frame_seconds == 0 || self.reply_seconds == 0, "no time is left for a frame or a reply"),
         ];
         match wrong.iter().find(|(is_wrong, _)| *is_wrong) {
@@ -242,9 +244,9 @@ mod tests {
 
     #[test]
     fn limits_below_a_frame_are_refused() {
-        let text = format!("{SMALL}\n[limits]\nframe_bytes = 1000\nbytes_a_user = 1255");
+        let text = format!("{SMALL}\n[limits]\nframe_bytes = 100000\nbytes_a_user = 100255");
         assert!(matches!(read(&text), Err(ConfigFault::Limit(_))));
-        let text = format!("{SMALL}\n[limits]\nframe_bytes = 1000\nbytes_a_user = 1256");
+        let text = format!("{SMALL}\n[limits]\nframe_bytes = 100000\nbytes_a_user = 100256");
         assert!(read(&text).is_ok());
     }
 

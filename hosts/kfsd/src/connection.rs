@@ -6,7 +6,9 @@ use crate::calls::{Note, Wish};
 use crate::config::{Duties, Limits, FRAME_COST};
 use crate::figures::Figures;
 use crate::following::Following;
-use crate::frames::{asked, moment, reply, times, told_again, wanted, welcome, Asked, Head, Refusal, HEAD, NUMBERED_HEAD};
+use crate::frames::{
+    asked, found_in, moment, reply, times, told_again, wanted, welcome, Asked, Head, Refusal, HEAD, NUMBERED_HEAD,
+};
 use crate::outcomes::Stands;
 use crate::queue::{Answer, Asker, Call, Permits, Queue};
 use crate::users::{Account, Place, Table};
@@ -85,6 +87,8 @@ struct Slot {
     said: Said,
     /// The frame is under way until its reply is written.
     _frame: Arc<Permits>,
+    /// The bytes of a reply that may be long.
+    _found: Option<Permits>,
 }
 
 impl Slot {
@@ -259,10 +263,27 @@ impl<R: AsyncRead + Unpin> Reader<'_, R> {
         if let Some(said) = number.and_then(|own| self.said_before(head.number, own)) {
             return self.put(head, frame, Said::Here(said)).await;
         }
+        let (bytes, found) = self.with_found(&body, bytes).await?;
         let (to, answer) = oneshot::channel();
         let asker = Asker { to, frame: Some(Arc::clone(&frame)) };
-        self.shared.queue.push(Call { client, body, note, came: Instant::now(), number, bytes: Some(bytes), asker });
-        self.put(head, frame, Said::Waits(answer)).await
+        self.shared.queue.push(Call { client, body, note, came: Instant::now(), number, bytes, asker });
+        let said = Said::Waits(answer);
+        self.slots.send(Slot { number: head.number, said, _frame: frame, _found: found }).await?;
+        Ok(())
+    }
+
+    /// The bytes that a frame takes until it is sent; or those that it takes with its reply until that is written, where it
+    /// may be long. Those that it had are given back first: who waits for more may hold none.
+    async fn with_found(&self, body: &[u8], bytes: Permits) -> Result<(Option<Permits>, Option<Permits>), End> {
+        match found_in(body) {
+            0 => Ok((Some(bytes), None)),
+            count => {
+                drop(bytes);
+                // Such a body has at most 264 bytes.
+                let all = count + FRAME_COST + body.len() as u32;
+                Ok((None, Some(take(&self.bytes, &self.account.bytes, all).await?)))
+            }
+        }
     }
 
     /// The reply to what kfsd itself is asked.
@@ -312,7 +333,7 @@ impl<R: AsyncRead + Unpin> Reader<'_, R> {
                 sleep(wait).await;
             }
         }
-        self.slots.send(Slot { number: head.number, said, _frame: frame }).await?;
+        self.slots.send(Slot { number: head.number, said, _frame: frame, _found: None }).await?;
         Ok(())
     }
 }

@@ -7,6 +7,7 @@ use crate::duties;
 use crate::figures::Figures;
 use crate::folder::{Folder, Found};
 use crate::following::Following;
+use crate::frames::CHECKPOINT;
 use crate::metrics;
 use crate::queue::Queue;
 use crate::sockets::{accept, Sockets};
@@ -196,6 +197,10 @@ impl Daemon {
 
     /// Ends the desk, once what waits is answered.
     async fn end_desk(mut self) -> Result<(), DaemonFault> {
+        if self.shared.duties.checkpoint_at_stop && self.shared.figures.opened.get() == 1 {
+            // Where it isn't made, the next start takes longer.
+            drop(self.shared.queue.push_own(vec![CHECKPOINT]));
+        }
         self.shared.queue.close();
         match timeout(self.config.limits.stop_time(), &mut self.desk).await {
             Ok(ended) => Ok(ended??),

@@ -1,7 +1,10 @@
-//! What kfsd does by itself: it tells the desk the moment.
+//! What kfsd does by itself: it tells the desk the moment, and asks it how it stands.
 
+use crate::bytes::Bytes;
 use crate::calls::tick;
 use crate::connection::Shared;
+use crate::frames::{CHECKPOINT, STATE};
+use crate::queue::Answer;
 use std::sync::Arc;
 use std::time::Duration;
 use tokio::time::sleep;
@@ -31,4 +34,37 @@ pub async fn tick_on(shared: Arc<Shared>) {
     if let Some(moment) = last {
         let _ = shared.queue.push_own(tick(moment)).await;
     }
+}
+
+/// How the desk stands, as it says.
+#[derive(Clone, Copy, Debug, PartialEq, Eq)]
+pub struct State {
+    /// How many rows the docket has.
+    pub rows: u32,
+    /// How many places of each tier are free.
+    pub free: [u32; 3],
+}
+
+/// What stands behind the tag of a look-up's reply; none where the desk has refused it, or has ended.
+pub async fn found(shared: &Shared, look_up: Vec<u8>) -> Option<Vec<u8>> {
+    match shared.queue.push_own(look_up).await {
+        Ok(Answer::Said(reply)) => reply.found().map(<[u8]>::to_vec),
+        _ => None,
+    }
+}
+
+/// Asks the desk how it stands.
+pub async fn state(shared: &Shared) -> Option<State> {
+    let found = found(shared, vec![STATE]).await?;
+    let mut bytes = Bytes(&found);
+    let is_state = bytes.byte()? == 2;
+    let _moment = bytes.long()?;
+    let rows = bytes.word()?;
+    let free = [bytes.word()?, bytes.word()?, bytes.word()?];
+    is_state.then_some(State { rows, free })
+}
+
+/// Has the journal begun anew. Answers whether it was.
+pub async fn checkpoint(shared: &Shared) -> bool {
+    matches!(found(shared, vec![CHECKPOINT]).await.as_deref(), Some([3]))
 }

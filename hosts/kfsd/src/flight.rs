@@ -81,6 +81,8 @@ impl Flight {
         let lengths: Vec<(u64, bool)> = sent.iter().map(|one| (one.length as u64 + ANSWER, one.is_kept())).collect();
         let length = lengths.iter().map(|(length, _)| length).sum::<u64>();
         let bytes = sent.iter().map(|one| one.length).sum::<usize>();
+        // A checkpoint takes what the journal would have had room for.
+        let most = if sent.iter().any(|one| one.is_checkpoint) { 0 } else { EXPOSED };
         {
             let mut under = self.under();
             under.bytes += bytes;
@@ -89,7 +91,7 @@ impl Flight {
         loop {
             {
                 let mut under = self.under();
-                under.is_waiting = matches!(under.exposed(), Some(exposed) if exposed + length > EXPOSED);
+                under.is_waiting = matches!(under.exposed(), Some(exposed) if exposed + length > most);
                 if !under.is_waiting {
                     for (length, is_kept) in lengths {
                         under.total += length;
@@ -157,7 +159,16 @@ mod tests {
     use tokio::time::timeout;
 
     fn sent(number: u32, length: usize, numbered: Option<u64>) -> Sent {
-        Sent { number, client: 7, note: Note::Nothing, came: std::time::Instant::now(), numbered, length, asker: None }
+        Sent {
+            number,
+            client: 7,
+            note: Note::Nothing,
+            came: std::time::Instant::now(),
+            numbered,
+            is_checkpoint: false,
+            length,
+            asker: None,
+        }
     }
 
     /// Whether frames may be sent at once.
@@ -175,6 +186,18 @@ mod tests {
         assert!(flight.take(2).is_none());
         assert!(flight.take(1).is_some());
         assert_eq!(flight.room().await, WINDOW - 100);
+    }
+
+    #[tokio::test]
+    async fn all_is_kept_before_a_checkpoint() {
+        let flight = Flight::default();
+        let checkpoint = |number| Sent { is_checkpoint: true, ..sent(number, 13, None) };
+        assert!(goes(&flight, vec![checkpoint(1)]).await);
+        assert!(goes(&flight, vec![sent(2, 1, Some(1))]).await);
+        assert!(!goes(&flight, vec![checkpoint(3)]).await);
+        flight.ended();
+        flight.kept(1);
+        assert!(goes(&flight, vec![checkpoint(4)]).await);
     }
 
     #[tokio::test]

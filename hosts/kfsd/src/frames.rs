@@ -13,14 +13,29 @@ pub const BODY_LIMIT: u32 = 16_777_216;
 pub const HEAD: usize = 12;
 pub const REPLY_HEAD: usize = 8;
 
-/// The most bytes behind the head of a reply. An answer has at most 20, and its tag.
-pub const REPLY_LIMIT: u32 = 1024;
+/// The most bytes that a look-up finds, but for its tags.
+const FOUND_LIMIT: u32 = 65_536;
+
+/// How many bytes a look-up and its reply may take.
+pub const FOUND_BYTES: u32 = FOUND_LIMIT + 1024;
+
+/// The most bytes behind the head of a reply.
+pub const REPLY_LIMIT: u32 = FOUND_LIMIT + 1024;
 
 /// The tag of a reply with an answer: a position (4), and what the desk says.
 const ANSWERED: u8 = 1;
 
+/// The tag of a reply to a look-up.
+const FOUND: u8 = 3;
+
 /// The tag of a reply that refuses.
 const REFUSED: u8 = 2;
+
+/// The tags of look-ups: of names and of bytes, whose replies may be long, and those that are the front's.
+const NAMES: u8 = 0x44;
+const READ: u8 = 0x45;
+pub const STATE: u8 = 0x41;
+pub const CHECKPOINT: u8 = 0x42;
 
 /// The tag of a body that asks kfsd who the client is. It is never forwarded.
 const HELLO: u8 = 0xf0;
@@ -218,9 +233,20 @@ pub fn asked(body: &[u8]) -> Asked {
             }
         }
         [1 | 2 | 3 | 6, a, b, c, d, ..] => Asked::Of(u32::from_be_bytes([a, b, c, d])),
-        [4 | 5, ..] => Asked::OfFront,
+        [4 | 5 | STATE | CHECKPOINT, ..] => Asked::OfFront,
         _ => Asked::Other,
     }
+}
+
+/// How many bytes the reply to a body may have, where they are many: those that a look-up asks for.
+pub fn found_in(body: &[u8]) -> u32 {
+    let asked = match *body {
+        [NAMES, _, _, _, _, a, b, c, d, ..] => u32::from_be_bytes([a, b, c, d]),
+        // The count is its last field.
+        [READ, .., a, b, c, d] => u32::from_be_bytes([a, b, c, d]),
+        _ => 0,
+    };
+    asked.min(FOUND_LIMIT)
 }
 
 /// A reply of `kfs_serve`.
@@ -232,6 +258,14 @@ pub struct Reply {
 }
 
 impl Reply {
+    /// What a look-up has found; none where the frame is refused, or was a call.
+    pub fn found(&self) -> Option<&[u8]> {
+        match self.said.as_slice() {
+            [FOUND, found @ ..] => Some(found),
+            _ => None,
+        }
+    }
+
     /// The answer, without its position; none where the frame is refused.
     pub fn answer(&self) -> Option<&[u8]> {
         match self.said.as_slice() {
@@ -283,6 +317,9 @@ mod tests {
         }
         assert_eq!(asked(&[4]), Asked::OfFront);
         assert_eq!(asked(&[5, 0]), Asked::OfFront);
+        assert_eq!(asked(&[STATE]), Asked::OfFront);
+        assert_eq!(asked(&[CHECKPOINT, 0]), Asked::OfFront);
+        assert_eq!(asked(&[READ, 0, 0, 0, 5]), Asked::Other);
         assert_eq!(asked(&[]), Asked::Other);
         assert_eq!(asked(&[7, 0, 0, 0, 1]), Asked::Other);
         assert_eq!(asked(&[HELLO]), Asked::Hello);
@@ -297,6 +334,15 @@ mod tests {
         assert_eq!(asked(&[WANTED]), Asked::Other);
         assert_eq!(asked(&[TIMES, 0, 0, 1, 0]), Asked::Times(256));
         assert_eq!(asked(&[HELLO, 0]), Asked::Other);
+    }
+
+    #[test]
+    fn long_replies_are_foreseen() {
+        assert_eq!(found_in(&[READ, 0, 0, 0, 5, 0, 0, 0, 0, 0, 0, 1, 0]), 256);
+        assert_eq!(found_in(&[READ, 0, 0, 0, 5, 0, 0, 0, 0, 1, 0, 0, 0]), FOUND_LIMIT);
+        assert_eq!(found_in(&[NAMES, 0, 0, 0, 5, 0, 0, 1, 4, b'a']), 260);
+        assert_eq!(found_in(&[READ, 0, 0]), 0);
+        assert_eq!(found_in(&[1; 20]), 0);
     }
 
     #[tokio::test]

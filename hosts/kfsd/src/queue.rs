@@ -2,7 +2,7 @@
 
 use crate::calls::Note;
 use crate::config::FRAME_COST;
-use crate::frames::{Head, Reply, HEAD};
+use crate::frames::{Head, Reply, CHECKPOINT, HEAD};
 use crate::outcomes::{Marker, MARKER};
 use crate::users::FRONT;
 use std::collections::{HashMap, VecDeque};
@@ -59,6 +59,11 @@ impl Call {
         self.body.len() + FRAME_COST as usize
     }
 
+    /// Whether it is the first of those that are sent at once: all before it is kept then (flight.rs).
+    fn is_alone(&self) -> bool {
+        self.client == FRONT && self.body == [CHECKPOINT]
+    }
+
     /// How many bytes are sent for it, with its marker.
     fn length(&self) -> usize {
         let marker = self.number.map_or(0, |_| HEAD + MARKER);
@@ -76,6 +81,8 @@ pub struct Sent {
     pub came: Instant,
     /// The client's own number for it.
     pub numbered: Option<u64>,
+    /// Whether all before it has to be kept before it is sent.
+    pub is_checkpoint: bool,
     /// How many bytes it has.
     pub length: usize,
     /// None where it is a marker.
@@ -230,13 +237,24 @@ impl Lines {
                     note: Note::Nothing,
                     came: call.came,
                     numbered: None,
+                    is_checkpoint: false,
                     length,
                     asker: None,
                 });
             }
             let number = self.put(&mut batch.bytes, call.client, &call.body);
+            let is_checkpoint = call.is_alone();
             let Call { client, body, note, came, number: numbered, asker, .. } = call;
-            batch.sent.push(Sent { number, client, note, came, numbered, length: HEAD + body.len(), asker: Some(asker) });
+            batch.sent.push(Sent {
+                number,
+                client,
+                note,
+                came,
+                numbered,
+                is_checkpoint,
+                length: HEAD + body.len(),
+                asker: Some(asker),
+            });
         }
         batch
     }
@@ -256,13 +274,13 @@ impl Lines {
         loop {
             let client = *self.turns.front()?;
             let line = self.of.get_mut(&client)?;
-            let (cost, length) = line.calls.front().map(|call| (call.cost(), call.length()))?;
+            let (cost, length, is_alone) = line.calls.front().map(|call| (call.cost(), call.length(), call.is_alone()))?;
             if cost > line.credit {
                 line.credit += TURN;
                 self.turns.rotate_left(1);
                 continue;
             }
-            if length > room && !is_first {
+            if (length > room || is_alone) && !is_first {
                 return None;
             }
             line.credit -= cost;
@@ -379,6 +397,18 @@ mod tests {
         assert_eq!(clients_in(&batch.bytes), [(7, 3), (FRONT, 9)]);
         drop(batch);
         assert!(answer.await.is_err());
+    }
+
+    #[tokio::test]
+    async fn a_checkpoint_is_the_first_of_a_batch() {
+        let queue = Queue::default();
+        queue.push(call(7, 1).0);
+        let _answer = queue.push_own(vec![CHECKPOINT]);
+        queue.push(call(8, 2).0);
+        let (first, second) = (queue.next(MOST).await.unwrap(), queue.next(MOST).await.unwrap());
+        assert_eq!(clients_in(&first.bytes), [(7, 1)]);
+        assert_eq!(clients_in(&second.bytes), [(FRONT, 1), (8, 2)]);
+        assert_eq!(second.sent.iter().map(|sent| sent.is_checkpoint).collect::<Vec<_>>(), [true, false]);
     }
 
     #[tokio::test]

@@ -131,7 +131,7 @@ class Daemon:
     def __init__(self, binaries, program, users=None, tiers=(64, 64, 64), duties=None, figures=None, **limits):
         self.binaries, self.users, self.limits, self.tiers = binaries, list(USERS if users is None else users), limits, tiers
         # most tests ask for leases up to any end, and count seconds of none
-        self.duties = {"lease_seconds": 0, **(duties or {})}
+        self.duties = {"lease_seconds": 0, "checkpoint_at_stop": False, **(duties or {})}
         self.figures = figures
         self.room = tempfile.mkdtemp(prefix="kfsd-")
         os.chmod(self.room, 0o755)
@@ -157,7 +157,7 @@ class Daemon:
         lines += [f'figures = "{self.figures}"'] if self.figures else []
         lines += [f'folder = "{self.folder}"', f'program = "{self.program}"', f"tiers = {list(self.tiers)}", "[limits]"]
         lines += [f"{name} = {value}" for name, value in self.limits.items()]
-        lines += ["[duties]", *(f"{name} = {value}" for name, value in self.duties.items())]
+        lines += ["[duties]", *(f"{name} = {json.dumps(value)}" for name, value in self.duties.items())]
         for it in self.users:
             lines += ["[[user]]", *(f"{name} = {json.dumps(value)}" for name, value in it.items())]
         with open(f"{self.room}/kfsd.toml", "w", encoding="utf-8") as it:

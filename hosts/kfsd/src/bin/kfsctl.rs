@@ -12,7 +12,7 @@ use std::thread::sleep;
 use std::time::{Duration, Instant};
 
 /// How long an answer may take.
-const TIME: Duration = Duration::from_secs(10);
+const TIME: Duration = Duration::from_secs(60);
 
 /// Asks a running kfsd.
 #[derive(Debug, Parser)]
@@ -33,6 +33,10 @@ enum Asked {
     Users,
     /// Prints a line for each lease, and for each that another client wants.
     Leases,
+    /// Prints how many places of each tier are free, and how many rows the docket has.
+    Free,
+    /// Has the journal begun anew, with the state of now.
+    Checkpoint,
     /// Prints a line now and then: calls a second, and what waits.
     Watch {
         /// Seconds between two lines.
@@ -50,6 +54,8 @@ fn main() -> Result<()> {
         Asked::Status => "status",
         Asked::Users => "users",
         Asked::Leases => "leases",
+        Asked::Free => "free",
+        Asked::Checkpoint => "checkpoint",
         Asked::Watch { seconds, count } => return watch(&words.control, Duration::from_secs(seconds), count),
     };
     print(&ask(&words.control, question)?)
