@@ -137,6 +137,8 @@ pub enum Why {
 pub enum Told {
     /// A log has landed.
     Landed,
+    /// Too few places of tier 0 are free.
+    NoRoom,
     Leased(u32),
     Dropped(u32),
     Ticked(u64),
@@ -154,6 +156,7 @@ impl Told {
         let mut bytes = Bytes(answer);
         match bytes.byte()? {
             1 => Some(Told::Landed),
+            3 => Some(Told::NoRoom),
             4 => Some(Told::Leased(bytes.word()?)),
             5 => Some(Told::Dropped(bytes.word()?)),
             6 => Some(Told::Ticked(bytes.long()?)),
@@ -215,5 +218,6 @@ mod tests {
         assert_eq!(Told::of(&[8, 6, 0, 0, 0, 0, 0, 0, 0, 0, 0, 0, 0, 0, 0]), Told::NoLease(Why::Else));
         assert_eq!(Told::of(&[1, 0]), Told::Landed);
         assert_eq!(Told::of(&[2, 0]), Told::Else);
+        assert_eq!(Told::of(&[3, 0]), Told::NoRoom);
     }
 }

@@ -93,10 +93,15 @@ pub struct Duties {
     pub wanted_seconds: u64,
     /// Whether the journal is begun anew at a stop, so that the next start is a short one.
     pub checkpoint_at_stop: bool,
+    /// Of 100 places of tier 0, how many should be free: else blocks go to slower tiers. 0 where none ever goes.
+    pub free_percent: u8,
 }
 
 impl Duties {
     fn check(&self) -> Result<(), ConfigFault> {
+        if self.free_percent > 50 {
+            return Err(ConfigFault::Limit("free_percent is 50 at most"));
+        }
         if self.wanted_seconds == 0 || self.tick_seconds == 0 {
             return Err(ConfigFault::Limit("tick_seconds and wanted_seconds are 1 at least"));
         }
@@ -106,7 +111,7 @@ impl Duties {
 
 impl Default for Duties {
     fn default() -> Duties {
-        Duties { tick_seconds: 60, lease_seconds: 3600, wanted_seconds: 30, checkpoint_at_stop: true }
+        Duties { tick_seconds: 60, lease_seconds: 3600, wanted_seconds: 30, checkpoint_at_stop: true, free_percent: 10 }
     }
 }
 

@@ -9,6 +9,7 @@ use crate::folder::{Folder, Found};
 use crate::following::Following;
 use crate::frames::CHECKPOINT;
 use crate::metrics;
+use crate::moves;
 use crate::queue::Queue;
 use crate::sockets::{accept, Sockets};
 use crate::store::Store;
@@ -172,6 +173,8 @@ impl Daemon {
     async fn serve(mut self, sockets: Sockets, mut signals: Signals) -> Result<(), DaemonFault> {
         let accepting = tokio::spawn(accept(sockets, Arc::clone(&self.shared)));
         let ticking = tokio::spawn(duties::tick_on(Arc::clone(&self.shared)));
+        let moving = (self.shared.duties.free_percent > 0)
+            .then(|| tokio::spawn(moves::move_on(Arc::clone(&self.shared), self.config.tiers)));
         let lost = loop {
             tokio::select! {
                 asked = signals.next() => match asked {
@@ -186,6 +189,8 @@ impl Daemon {
         if timeout(self.config.limits.stop_time(), accepting).await.is_err() {
             warn!("some connections haven't ended in time");
         }
+        // One that is at the desk is made, and no other one.
+        moving.iter().for_each(JoinHandle::abort);
         if timeout(LAST_TICK, ticking).await.is_err() {
             warn!("the desk isn't told the last moment in time");
         }

@@ -81,6 +81,8 @@ pub struct Figures {
     /// Frames that kfsd answered itself, and calls of its own that were answered.
     pub answered_here: Count,
     pub own: Count,
+    /// Blocks that were moved to slower tiers.
+    pub moved: Count,
     /// Connections that were ended because a frame came or a reply went too slowly.
     pub too_slow: Count,
     /// How often `kfs_serve` was started, and its process now; 0 where there is none. 1 where that has opened its files.

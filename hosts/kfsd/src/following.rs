@@ -13,7 +13,7 @@ use std::io;
 use std::path::Path;
 use std::sync::{Mutex, MutexGuard, PoisonError};
 use std::time::Instant;
-use tokio::sync::watch;
+use tokio::sync::{watch, Notify};
 
 /// How many bytes of the journal may have landings in them that aren't kept here yet, and some more.
 const RECENT: usize = 1 << 20;
@@ -37,6 +37,8 @@ pub struct Following {
     times: Mutex<Times>,
     /// Changes with each new want.
     is_wanted: watch::Sender<()>,
+    /// Tells of a log that had too few free places.
+    short: Notify,
 }
 
 impl Default for Following {
@@ -48,6 +50,7 @@ impl Default for Following {
             wants: Mutex::default(),
             times: Mutex::default(),
             is_wanted: watch::channel(()).0,
+            short: Notify::new(),
         }
     }
 }
@@ -72,6 +75,11 @@ impl Following {
     pub fn take_unsaved(&self) -> Changes {
         let stamps = self.times().take_unsaved();
         Changes { stamps, ..self.outcomes.take_unsaved() }
+    }
+
+    /// Returns when a log had too few free places.
+    pub async fn is_short(&self) {
+        self.short.notified().await;
     }
 
     /// Tells of each new want.
@@ -120,6 +128,9 @@ impl Following {
         leases.apply(note, told);
         if let (Note::Submit(changes), Told::Landed) = (note, told) {
             self.times().landed(changes, times::now());
+        }
+        if told == Told::NoRoom {
+            self.short.notify_one();
         }
         if let Note::Lease(wish) = note {
             if self.wants().apply(wish, told, &leases, Instant::now()) {

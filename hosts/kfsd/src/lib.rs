@@ -23,6 +23,7 @@ pub mod frames;
 pub mod journal;
 pub mod leases;
 pub mod metrics;
+pub mod moves;
 pub mod outcomes;
 pub mod pace;
 pub mod peer;

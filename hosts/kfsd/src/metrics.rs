@@ -93,6 +93,7 @@ fn text_of(status: &Status, times: &Times) -> String {
         ("kfsd_frames_unknown_total", "Frames of which nobody knows whether they were done.", status.frames.unknown),
         ("kfsd_frames_answered_here_total", "Frames that kfsd has answered itself.", status.frames.answered_here),
         ("kfsd_own_calls_total", "Calls of kfsd itself that were answered.", status.frames.own),
+        ("kfsd_moved_blocks_total", "Blocks that were moved to slower tiers.", status.desk.moved_blocks),
         ("kfsd_kfs_serve_starts_total", "How often kfs_serve was started.", status.kfs_serve.starts),
     ];
     for (name, help, value) in counts {

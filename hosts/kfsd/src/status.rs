@@ -34,6 +34,7 @@ pub struct Standing {
     pub moment: u64,
     pub leases: usize,
     pub wanted_leases: usize,
+    pub moved_blocks: u64,
 }
 
 #[derive(Debug, Deserialize, Serialize)]
@@ -102,7 +103,7 @@ fn standing(shared: &Shared) -> Standing {
     let following = &shared.following;
     let leases = following.leases().held.len();
     let wanted_leases = following.wants().all(Instant::now()).len();
-    Standing { moment: following.clock.now(), leases, wanted_leases }
+    Standing { moment: following.clock.now(), leases, wanted_leases, moved_blocks: shared.figures.moved.get() }
 }
 
 /// A line for each user that may connect.

@@ -49,7 +49,9 @@ const TABLES: &str = "
         serial INTEGER PRIMARY KEY, client INTEGER NOT NULL, number INTEGER NOT NULL, answer BLOB NOT NULL,
         UNIQUE (client, number)
     );
-    CREATE TABLE IF NOT EXISTS stamp (node INTEGER PRIMARY KEY, modified INTEGER NOT NULL, changed INTEGER NOT NULL);
+    CREATE TABLE IF NOT EXISTS stamp (
+        node INTEGER PRIMARY KEY, modified INTEGER NOT NULL, changed INTEGER NOT NULL, moved INTEGER NOT NULL
+    );
     CREATE TABLE IF NOT EXISTS running (is_running INTEGER NOT NULL);
 ";
 
@@ -75,8 +77,10 @@ impl Store {
 
     /// When nodes were changed.
     pub fn stamps(&self) -> rusqlite::Result<Vec<(u32, Stamp)>> {
-        let mut rows = self.connection.prepare("SELECT node, modified, changed FROM stamp")?;
-        let found = rows.query_map([], |row| Ok((row.get(0)?, Stamp { modified: row.get(1)?, changed: row.get(2)? })))?;
+        let mut rows = self.connection.prepare("SELECT node, modified, changed, moved FROM stamp")?;
+        let found = rows.query_map([], |row| {
+            Ok((row.get(0)?, Stamp { modified: row.get(1)?, changed: row.get(2)?, moved: row.get(3)? }))
+        })?;
         found.collect()
     }
 
@@ -126,11 +130,11 @@ impl Store {
 }
 
 fn put_stamps(all: &Connection, stamps: &HashMap<u32, Option<Stamp>>) -> rusqlite::Result<()> {
-    let mut put = all.prepare("INSERT OR REPLACE INTO stamp (node, modified, changed) VALUES (?, ?, ?)")?;
+    let mut put = all.prepare("INSERT OR REPLACE INTO stamp (node, modified, changed, moved) VALUES (?, ?, ?, ?)")?;
     let mut take = all.prepare("DELETE FROM stamp WHERE node = ?")?;
     for (node, stamp) in stamps {
         match stamp {
-            Some(stamp) => put.execute(params![node, stamp.modified, stamp.changed])?,
+            Some(stamp) => put.execute(params![node, stamp.modified, stamp.changed, stamp.moved])?,
             None => take.execute(params![node])?,
         };
     }
@@ -165,7 +169,7 @@ mod tests {
     #[test]
     fn stamps_are_kept_and_taken() {
         let room = Room::new("stamps");
-        let stamp = |time| Some(Stamp { modified: time, changed: time + 1 });
+        let stamp = |time| Some(Stamp { modified: time, changed: time + 1, moved: time - 1 });
         let mut store = Store::open(&room.0, true).unwrap();
         assert!(!store.begin().unwrap());
         let stamps = HashMap::from([(1, stamp(5)), (u32::MAX, stamp(6)), (3, None)]);

@@ -11,6 +11,8 @@ pub struct Stamp {
     pub modified: i64,
     /// When anything of it was.
     pub changed: i64,
+    /// When it was modified, at the time at which all its blocks went to slower tiers; 0 where they didn't.
+    pub moved: i64,
 }
 
 /// The time now.
@@ -42,14 +44,32 @@ impl Times {
         for (node, change) in changes {
             let stamp = match change {
                 Change::Gone => None,
-                Change::Bytes => Some(Stamp { modified: time, changed: time }),
-                Change::Header => Some(Stamp { modified: self.of(*node).map_or(time, |stamp| stamp.modified), changed: time }),
+                Change::Bytes => Some(Stamp { modified: time, changed: time, moved: 0 }),
+                Change::Header => {
+                    let before = self.of(*node).unwrap_or(Stamp { modified: time, changed: time, moved: 0 });
+                    Some(Stamp { changed: time, ..before })
+                }
             };
             match stamp {
                 Some(stamp) => self.of.insert(*node, stamp),
                 None => self.of.remove(node),
             };
             self.unsaved.insert(*node, stamp);
+        }
+    }
+
+    /// The nodes whose blocks aren't all on slower tiers, those first that were written longest ago.
+    pub fn oldest(&self) -> Vec<u32> {
+        let mut found: Vec<_> = self.of.iter().filter(|(_, stamp)| stamp.moved != stamp.modified).collect();
+        found.sort_by_key(|(node, stamp)| (stamp.modified, **node));
+        found.into_iter().map(|(node, _)| *node).collect()
+    }
+
+    /// All blocks of a file are on slower tiers that was modified at this time. Where it was written since, they aren't.
+    pub fn is_moved(&mut self, node: u32, modified: i64) {
+        if let Some(stamp) = self.of.get_mut(&node).filter(|stamp| stamp.modified == modified) {
+            stamp.moved = modified;
+            self.unsaved.insert(node, Some(*stamp));
         }
     }
 
@@ -67,15 +87,30 @@ mod tests {
     fn stamps_follow_landings() {
         let mut times = Times::default();
         times.landed(&[(1, Change::Bytes), (5, Change::Header)], 100);
-        assert_eq!(times.of(5), Some(Stamp { modified: 100, changed: 100 }));
+        assert_eq!(times.of(5), Some(Stamp { modified: 100, changed: 100, moved: 0 }));
         times.landed(&[(5, Change::Header)], 200);
-        assert_eq!(times.of(5), Some(Stamp { modified: 100, changed: 200 }));
+        assert_eq!(times.of(5), Some(Stamp { modified: 100, changed: 200, moved: 0 }));
         times.landed(&[(5, Change::Header), (5, Change::Bytes)], 300);
-        assert_eq!(times.of(5), Some(Stamp { modified: 300, changed: 300 }));
+        assert_eq!(times.of(5), Some(Stamp { modified: 300, changed: 300, moved: 0 }));
         times.landed(&[(5, Change::Gone)], 400);
         assert_eq!(times.of(5), None);
         let unsaved = times.take_unsaved();
-        assert_eq!((unsaved[&5], unsaved[&1]), (None, Some(Stamp { modified: 100, changed: 100 })));
+        assert_eq!((unsaved[&5], unsaved[&1]), (None, Some(Stamp { modified: 100, changed: 100, moved: 0 })));
         assert!(times.take_unsaved().is_empty());
+    }
+    #[test]
+    fn the_oldest_go_first_and_once() {
+        let mut times = Times::default();
+        times.landed(&[(5, Change::Bytes), (6, Change::Bytes)], 100);
+        times.landed(&[(4, Change::Bytes)], 50);
+        times.landed(&[(5, Change::Header)], 200);
+        assert_eq!(times.oldest(), [4, 5, 6]);
+        times.is_moved(4, 50);
+        times.is_moved(5, 99);
+        assert_eq!(times.oldest(), [5, 6]);
+        times.landed(&[(4, Change::Header)], 300);
+        assert_eq!(times.oldest(), [5, 6]);
+        times.landed(&[(4, Change::Bytes)], 400);
+        assert_eq!(times.oldest(), [5, 6, 4]);
     }
 }

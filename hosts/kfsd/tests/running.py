@@ -131,7 +131,7 @@ class Daemon:
     def __init__(self, binaries, program, users=None, tiers=(64, 64, 64), duties=None, figures=None, **limits):
         self.binaries, self.users, self.limits, self.tiers = binaries, list(USERS if users is None else users), limits, tiers
         # most tests ask for leases up to any end, and count seconds of none
-        self.duties = {"lease_seconds": 0, "checkpoint_at_stop": False, **(duties or {})}
+        self.duties = {"lease_seconds": 0, "checkpoint_at_stop": False, "free_percent": 0, **(duties or {})}
         self.figures = figures
         self.room = tempfile.mkdtemp(prefix="kfsd-")
         os.chmod(self.room, 0o755)
