@@ -9,7 +9,7 @@ use crate::queue::{Answer, Batch, Sent};
 use crate::store::Store;
 use crate::times;
 use crate::users::FRONT;
-use std::collections::{HashMap, VecDeque};
+use std::collections::{HashMap, HashSet, VecDeque};
 use std::ffi::OsString;
 use std::io;
 use std::path::{Path, PathBuf};
@@ -106,9 +106,9 @@ impl Desk {
     fn begin(&self, shared: &Shared) -> Result<(), DeskFault> {
         let following = &shared.following;
         block_in_place(|| {
-            let found = following.read(self.folder.path()).map_err(DeskFault::Folder)?;
+            let found = following.read(self.folder.path(), |_, _| true).map_err(DeskFault::Folder)?;
             let mut store = self.store();
-            following.outcomes.begin_with(store.outcomes()?, found.outcomes);
+            following.outcomes.begin_with(store.outcomes()?, found.outcomes.into_values().flatten().collect());
             following.times().begin_with(store.stamps()?);
             if store.begin()? {
                 // The kfsd before may not have kept these.
@@ -134,8 +134,11 @@ impl Desk {
     /// No process runs. Of calls without a number each asker hears that nobody knows.
     fn settle(&self, shared: &Shared, left: VecDeque<Sent>) -> Result<(), DeskFault> {
         let following = &shared.following;
-        let found = block_in_place(|| following.read(self.folder.path())).map_err(DeskFault::Folder)?;
-        let outcomes: HashMap<_, _> = found.outcomes.into_iter().map(|one| ((one.client, one.number), one.answer)).collect();
+        let asked: HashSet<_> = left.iter().filter_map(|sent| Some((sent.client, sent.numbered?))).collect();
+        let is_asked = |client, number| asked.contains(&(client, number));
+        let found = block_in_place(|| following.read(self.folder.path(), is_asked)).map_err(DeskFault::Folder)?;
+        let outcomes = found.outcomes.into_values().flatten();
+        let outcomes: HashMap<_, _> = outcomes.map(|one| ((one.client, one.number), one.answer)).collect();
         let answer_of = |sent: &Sent| sent.numbered.and_then(|number| outcomes.get(&(sent.client, number)));
         for sent in &left {
             if let Some(number) = sent.numbered {

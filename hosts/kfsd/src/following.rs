@@ -4,11 +4,11 @@ use crate::calls::{Change, Note, Told, Wish};
 use crate::clock::Clock;
 use crate::journal::{self, Part};
 use crate::leases::Leases;
-use crate::outcomes::{Finder, Outcomes};
+use crate::outcomes::{Finder, Outcomes, KEPT};
 use crate::store::{Changes, Outcome};
 use crate::times::{self, Times};
 use crate::wants::Wants;
-use std::collections::VecDeque;
+use std::collections::{HashMap, VecDeque};
 use std::io;
 use std::path::Path;
 use std::sync::{Mutex, MutexGuard, PoisonError};
@@ -21,10 +21,21 @@ const RECENT: usize = 1 << 20;
 /// What the files tell of calls whose answers may be lost.
 #[derive(Debug, Default)]
 pub struct Found {
-    /// How the numbered calls in them ended.
-    pub outcomes: Vec<Outcome>,
+    /// How numbered calls in them ended: of each client the last ones.
+    pub outcomes: HashMap<u32, VecDeque<Outcome>>,
     /// What the last logs that have landed changed.
     pub recent: VecDeque<Vec<(u32, Change)>>,
+}
+
+impl Found {
+    /// Adds an outcome behind the others of its client, of which no more are held than are told.
+    fn put(&mut self, outcome: Outcome) {
+        let last = self.outcomes.entry(outcome.client).or_default();
+        if last.len() == KEPT {
+            last.pop_front();
+        }
+        last.push_back(outcome);
+    }
 }
 
 /// How the desk stands by the answers so far.
@@ -93,8 +104,9 @@ impl Following {
         self.wants().forbid(wish, &leases, Instant::now())
     }
 
-    /// Begins anew with what the files say, and tells more of it. No `kfs_serve` may run.
-    pub fn read(&self, folder: &Path) -> io::Result<Found> {
+    /// Begins anew with what the files say, and tells more of it: of numbered calls of those clients and numbers that are
+    /// asked for. No `kfs_serve` may run.
+    pub fn read(&self, folder: &Path, is_asked: impl Fn(u32, u64) -> bool) -> io::Result<Found> {
         let (mut leases, mut found, mut finder) = (Leases::default(), Found::default(), Finder::default());
         let (mut lengths, mut length) = (VecDeque::new(), 0);
         journal::read(folder, |part| match part {
@@ -102,7 +114,9 @@ impl Following {
             Part::Call(call, answer) => {
                 let (note, told) = (Note::of(call), Told::of(answer));
                 leases.apply(&note, told);
-                found.outcomes.extend(finder.next(call, answer));
+                if let Some(outcome) = finder.next(call, answer).filter(|one| is_asked(one.client, one.number)) {
+                    found.put(outcome);
+                }
                 let changes = match (note, told) {
                     (Note::Submit(changes), Told::Landed) => changes,
                     _ => vec![],
