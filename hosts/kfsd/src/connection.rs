@@ -239,7 +239,9 @@ impl<R: AsyncRead + Unpin> Reader<'_, R> {
         let client = self.account.user.client;
         let what = asked(&body);
         let is_others = matches!(what, Asked::Of(other) | Asked::Numbered(other, _) if other != client);
-        if head.from != client || what == Asked::OfFront || is_others {
+        // Who asks who it is needn't know it.
+        let is_own = head.from == client || what == Asked::Hello;
+        if !is_own || what == Asked::OfFront || is_others {
             return self.refuse(head, frame, Refusal::NotYours).await;
         }
         if let Some(said) = self.said_here(head.number, what) {
