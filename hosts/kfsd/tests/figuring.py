@@ -1,9 +1,11 @@
 """What kfsctl prints, and the figures for Prometheus."""
 import http.client
+import os
 import re
 import shutil
 import socket
 import subprocess
+import tempfile
 import time
 import tomllib
 
@@ -111,6 +113,25 @@ def kfsctl_prints(made):
         assert lines[1].split()[3] == "2", lines
 
 
+def a_copy_is_looked_at(made):
+    """fsck finds nothing wrong of a desk in use, also under load, and finds files that were spoiled."""
+    with Daemon(*made).start() as daemon:
+        words = ["fsck", "--folder", daemon.folder, "--program", daemon.program]
+        seven = daemon.connect(7)
+        for at in range(5):
+            seven.socket.sendall(b"".join(frame(each, 7, lease(7, 1000 + each)) for each in range(60)))
+            assert "breaks no rule" in daemon.ask(*words)
+            assert all(seven.reply().answer for _ in range(60))
+        assert daemon.stop()[0] == 0
+        assert "breaks no rule" in daemon.ask(*words)
+        with open(f"{daemon.folder}/first.kdjl", "r+b") as it:
+            it.seek(30)
+            it.write(b"spoiled")
+        said = subprocess.run([f"{daemon.binaries}/kfsctl", *words], check=False, capture_output=True, text=True)
+        assert said.returncode == 1 and "doesn't open a copy" in said.stderr, said
+        assert not [name for name in os.listdir(tempfile.gettempdir()) if name.startswith("kfsctl-")]
+
+
 def man_pages_are_whole(made):
     """The man page has each name of the example and each command, and groff finds nothing wrong."""
     folder = f"{TOP}/hosts/kfsd"
@@ -133,4 +154,4 @@ def man_pages_are_whole(made):
             assert not wrong, wrong
 
 
-TESTS = [man_pages_are_whole, figures_are_told, figures_stay_on_this_machine, kfsctl_prints]
+TESTS = [man_pages_are_whole, a_copy_is_looked_at, figures_are_told, figures_stay_on_this_machine, kfsctl_prints]

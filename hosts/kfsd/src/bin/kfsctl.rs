@@ -4,10 +4,13 @@
 
 use anyhow::{bail, Context, Result};
 use clap::{Parser, Subcommand};
+use kfsd::folder::FILES;
 use kfsd::status::Status;
 use std::io::{Read, Write};
+use std::os::unix::fs::DirBuilderExt;
 use std::os::unix::net::UnixStream;
 use std::path::{Path, PathBuf};
+use std::process::{Command, ExitStatus, Stdio};
 use std::thread::sleep;
 use std::time::{Duration, Instant};
 
@@ -37,6 +40,15 @@ enum Asked {
     Free,
     /// Has the journal begun anew, with the state of now.
     Checkpoint,
+    /// Copies the two files of a desk, also while it is in use, and has the copy opened, which looks at all of it.
+    Fsck {
+        /// The folder of the two files.
+        #[arg(long)]
+        folder: PathBuf,
+        /// The program kfs_serve.
+        #[arg(long, default_value = "/usr/lib/kfsd/kfs_serve")]
+        program: PathBuf,
+    },
     /// Prints a line now and then: calls a second, and what waits.
     Watch {
         /// Seconds between two lines.
@@ -56,6 +68,7 @@ fn main() -> Result<()> {
         Asked::Leases => "leases",
         Asked::Free => "free",
         Asked::Checkpoint => "checkpoint",
+        Asked::Fsck { folder, program } => return fsck(&folder, &program),
         Asked::Watch { seconds, count } => return watch(&words.control, Duration::from_secs(seconds), count),
     };
     print(&ask(&words.control, question)?)
@@ -64,6 +77,36 @@ fn main() -> Result<()> {
 fn print(text: &str) -> Result<()> {
     std::io::stdout().write_all(text.as_bytes())?;
     Ok(())
+}
+
+/// How often a copy is made anew: where the journal was begun anew meanwhile, it may not be whole.
+const COPIES: u32 = 5;
+
+/// Looks at a copy of the files, in a folder of its own that goes.
+fn fsck(folder: &Path, program: &Path) -> Result<()> {
+    let room = std::env::temp_dir().join(format!("kfsctl-{}", std::process::id()));
+    std::fs::DirBuilder::new().mode(0o700).create(&room).with_context(|| room.display().to_string())?;
+    let found = (1..=COPIES).find_map(|at| match open_copy(folder, program, &room) {
+        Ok(status) if !status.success() && at < COPIES => None,
+        found => Some(found),
+    });
+    std::fs::remove_dir_all(&room)?;
+    match found {
+        Some(Ok(status)) if status.success() => print("the files are those of a desk whose image breaks no rule\n"),
+        Some(Ok(status)) => bail!("kfs_serve doesn't open a copy of the files: {status} (PROTOCOL.md)"),
+        Some(Err(fault)) => Err(fault),
+        None => bail!("no copy was made"),
+    }
+}
+
+/// Copies the files, and has them opened with no frame.
+fn open_copy(folder: &Path, program: &Path, room: &Path) -> Result<ExitStatus> {
+    for name in FILES {
+        std::fs::copy(folder.join(name), room.join(name)).with_context(|| folder.join(name).display().to_string())?;
+    }
+    let mut opened = Command::new(program);
+    opened.arg("open").arg(room).arg(u32::MAX.to_string()).stdin(Stdio::null()).stdout(Stdio::null());
+    opened.status().with_context(|| program.display().to_string())
 }
 
 /// The answer to a question.
