@@ -1,4 +1,5 @@
 """A running kfsd, connections to it as any user, and what its files keep."""
+import contextlib
 import importlib.machinery
 import importlib.util
 import json
@@ -125,6 +126,15 @@ class Connection:
         self.socket.close()
 
 
+def children_of(process):
+    """The children of a process, as descriptors, which mean these and no others that have their numbers later."""
+    found = []
+    for task in os.listdir(f"/proc/{process}/task"):
+        with contextlib.suppress(OSError), open(f"/proc/{process}/task/{task}/children", encoding="ascii") as it:
+            found += [os.pidfd_open(int(child)) for child in it.read().split()]
+    return found
+
+
 class Daemon:
     """A kfsd with a folder of its own."""
 
@@ -145,8 +155,14 @@ class Daemon:
 
     def __exit__(self, kind, *_):
         if self.process and self.process.poll() is None:
+            children = children_of(self.process.pid)
             self.process.kill()
             self.process.wait()
+            for held in children:
+                # kfs_serve ends by itself, and what stands in its place may not
+                with contextlib.suppress(ProcessLookupError):
+                    signal.pidfd_send_signal(held, signal.SIGKILL)
+                os.close(held)
         if kind is not None:
             print(f"--- {self.log}\n{self.said()[-3000:]}---")
         shutil.rmtree(self.room, ignore_errors=True)
