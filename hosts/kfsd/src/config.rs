@@ -1,8 +1,9 @@
 //! The file that an administrator writes.
 
-use crate::frames::BODY_LIMIT;
+use crate::frames::{BODY_LIMIT, FOUND_BYTES};
 use crate::users::{User, UsersFault};
 use serde::Deserialize;
+use std::net::SocketAddr;
 use std::path::{Path, PathBuf};
 use std::time::Duration;
 use thiserror::Error;
@@ -17,10 +18,12 @@ pub enum ConfigFault {
     Unread(PathBuf, std::io::Error),
     #[error("{0}: {1}")]
     Toml(PathBuf, toml::de::Error),
-    #[error("limits: {0}")]
+    #[error("the configuration: {0}")]
     Limit(&'static str),
     #[error("socket and control are one path")]
     OneSocket,
+    #[error("figures: {0} is no address of this machine alone, as 127.0.0.1 is")]
+    NotLocal(SocketAddr),
     #[error(transparent)]
     Users(#[from] UsersFault),
 }
@@ -33,6 +36,8 @@ pub struct Config {
     pub socket: PathBuf,
     /// Where `kfsctl` connects.
     pub control: PathBuf,
+    /// Where figures for Prometheus are told: an address of this machine alone. None where it isn't there.
+    pub figures: Option<SocketAddr>,
     /// The folder of the two files, which kfsd has for itself.
     pub folder: PathBuf,
     /// The program `kfs_serve`.
@@ -44,6 +49,8 @@ pub struct Config {
     pub rows: u32,
     #[serde(default)]
     pub limits: Limits,
+    #[serde(default)]
+    pub duties: Duties,
     #[serde(default, rename = "user")]
     pub users: Vec<User>,
 }
@@ -72,6 +79,40 @@ pub struct Limits {
     pub reply_seconds: u64,
     /// How long a stop may wait for what is under way.
     pub stop_seconds: u64,
+}
+
+/// What kfsd does by itself.
+#[derive(Clone, Copy, Debug, Deserialize, PartialEq, Eq)]
+#[serde(default, deny_unknown_fields)]
+pub struct Duties {
+    /// How long the desk may be without a tick while a lease is live.
+    pub tick_seconds: u64,
+    /// How long a lease may live; 0 where that isn't limited.
+    pub lease_seconds: u64,
+    /// How long a lease is renewed that another client wants.
+    pub wanted_seconds: u64,
+    /// Whether the journal is begun anew at a stop, so that the next start is a short one.
+    pub checkpoint_at_stop: bool,
+    /// Of 100 places of tier 0, how many should be free: else blocks go to slower tiers. 0 where none ever goes.
+    pub free_percent: u8,
+}
+
+impl Duties {
+    fn check(&self) -> Result<(), ConfigFault> {
+        if self.free_percent > 50 {
+            return Err(ConfigFault::Limit("free_percent is 50 at most"));
+        }
+        if self.wanted_seconds == 0 || self.tick_seconds == 0 {
+            return Err(ConfigFault::Limit("tick_seconds and wanted_seconds are 1 at least"));
+        }
+        Ok(())
+    }
+}
+
+impl Default for Duties {
+    fn default() -> Duties {
+        Duties { tick_seconds: 60, lease_seconds: 3600, wanted_seconds: 30, checkpoint_at_stop: true, free_percent: 10 }
+    }
 }
 
 impl Default for Limits {
@@ -107,13 +148,13 @@ impl Limits {
     }
 
     fn check(&self) -> Result<(), ConfigFault> {
-        let longest = self.frame_bytes.saturating_add(FRAME_COST);
+        let longest = self.frame_bytes.saturating_add(FRAME_COST).max(FOUND_BYTES);
         let wrong = [
             (self.connections_a_user == 0, "no connection is allowed"),
             (self.frames_a_connection == 0 || self.frames_a_user == 0, "no frame is allowed"),
             (self.frame_bytes > BODY_LIMIT, "frame_bytes is over 16,777,216"),
-            (self.bytes_a_connection < longest, "bytes_a_connection is less than a longest frame and 256"),
-            (self.bytes_a_user < longest, "bytes_a_user is less than a longest frame and 256"),
+            (self.bytes_a_connection < longest, "bytes_a_connection is less than a longest frame and 256, or than 66,560"),
+            (self.bytes_a_user < longest, "bytes_a_user is less than a longest frame and 256, or than 66,560"),
             (self.frame_seconds == 0 || self.reply_seconds == 0, "no time is left for a frame or a reply"),
         ];
         match wrong.iter().find(|(is_wrong, _)| *is_wrong) {
@@ -133,8 +174,12 @@ impl Config {
     fn of_text(text: &str, path: &Path) -> Result<Config, ConfigFault> {
         let config: Config = toml::from_str(text).map_err(|fault| ConfigFault::Toml(path.to_path_buf(), fault))?;
         config.limits.check()?;
+        config.duties.check()?;
         if config.socket == config.control {
             return Err(ConfigFault::OneSocket);
+        }
+        if let Some(address) = config.figures.filter(|address| !address.ip().is_loopback()) {
+            return Err(ConfigFault::NotLocal(address));
         }
         crate::users::check(&config.users)?;
         Ok(config)
@@ -144,11 +189,13 @@ impl Config {
     pub fn differs_in_users_alone(&self, other: &Config) -> bool {
         self.socket == other.socket
             && self.control == other.control
+            && self.figures == other.figures
             && self.folder == other.folder
             && self.program == other.program
             && self.tiers == other.tiers
             && self.rows == other.rows
             && self.limits == other.limits
+            && self.duties == other.duties
     }
 }
 
@@ -178,6 +225,7 @@ mod tests {
         let config = read(SMALL).unwrap();
         assert_eq!(config.rows, u32::MAX);
         assert_eq!(config.limits, Limits::default());
+        assert_eq!(config.duties, Duties::default());
         assert_eq!(config.users[0].groups, Vec::<u32>::new());
         assert!(!config.users[0].privileged);
     }
@@ -194,10 +242,16 @@ mod tests {
     }
 
     #[test]
+    fn figures_are_told_on_this_machine_alone() {
+        assert!(matches!(read(&format!("figures = \"0.0.0.0:9469\"\n{SMALL}")), Err(ConfigFault::NotLocal(_))));
+        assert!(read(&format!("figures = \"[::1]:9469\"\n{SMALL}")).unwrap().figures.is_some());
+    }
+
+    #[test]
     fn limits_below_a_frame_are_refused() {
-        let text = format!("{SMALL}\n[limits]\nframe_bytes = 1000\nbytes_a_user = 1255");
+        let text = format!("{SMALL}\n[limits]\nframe_bytes = 100000\nbytes_a_user = 100255");
         assert!(matches!(read(&text), Err(ConfigFault::Limit(_))));
-        let text = format!("{SMALL}\n[limits]\nframe_bytes = 1000\nbytes_a_user = 1256");
+        let text = format!("{SMALL}\n[limits]\nframe_bytes = 100000\nbytes_a_user = 100256");
         assert!(read(&text).is_ok());
     }
 

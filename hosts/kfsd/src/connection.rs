@@ -2,22 +2,35 @@
 //!
 //! What it waits for is its own: its reader's bytes, its writer's room, and places of its own user. So it holds up no other user.
 
-use crate::config::{Limits, FRAME_COST};
+use crate::calls::{Note, Wish};
+use crate::config::{Duties, Limits, FRAME_COST};
 use crate::figures::Figures;
-use crate::frames::{asked, reply, welcome, Asked, Head, Refusal, HEAD};
+use crate::following::Following;
+use crate::frames::{
+    asked, found_in, moment, reply, times, told_again, wanted, welcome, Asked, Head, Refusal, HEAD, NUMBERED_HEAD,
+};
+use crate::outcomes::Stands;
 use crate::queue::{Answer, Asker, Call, Permits, Queue};
 use crate::users::{Account, Place, Table};
+use std::future::Future;
 use std::io;
+use std::pin::Pin;
 use std::sync::Arc;
-use std::time::Duration;
+use std::time::{Duration, Instant};
 use tokio::io::{sink, AsyncRead, AsyncReadExt, AsyncWrite, AsyncWriteExt, BufReader};
 use tokio::net::UnixStream;
 use tokio::sync::{mpsc, oneshot, watch, AcquireError, Semaphore};
-use tokio::time::timeout;
+use tokio::time::{sleep, timeout};
 use tracing::debug;
 
 /// How many bytes of small frames are read at once.
 const BUFFER: usize = 4096;
+
+/// How many bytes of replies are written at once, and one reply more.
+const TOGETHER: usize = 16_384;
+
+/// How long a client waits that asks which of its leases others want.
+const WAITING: Duration = Duration::from_secs(20);
 
 /// What all connections share.
 #[derive(Debug)]
@@ -25,6 +38,9 @@ pub struct Shared {
     pub queue: Queue,
     pub figures: Figures,
     pub limits: Limits,
+    pub duties: Duties,
+    /// How the desk stands.
+    pub following: Following,
     /// The users that may be connected now.
     pub table: watch::Receiver<Arc<Table>>,
     /// Whether no frame is read any more.
@@ -71,6 +87,41 @@ struct Slot {
     said: Said,
     /// The frame is under way until its reply is written.
     _frame: Arc<Permits>,
+    /// The bytes of a reply that may be long.
+    _found: Option<Permits>,
+}
+
+impl Slot {
+    /// The whole reply, when it is there.
+    async fn reply(&mut self) -> Vec<u8> {
+        match &mut self.said {
+            Said::Here(bytes) => std::mem::take(bytes),
+            Said::Later(bytes) => bytes.await,
+            Said::Waits(answer) => reply_of(self.number, answer.await.ok()),
+        }
+    }
+
+    /// The whole reply, where it is there.
+    fn reply_now(&mut self) -> Option<Vec<u8>> {
+        match &mut self.said {
+            Said::Here(bytes) => Some(std::mem::take(bytes)),
+            Said::Later(_) => None,
+            Said::Waits(answer) => match answer.try_recv() {
+                Ok(found) => Some(reply_of(self.number, Some(found))),
+                Err(oneshot::error::TryRecvError::Empty) => None,
+                Err(oneshot::error::TryRecvError::Closed) => Some(reply_of(self.number, None)),
+            },
+        }
+    }
+}
+
+/// The reply to a frame that was handed to the desk. Where there is no answer, nobody knows.
+fn reply_of(number: u32, answer: Option<Answer>) -> Vec<u8> {
+    match answer {
+        Some(Answer::Said(found)) => reply(number, &found.said),
+        Some(Answer::NeverSent) => Refusal::Stopping.reply(number),
+        None => Refusal::Unknown.reply(number),
+    }
 }
 
 enum Said {
@@ -78,6 +129,8 @@ enum Said {
     Here(Vec<u8>),
     /// It comes from the desk.
     Waits(oneshot::Receiver<Answer>),
+    /// The whole reply, when kfsd has one.
+    Later(Pin<Box<dyn Future<Output = Vec<u8>> + Send>>),
 }
 
 /// Serves a connection to its end.
@@ -142,7 +195,7 @@ struct Reader<'a, R> {
     account: Arc<Account>,
     frames: Arc<Semaphore>,
     bytes: Arc<Semaphore>,
-    shared: &'a Shared,
+    shared: &'a Arc<Shared>,
 }
 
 impl<R: AsyncRead + Unpin> Reader<'_, R> {
@@ -182,21 +235,91 @@ impl<R: AsyncRead + Unpin> Reader<'_, R> {
     }
 
     /// Answers a frame that is whole, or hands it to the desk.
-    async fn answer(&self, head: Head, body: Vec<u8>, bytes: Permits, frame: Arc<Permits>) -> Result<(), End> {
+    async fn answer(&self, head: Head, mut body: Vec<u8>, bytes: Permits, frame: Arc<Permits>) -> Result<(), End> {
         let client = self.account.user.client;
         let what = asked(&body);
-        let is_own = head.from == client && what != Asked::OfFront && !matches!(what, Asked::Of(other) if other != client);
-        if !is_own {
+        let is_others = matches!(what, Asked::Of(other) | Asked::Numbered(other, _) if other != client);
+        // Who asks who it is needn't know it.
+        let is_own = head.from == client || what == Asked::Hello;
+        if !is_own || what == Asked::OfFront || is_others {
             return self.refuse(head, frame, Refusal::NotYours).await;
         }
-        if what == Asked::Hello {
-            let said = welcome(head.number, client, self.account.user.grant);
+        if let Some(said) = self.said_here(head.number, what) {
             return self.put(head, frame, Said::Here(said)).await;
         }
+        if let Asked::Wants(behind) = what {
+            let wants = wants_of(Arc::clone(self.shared), head.number, client, behind);
+            return self.put(head, frame, Said::Later(Box::pin(wants))).await;
+        }
+        let mut number = None;
+        if let Asked::Numbered(_, own) = what {
+            body.drain(..NUMBERED_HEAD);
+            number = Some(own);
+        }
+        let note = Note::of(&body);
+        if let Note::Lease(wish) = &note {
+            if let Some(refusal) = self.refusal_of(wish) {
+                return self.refuse(head, frame, refusal).await;
+            }
+        }
+        if let Some(said) = number.and_then(|own| self.said_before(head.number, own)) {
+            return self.put(head, frame, Said::Here(said)).await;
+        }
+        let (bytes, found) = self.with_found(&body, bytes).await?;
         let (to, answer) = oneshot::channel();
-        let asker = Asker { to, frame: Arc::clone(&frame) };
-        self.shared.queue.push(Call { client, body, bytes, asker });
-        self.put(head, frame, Said::Waits(answer)).await
+        let asker = Asker { to, frame: Some(Arc::clone(&frame)) };
+        self.shared.queue.push(Call { client, body, note, came: Instant::now(), number, bytes, asker });
+        let said = Said::Waits(answer);
+        self.slots.send(Slot { number: head.number, said, _frame: frame, _found: found }).await?;
+        Ok(())
+    }
+
+    /// The bytes that a frame takes until it is sent; or those that it takes with its reply until that is written, where it
+    /// may be long. Those that it had are given back first: who waits for more may hold none.
+    async fn with_found(&self, body: &[u8], bytes: Permits) -> Result<(Option<Permits>, Option<Permits>), End> {
+        match found_in(body) {
+            0 => Ok((Some(bytes), None)),
+            count => {
+                drop(bytes);
+                // Such a body has at most 264 bytes.
+                let all = count + FRAME_COST + body.len() as u32;
+                Ok((None, Some(take(&self.bytes, &self.account.bytes, all).await?)))
+            }
+        }
+    }
+
+    /// The reply to what kfsd itself is asked.
+    fn said_here(&self, number: u32, what: Asked) -> Option<Vec<u8>> {
+        let (user, following) = (&self.account.user, &self.shared.following);
+        match what {
+            Asked::Hello => Some(welcome(number, user.client, user.grant)),
+            Asked::Moment => Some(moment(number, following.clock.now(), self.shared.duties.lease_seconds)),
+            Asked::Times(node) => Some(times(number, following.times().of(node))),
+            Asked::Outcome(own) => Some(match following.outcomes.look(user.client, own) {
+                Stands::Done(answer) => told_again(number, &answer),
+                Stands::UnderWay => Refusal::UnderWay.reply(number),
+                Stands::New => Refusal::NotThere.reply(number),
+            }),
+            _ => None,
+        }
+    }
+
+    /// The reply to a numbered call that isn't new. A new one is under way from now on.
+    fn said_before(&self, number: u32, own: u64) -> Option<Vec<u8>> {
+        match self.shared.following.outcomes.begin(self.account.user.client, own) {
+            Stands::Done(answer) => Some(told_again(number, &answer)),
+            Stands::UnderWay => Some(Refusal::UnderWay.reply(number)),
+            Stands::New => None,
+        }
+    }
+
+    /// Why kfsd refuses a lease: it would live for longer than any may, or isn't renewed, since another client wants it.
+    fn refusal_of(&self, wish: &Wish) -> Option<Refusal> {
+        let (following, longest) = (&self.shared.following, self.shared.duties.lease_seconds);
+        if longest != 0 && wish.end > following.clock.now().saturating_add(longest) {
+            return Some(Refusal::TooFar);
+        }
+        following.forbids(wish).then_some(Refusal::Wanted)
     }
 
     async fn refuse(&self, head: Head, frame: Arc<Permits>, refusal: Refusal) -> Result<(), End> {
@@ -207,8 +330,12 @@ impl<R: AsyncRead + Unpin> Reader<'_, R> {
     async fn put(&self, head: Head, frame: Arc<Permits>, said: Said) -> Result<(), End> {
         if matches!(said, Said::Here(_)) {
             self.shared.figures.answered_here.add(1);
+            let wait = self.account.answers.wait();
+            if !wait.is_zero() {
+                sleep(wait).await;
+            }
         }
-        self.slots.send(Slot { number: head.number, said, _frame: frame }).await?;
+        self.slots.send(Slot { number: head.number, said, _frame: frame, _found: None }).await?;
         Ok(())
     }
 }
@@ -220,23 +347,53 @@ async fn take(of_connection: &Arc<Semaphore>, of_user: &Arc<Semaphore>, count: u
     Ok(Permits { of_connection, of_user })
 }
 
-/// Writes replies in the order of their frames, each as soon as it is there.
+/// The reply that tells which leases others want: when there is one behind this serial, after a while, or when kfsd stops.
+async fn wants_of(shared: Arc<Shared>, number: u32, client: u32, behind: u64) -> Vec<u8> {
+    let (mut changed, mut stopping) = (shared.following.wanted(), shared.stopping.clone());
+    let now = || Instant::now();
+    let waiting = async {
+        while !*stopping.borrow_and_update() && shared.following.wants().told(client, behind, now()).is_empty() {
+            tokio::select! {
+                is_gone = changed.changed() => if is_gone.is_err() { return },
+                is_gone = stopping.changed() => if is_gone.is_err() { return },
+            }
+        }
+    };
+    // Whether there is one or not.
+    let _ = timeout(WAITING, waiting).await;
+    let wants = shared.following.wants();
+    wanted(number, behind, &wants.told(client, behind, now()))
+}
+
+/// Writes replies in the order of their frames, each as soon as it is there. Those that are there together are written at once.
 async fn write_replies(
     mut to: impl AsyncWrite + Unpin,
     mut waiting: mpsc::Receiver<Slot>,
     time: Duration,
 ) -> Result<(), tokio::time::error::Elapsed> {
-    while let Some(slot) = waiting.recv().await {
-        let bytes = match slot.said {
-            Said::Here(bytes) => bytes,
-            Said::Waits(answer) => match answer.await {
-                Ok(Answer::Said(found)) => reply(slot.number, &found.said),
-                Ok(Answer::NeverSent) => Refusal::Stopping.reply(slot.number),
-                Err(_) => Refusal::Unknown.reply(slot.number),
-            },
-        };
+    let mut next = waiting.recv().await;
+    while let Some(mut slot) = next {
+        let mut bytes = slot.reply().await;
+        // Frames are under way until their replies are written.
+        let mut written = vec![slot];
+        next = waiting.try_recv().ok();
+        while let Some(mut slot) = next.take() {
+            let more = if bytes.len() < TOGETHER { slot.reply_now() } else { None };
+            if let Some(more) = more {
+                bytes.extend_from_slice(&more);
+                written.push(slot);
+                next = waiting.try_recv().ok();
+            } else {
+                next = Some(slot);
+                break;
+            }
+        }
         if timeout(time, to.write_all(&bytes)).await?.is_err() {
             break;
+        }
+        drop(written);
+        if next.is_none() {
+            next = waiting.recv().await;
         }
     }
     Ok(())

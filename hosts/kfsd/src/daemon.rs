@@ -3,15 +3,21 @@
 use crate::config::{Config, ConfigFault};
 use crate::connection::Shared;
 use crate::desk::{Desk, DeskFault};
+use crate::duties;
 use crate::figures::Figures;
-use crate::folder::Folder;
+use crate::folder::{Folder, Found};
+use crate::following::Following;
+use crate::frames::CHECKPOINT;
+use crate::metrics;
+use crate::moves;
 use crate::queue::Queue;
 use crate::sockets::{accept, Sockets};
+use crate::store::Store;
 use crate::users::{lines_of, Table};
 use nix::sys::resource::{getrlimit, setrlimit, Resource};
 use std::io;
 use std::path::{Path, PathBuf};
-use std::sync::Arc;
+use std::sync::{Arc, Mutex};
 use std::time::Duration;
 use thiserror::Error;
 use tokio::signal::unix::{signal, SignalKind};
@@ -22,6 +28,9 @@ use tracing::{info, warn};
 
 /// How long to wait before the lock of a folder is tried again.
 const AGAIN: Duration = Duration::from_millis(100);
+
+/// How long the last tick may take.
+const LAST_TICK: Duration = Duration::from_secs(1);
 
 /// Descriptors beside those of connections.
 const OTHER_FILES: u64 = 64;
@@ -53,8 +62,10 @@ impl DaemonFault {
     /// The exit status: 3 where the desk's files have failed, 4 where `kfs_serve` doesn't run or doesn't end, and else 1.
     pub fn status(&self) -> u8 {
         match self {
-            DaemonFault::Desk(DeskFault::Files | DeskFault::HalfMade(_) | DeskFault::Folder(_)) => 3,
-            DaemonFault::Desk(DeskFault::Fruitless(_)) | DaemonFault::Killed | DaemonFault::Task(_) => 4,
+            DaemonFault::Desk(DeskFault::Files | DeskFault::HalfMade(_) | DeskFault::Folder(_) | DeskFault::Store(_)) => 3,
+            DaemonFault::Desk(DeskFault::Fruitless(_) | DeskFault::Keeping(_)) | DaemonFault::Killed | DaemonFault::Task(_) => {
+                4
+            }
             // A program that isn't there is the configuration's fault, and one that can't be run for now isn't.
             DaemonFault::Desk(DeskFault::Process(_, fault)) if !is_wrong_path(fault) => 4,
             _ => 1,
@@ -88,6 +99,7 @@ pub async fn run(path: &Path) -> Result<(), DaemonFault> {
         return daemon.end_desk().await;
     }
     let sockets = Sockets::bind(&daemon.config)?;
+    daemon.tell_figures().await?;
     info!("clients may connect to {}", daemon.config.socket.display());
     daemon.serve(sockets, signals).await
 }
@@ -124,13 +136,22 @@ impl Daemon {
             queue: Queue::default(),
             figures: Figures::default(),
             limits: config.limits,
+            duties: config.duties,
+            following: Following::default(),
             table: tables,
             stopping: stops,
         });
-        let desk = Desk { program: config.program.clone(), folder: Arc::new(folder), rows: config.rows, tiers: config.tiers };
+        shared.following.wants().set_time(Duration::from_secs(shared.duties.wanted_seconds));
+        let desk = Desk {
+            program: config.program.clone(),
+            store: Arc::new(Mutex::new(open_store(&folder)?)),
+            folder,
+            rows: config.rows,
+            tiers: config.tiers,
+        };
         let of_desk = Arc::clone(&shared);
         let desk = tokio::spawn(async move {
-            let ended = desk.run(&of_desk.queue, &of_desk.figures, &is_ready).await;
+            let ended = desk.run(&of_desk, &is_ready).await;
             // Nobody answers any more.
             of_desk.queue.give_up();
             ended
@@ -138,9 +159,22 @@ impl Daemon {
         Ok((Daemon { config, path: path.to_path_buf(), clients, shared, table, stopping, desk }, ready))
     }
 
+    /// Tells figures where the configuration says so.
+    async fn tell_figures(&self) -> Result<(), DaemonFault> {
+        if let Some(address) = self.config.figures {
+            let failed = |fault| DaemonFault::Io(format!("figures on {address}").into(), fault);
+            let listener = metrics::listen(address).await.map_err(failed)?;
+            tokio::spawn(metrics::serve(listener, Arc::clone(&self.shared)));
+        }
+        Ok(())
+    }
+
     /// Serves connections until a signal says to stop, or the desk is lost.
     async fn serve(mut self, sockets: Sockets, mut signals: Signals) -> Result<(), DaemonFault> {
         let accepting = tokio::spawn(accept(sockets, Arc::clone(&self.shared)));
+        let ticking = tokio::spawn(duties::tick_on(Arc::clone(&self.shared)));
+        let moving = (self.shared.duties.free_percent > 0)
+            .then(|| tokio::spawn(moves::move_on(Arc::clone(&self.shared), self.config.tiers)));
         let lost = loop {
             tokio::select! {
                 asked = signals.next() => match asked {
@@ -155,6 +189,11 @@ impl Daemon {
         if timeout(self.config.limits.stop_time(), accepting).await.is_err() {
             warn!("some connections haven't ended in time");
         }
+        // One that is at the desk is made, and no other one.
+        moving.iter().for_each(JoinHandle::abort);
+        if timeout(LAST_TICK, ticking).await.is_err() {
+            warn!("the desk isn't told the last moment in time");
+        }
         match lost {
             Some(ended) => Ok(ended??),
             None => self.end_desk().await,
@@ -163,6 +202,10 @@ impl Daemon {
 
     /// Ends the desk, once what waits is answered.
     async fn end_desk(mut self) -> Result<(), DaemonFault> {
+        if self.shared.duties.checkpoint_at_stop && self.shared.figures.opened.get() == 1 {
+            // Where it isn't made, the next start takes longer.
+            drop(self.shared.queue.push_own(vec![CHECKPOINT]));
+        }
         self.shared.queue.close();
         match timeout(self.config.limits.stop_time(), &mut self.desk).await {
             Ok(ended) => Ok(ended??),
@@ -198,6 +241,12 @@ fn table_of(config: &Config, clients: &str, before: &Table) -> Table {
         warn!("user {} is kept out: the desk was begun without `{}`, and takes no new client", user.uid, user.line());
     }
     table
+}
+
+/// Opens what kfsd itself keeps. A desk that isn't there yet has nothing of it.
+fn open_store(folder: &Folder) -> Result<Store, DaemonFault> {
+    let is_new = folder.files().map_err(DeskFault::Folder)? == Found::None;
+    Ok(Store::open(folder.path(), is_new).map_err(DeskFault::Store)?)
 }
 
 /// Locks the folder. The `kfs_serve` of a daemon that was killed ends soon, since its input has ended.

@@ -1,11 +1,15 @@
 //! `kfs_serve`: the process, its two pipes, and a new one where it ends before its time.
 
-use crate::figures::Figures;
+use crate::calls::Note;
+use crate::connection::Shared;
+use crate::flight::Flight;
 use crate::folder::{Folder, Found};
-use crate::frames::{read_reply, Head, Reply};
-use crate::queue::{Answer, Batch, Queue, Sent};
+use crate::frames::{read_reply, said_again, Head, Reply};
+use crate::queue::{Answer, Batch, Sent};
+use crate::store::Store;
+use crate::times;
 use crate::users::FRONT;
-use std::collections::VecDeque;
+use std::collections::{HashMap, HashSet, VecDeque};
 use std::ffi::OsString;
 use std::io;
 use std::path::{Path, PathBuf};
@@ -15,19 +19,19 @@ use std::time::Duration;
 use thiserror::Error;
 use tokio::io::{AsyncRead, AsyncWrite, AsyncWriteExt, BufReader};
 use tokio::process::{Child, ChildStdin, ChildStdout, Command};
-use tokio::sync::{watch, Notify};
+use tokio::sync::watch;
+use tokio::task::{block_in_place, spawn_blocking};
 use tokio::time::{sleep, timeout};
 use tracing::{info, warn};
-
-/// How many bytes of frames may be sent and not answered, or one frame more. `kfs_serve` reads as many at once. What is
-/// behind them waits here, where clients take turns.
-const WINDOW: usize = 65_536;
 
 /// How many processes may end one after another without an answer to the first frame.
 const FRUITLESS: u32 = 5;
 
 /// How long a new start waits. Behind each process in a row that has answered nothing it waits twice as long.
 const PAUSE: Duration = Duration::from_millis(50);
+
+/// How long an outcome may be without being kept, where little is sent behind it.
+const KEEPING: Duration = Duration::from_secs(1);
 
 /// How long a process whose pipes have ended may take to end, too.
 const LAST_MOMENT: Duration = Duration::from_secs(5);
@@ -45,17 +49,23 @@ pub enum DeskFault {
     Words(i32),
     #[error("the files of the desk, or their disk, have failed (status 3 of kfs_serve): see docs/OPERATIONS.md")]
     Files,
+    #[error("kfsd.sqlite: {0}")]
+    Store(#[from] rusqlite::Error),
+    #[error("kfsd itself: {0}")]
+    Keeping(tokio::task::JoinError),
     #[error("{FRUITLESS} processes of kfs_serve have ended one after another without an answer; the last one: {0}")]
     Fruitless(ExitStatus),
 }
 
 /// What a start of `kfs_serve` takes.
-#[derive(Clone, Debug)]
+#[derive(Debug)]
 pub struct Desk {
     pub program: PathBuf,
-    pub folder: Arc<Folder>,
+    pub folder: Folder,
     pub rows: u32,
     pub tiers: [u32; 3],
+    /// What kfsd keeps itself.
+    pub store: Arc<Mutex<Store>>,
 }
 
 /// How a process of `kfs_serve` ended.
@@ -65,74 +75,24 @@ struct Ended {
     is_done: bool,
     /// Whether it answered the first frame.
     has_begun: bool,
-}
-
-/// Frames that were sent and aren't answered, in their order, and how many bytes they have.
-#[derive(Debug, Default)]
-struct Under {
-    sent: VecDeque<Sent>,
-    bytes: usize,
-}
-
-#[derive(Debug, Default)]
-struct Flight {
-    under: Mutex<Under>,
-    /// Tells the one who sends that there is room.
-    room: Notify,
-}
-
-impl Flight {
-    fn under(&self) -> MutexGuard<'_, Under> {
-        self.under.lock().unwrap_or_else(PoisonError::into_inner)
-    }
-
-    /// How many frames aren't answered.
-    fn count(&self) -> usize {
-        self.under().sent.len()
-    }
-
-    /// Waits until there is room, and tells how many bytes of it.
-    async fn room(&self) -> usize {
-        loop {
-            let room = WINDOW.saturating_sub(self.under().bytes);
-            if room > 0 {
-                return room;
-            }
-            self.room.notified().await;
-        }
-    }
-
-    /// Adds what is about to be sent.
-    fn add(&self, sent: Vec<Sent>) {
-        let mut under = self.under();
-        under.bytes += sent.iter().map(|one| one.length).sum::<usize>();
-        under.sent.extend(sent);
-    }
-
-    /// Who waits for the reply of this number, which has to be the oldest frame's.
-    fn take(&self, number: u32) -> Option<Sent> {
-        let mut under = self.under();
-        if under.sent.front()?.number != number {
-            return None;
-        }
-        let sent = under.sent.pop_front()?;
-        under.bytes -= sent.length;
-        self.room.notify_one();
-        Some(sent)
-    }
+    /// The frames that it has left without an answer.
+    left: VecDeque<Sent>,
 }
 
 impl Desk {
     /// Has `kfs_serve` answer the calls of the queue, until the queue is closed and empty. `ready` becomes true when the
     /// files are open for the first time.
-    pub async fn run(&self, queue: &Queue, figures: &Figures, ready: &watch::Sender<bool>) -> Result<(), DeskFault> {
+    pub async fn run(&self, shared: &Shared, ready: &watch::Sender<bool>) -> Result<(), DeskFault> {
+        self.begin(shared)?;
         let mut fruitless = 0;
         loop {
-            let ended = self.once(queue, figures, ready).await?;
+            let ended = self.once(shared, ready).await?;
+            self.keep(shared)?;
             if ended.is_done {
-                return Ok(());
+                return Ok(self.store().end()?);
             }
             fault_of(ended.status)?;
+            self.settle(shared, ended.left)?;
             fruitless = if ended.has_begun { 0 } else { fruitless + 1 };
             if fruitless == FRUITLESS {
                 return Err(DeskFault::Fruitless(ended.status));
@@ -142,8 +102,71 @@ impl Desk {
         }
     }
 
+    /// Reads what was kept, and how the desk stands.
+    fn begin(&self, shared: &Shared) -> Result<(), DeskFault> {
+        let following = &shared.following;
+        block_in_place(|| {
+            let found = following.read(self.folder.path(), |_, _| true).map_err(DeskFault::Folder)?;
+            let mut store = self.store();
+            following.outcomes.begin_with(store.outcomes()?, found.outcomes.into_values().flatten().collect());
+            following.times().begin_with(store.stamps()?);
+            if store.begin()? {
+                // The kfsd before may not have kept these.
+                found.recent.iter().for_each(|changes| following.times().landed(changes, times::now()));
+            }
+            drop(store);
+            self.keep(shared)
+        })
+    }
+
+    fn store(&self) -> MutexGuard<'_, Store> {
+        self.store.lock().unwrap_or_else(PoisonError::into_inner)
+    }
+
+    /// Keeps what isn't kept yet.
+    fn keep(&self, shared: &Shared) -> Result<(), DeskFault> {
+        let changes = shared.following.take_unsaved();
+        block_in_place(|| self.store().keep(&changes))?;
+        Ok(())
+    }
+
+    /// Finds out of the calls that a process has left without an answer whether they were made, as far as the journal tells.
+    /// No process runs. Of calls without a number each asker hears that nobody knows.
+    fn settle(&self, shared: &Shared, left: VecDeque<Sent>) -> Result<(), DeskFault> {
+        let following = &shared.following;
+        let asked: HashSet<_> = left.iter().filter_map(|sent| Some((sent.client, sent.numbered?))).collect();
+        let is_asked = |client, number| asked.contains(&(client, number));
+        let found = block_in_place(|| following.read(self.folder.path(), is_asked)).map_err(DeskFault::Folder)?;
+        let outcomes = found.outcomes.into_values().flatten();
+        let outcomes: HashMap<_, _> = outcomes.map(|one| ((one.client, one.number), one.answer)).collect();
+        let answer_of = |sent: &Sent| sent.numbered.and_then(|number| outcomes.get(&(sent.client, number)));
+        for sent in &left {
+            if let Some(number) = sent.numbered {
+                following.outcomes.end(sent.client, number, answer_of(sent).map(Vec::as_slice));
+            }
+            if let Note::Submit(changes) = &sent.note {
+                // One that is like it may have landed before. Then its time is later than it was.
+                if found.recent.contains(changes) {
+                    following.times().landed(changes, times::now());
+                }
+            }
+        }
+        self.keep(shared)?;
+        for sent in left {
+            match (answer_of(&sent), sent.asker) {
+                (Some(answer), Some(asker)) => {
+                    let _ = asker.to.send(Answer::Said(Reply { number: sent.number, said: said_again(answer) }));
+                }
+                _ if sent.client != FRONT => shared.figures.unknown.add(1),
+                _ => {}
+            }
+        }
+        Ok(())
+    }
+
     /// Starts a process, and has it answer calls until it ends.
-    async fn once(&self, queue: &Queue, figures: &Figures, ready: &watch::Sender<bool>) -> Result<Ended, DeskFault> {
+    async fn once(&self, shared: &Shared, ready: &watch::Sender<bool>) -> Result<Ended, DeskFault> {
+        let figures = &shared.figures;
         let (mut child, mut to, from) = self.start()?;
         figures.starts.add(1);
         figures.process.set(child.id().map_or(0, u64::from));
@@ -153,16 +176,63 @@ impl Desk {
         let mut is_done = false;
         if has_begun {
             info!("kfs_serve is ready");
+            figures.opened.set(1);
             ready.send_replace(true);
-            is_done = talk(to, &mut from, queue, &flight, figures).await;
+            is_done = self.talk(to, &mut from, shared, &flight).await?;
         } else {
             drop(to);
         }
+        figures.opened.set(0);
         let status = end(&mut child, &self.program).await?;
         figures.process.set(0);
-        // Dropped, each asker hears that nobody knows.
-        figures.unknown.add(flight.count());
-        Ok(Ended { status, is_done: is_done && status.success(), has_begun })
+        Ok(Ended { status, is_done: is_done && status.success(), has_begun, left: flight.take_all() })
+    }
+
+    /// Sends calls and hands their answers out. Answers whether the queue has ended, and all calls were answered.
+    async fn talk(
+        &self,
+        to: ChildStdin,
+        from: &mut (impl AsyncRead + Unpin),
+        shared: &Shared,
+        flight: &Flight,
+    ) -> Result<bool, DeskFault> {
+        let writing = write_calls(to, shared, flight);
+        let reading = read_replies(from, shared, flight);
+        let keeping = self.keep_on(shared, flight);
+        tokio::pin!(writing, reading, keeping);
+        let is_sent = tokio::select! {
+            // Where it fails, what was answered is in the pipe still.
+            sent = &mut writing => sent.is_ok(),
+            read = &mut reading => {
+                say_why(read);
+                return Ok(false);
+            }
+            fault = &mut keeping => return Err(fault),
+        };
+        let read = if is_sent { reading.await } else { timeout(LAST_MOMENT, reading).await.unwrap_or(Ok(())) };
+        say_why(read);
+        Ok(is_sent && flight.is_empty())
+    }
+
+    /// Keeps outcomes now and then, and whenever much was sent behind them. Returns where that fails.
+    async fn keep_on(&self, shared: &Shared, flight: &Flight) -> DeskFault {
+        loop {
+            // Whichever is first.
+            let _ = timeout(KEEPING, flight.due()).await;
+            // Counted before they are taken: there are as many at least.
+            let count = flight.count_ended();
+            let changes = shared.following.take_unsaved();
+            if !changes.is_empty() {
+                let store = Arc::clone(&self.store);
+                let keeping = spawn_blocking(move || store.lock().unwrap_or_else(PoisonError::into_inner).keep(&changes));
+                match keeping.await {
+                    Ok(Ok(())) => {}
+                    Ok(Err(fault)) => return DeskFault::Store(fault),
+                    Err(fault) => return DeskFault::Keeping(fault),
+                }
+            }
+            flight.kept(count);
+        }
     }
 
     fn start(&self) -> Result<(Child, ChildStdin, ChildStdout), DeskFault> {
@@ -214,27 +284,6 @@ async fn is_open(to: &mut (impl AsyncWrite + Unpin), from: &mut (impl AsyncRead 
     matches!(read_reply(from).await, Ok(Some(Reply { number: FRONT, .. })))
 }
 
-/// Sends calls and hands their answers out. Answers whether the queue has ended, and all calls were answered.
-async fn talk(to: ChildStdin, from: &mut (impl AsyncRead + Unpin), queue: &Queue, flight: &Flight, figures: &Figures) -> bool {
-    let writing = write_calls(to, queue, flight, figures);
-    let reading = read_replies(from, flight, figures);
-    tokio::pin!(writing, reading);
-    let is_sent = tokio::select! {
-        sent = &mut writing => match sent {
-            Ok(()) => true,
-            // What it has answered is in the pipe still.
-            Err(_) => false,
-        },
-        read = &mut reading => {
-            say_why(read);
-            return false;
-        }
-    };
-    let read = if is_sent { reading.await } else { timeout(LAST_MOMENT, reading).await.unwrap_or(Ok(())) };
-    say_why(read);
-    is_sent && flight.count() == 0
-}
-
 fn say_why(read: io::Result<()>) {
     if let Err(fault) = read {
         warn!("kfs_serve isn't understood: {fault}");
@@ -242,23 +291,39 @@ fn say_why(read: io::Result<()>) {
 }
 
 /// Sends calls until the queue has ended. Then the input of `kfs_serve` ends, too.
-async fn write_calls(mut to: ChildStdin, queue: &Queue, flight: &Flight, figures: &Figures) -> io::Result<()> {
-    while let Some(Batch { bytes, sent }) = queue.next(flight.room().await).await {
-        figures.sent.add(sent.len());
-        flight.add(sent);
+async fn write_calls(mut to: ChildStdin, shared: &Shared, flight: &Flight) -> io::Result<()> {
+    while let Some(Batch { bytes, sent }) = shared.queue.next(flight.room().await).await {
+        shared.figures.sent.add(sent.iter().filter(|one| one.client != FRONT).count());
+        flight.add(sent).await;
         to.write_all(&bytes).await?;
     }
     Ok(())
 }
 
 /// Hands answers out until the output of `kfs_serve` ends.
-async fn read_replies(from: &mut (impl AsyncRead + Unpin), flight: &Flight, figures: &Figures) -> io::Result<()> {
+async fn read_replies(from: &mut (impl AsyncRead + Unpin), shared: &Shared, flight: &Flight) -> io::Result<()> {
     while let Some(reply) = read_reply(from).await? {
         let wrong = || io::Error::new(io::ErrorKind::InvalidData, format!("a reply to frame {}", reply.number));
         let sent = flight.take(reply.number).ok_or_else(wrong)?;
-        figures.answered.add(1);
-        // Where the connection is gone nobody hears it.
-        let _ = sent.asker.to.send(Answer::Said(reply));
+        if sent.client == FRONT {
+            shared.figures.own.add(1);
+        } else {
+            shared.figures.answered.add(1);
+            shared.figures.times.add(sent.came.elapsed());
+        }
+        if let Some(answer) = reply.answer() {
+            shared.following.answered(&sent.note, answer);
+        }
+        if let Some(own) = sent.numbered {
+            shared.following.outcomes.end(sent.client, own, reply.answer());
+        }
+        if sent.is_kept() {
+            flight.ended();
+        }
+        if let Some(asker) = sent.asker {
+            // Where the connection is gone nobody hears it.
+            let _ = asker.to.send(Answer::Said(reply));
+        }
     }
     Ok(())
 }

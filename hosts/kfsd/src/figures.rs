@@ -1,15 +1,14 @@
-//! What kfsd counts, and its text for `kfsctl status`.
+//! What kfsd counts.
 
-use crate::users::Table;
-use serde::Serialize;
 use std::sync::atomic::{AtomicU64, Ordering};
+use std::time::Duration;
 
 /// A count that goes up.
 #[derive(Debug, Default)]
 pub struct Count(AtomicU64);
 
 impl Count {
-    /// One more.
+    /// So many more.
     pub fn add(&self, count: usize) {
         self.0.fetch_add(count as u64, Ordering::Relaxed);
     }
@@ -25,6 +24,50 @@ impl Count {
     }
 }
 
+/// The bounds of times that are counted apart, in microseconds. What takes longer than the last one is counted, too.
+pub const BOUNDS: [u64; 14] =
+    [100, 200, 500, 1_000, 2_000, 5_000, 10_000, 20_000, 50_000, 100_000, 200_000, 500_000, 1_000_000, 5_000_000];
+
+/// How long things took.
+#[derive(Debug, Default)]
+pub struct Times {
+    /// How many took no longer than each bound, and longer than the one before.
+    counts: [Count; BOUNDS.len()],
+    longer: Count,
+    /// All times together, in microseconds.
+    sum: Count,
+}
+
+impl Times {
+    /// One more.
+    pub fn add(&self, time: Duration) {
+        let micros = time.as_micros() as usize;
+        let place = BOUNDS.iter().position(|bound| micros as u64 <= *bound);
+        place.map_or(&self.longer, |place| &self.counts[place]).add(1);
+        self.sum.add(micros);
+    }
+
+    /// How many took no longer than each bound.
+    pub fn up_to(&self) -> Vec<u64> {
+        let mut all = 0;
+        let sums = self.counts.iter().map(|count| {
+            all += count.get();
+            all
+        });
+        sums.collect()
+    }
+
+    /// How many there are.
+    pub fn count(&self) -> u64 {
+        self.up_to().last().copied().unwrap_or(0) + self.longer.get()
+    }
+
+    /// All times together.
+    pub fn sum(&self) -> Duration {
+        Duration::from_micros(self.sum.get())
+    }
+}
+
 /// All counts since kfsd was started.
 #[derive(Debug, Default)]
 pub struct Figures {
@@ -35,77 +78,33 @@ pub struct Figures {
     pub sent: Count,
     pub answered: Count,
     pub unknown: Count,
-    /// Frames that kfsd answered itself.
+    /// Frames that kfsd answered itself, and calls of its own that were answered.
     pub answered_here: Count,
+    pub own: Count,
+    /// Blocks that were moved to slower tiers.
+    pub moved: Count,
     /// Connections that were ended because a frame came or a reply went too slowly.
     pub too_slow: Count,
-    /// How often `kfs_serve` was started, and its process now; 0 where there is none.
+    /// How often `kfs_serve` was started, and its process now; 0 where there is none. 1 where that has opened its files.
     pub starts: Count,
     pub process: Count,
+    pub opened: Count,
+    /// From a whole frame to the desk's answer.
+    pub times: Times,
 }
 
-/// What `kfsctl status` prints.
-#[derive(Debug, Serialize)]
-struct Status {
-    kfs_serve: DeskStatus,
-    connections: ConnectionStatus,
-    frames: FrameStatus,
-    user: Vec<UserStatus>,
-}
+#[cfg(test)]
+mod tests {
+    use super::*;
 
-#[derive(Debug, Serialize)]
-struct DeskStatus {
-    process: u64,
-    starts: u64,
-    waiting_calls: usize,
-}
-
-#[derive(Debug, Serialize)]
-struct ConnectionStatus {
-    taken: u64,
-    turned_away: u64,
-    too_slow: u64,
-}
-
-#[derive(Debug, Serialize)]
-struct FrameStatus {
-    sent: u64,
-    answered: u64,
-    unknown: u64,
-    answered_here: u64,
-}
-
-#[derive(Debug, Serialize)]
-struct UserStatus {
-    uid: u32,
-    client: u32,
-    connections: u32,
-    frames_left: usize,
-    bytes_left: usize,
-}
-
-/// The status as TOML.
-pub fn status(figures: &Figures, table: &Table, waiting_calls: usize) -> Result<String, toml::ser::Error> {
-    let user = table.all().into_iter().map(|account| UserStatus {
-        uid: account.user.uid,
-        client: account.user.client,
-        connections: account.connections(),
-        frames_left: account.frames.available_permits(),
-        bytes_left: account.bytes.available_permits(),
-    });
-    toml::to_string(&Status {
-        kfs_serve: DeskStatus { process: figures.process.get(), starts: figures.starts.get(), waiting_calls },
-        connections: ConnectionStatus {
-            taken: figures.connections.get(),
-            turned_away: figures.turned_away.get(),
-            too_slow: figures.too_slow.get(),
-        },
-        frames: FrameStatus {
-            sent: figures.sent.get(),
-            answered: figures.answered.get(),
-            unknown: figures.unknown.get(),
-            answered_here: figures.answered_here.get(),
-        },
-        user: user.collect(),
-    })
+    #[test]
+    fn times_are_counted_up_to_each_bound() {
+        let times = Times::default();
+        for micros in [0, 100, 101, 5_000_000, 5_000_001] {
+            times.add(Duration::from_micros(micros));
+        }
+        let up_to = times.up_to();
+        assert_eq!((up_to[0], up_to[1], up_to[12], up_to[13]), (2, 3, 3, 4));
+        assert_eq!((times.count(), times.sum()), (5, Duration::from_micros(10_000_202)));
+    }
 }

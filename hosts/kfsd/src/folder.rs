@@ -9,7 +9,7 @@ use std::os::unix::io::AsRawFd;
 use std::path::{Path, PathBuf};
 
 /// The files of `kfs_serve`.
-const FILES: [&str; 2] = ["first.kdjl", "second.kdjl"];
+pub const FILES: [&str; 2] = ["first.kdjl", "second.kdjl"];
 
 /// Which of the two files are there.
 #[derive(Clone, Copy, Debug, PartialEq, Eq)]
@@ -84,15 +84,19 @@ impl Folder {
 }
 
 #[cfg(test)]
-mod tests {
+pub mod tests {
     use super::*;
+    use std::sync::atomic::{AtomicU32, Ordering};
+
+    static COUNT: AtomicU32 = AtomicU32::new(0);
 
     /// A folder of the test's own, removed at the end.
-    struct Room(PathBuf);
+    pub struct Room(pub PathBuf);
 
     impl Room {
-        fn new(name: &str) -> Room {
-            let path = std::env::temp_dir().join(format!("kfsd-{name}-{}", std::process::id()));
+        pub fn new(name: &str) -> Room {
+            let count = COUNT.fetch_add(1, Ordering::Relaxed);
+            let path = std::env::temp_dir().join(format!("kfsd-{name}-{}-{count}", std::process::id()));
             fs::create_dir(&path).unwrap();
             Room(path)
         }

@@ -1,5 +1,8 @@
 //! Frames and replies (docs/PROTOCOL.md), and what kfsd itself refuses (docs/KFSD.md).
 
+use crate::calls::On;
+use crate::times::Stamp;
+use crate::wants::Want;
 use std::io;
 use tokio::io::{AsyncRead, AsyncReadExt};
 
@@ -10,18 +13,53 @@ pub const BODY_LIMIT: u32 = 16_777_216;
 pub const HEAD: usize = 12;
 pub const REPLY_HEAD: usize = 8;
 
-/// The most bytes behind the head of a reply. An answer has at most 20, and its tag; what a look-up finds at most 65,536
-/// of a file or of names, and what stands before them.
-pub const REPLY_LIMIT: u32 = 65_536 + 64;
+/// The most bytes that a look-up finds, but for its tags.
+const FOUND_LIMIT: u32 = 65_536;
+
+/// How many bytes a look-up and its reply may take.
+pub const FOUND_BYTES: u32 = FOUND_LIMIT + 1024;
+
+/// The most bytes behind the head of a reply.
+pub const REPLY_LIMIT: u32 = FOUND_LIMIT + 1024;
+
+/// The tag of a reply with an answer: a position (4), and what the desk says.
+const ANSWERED: u8 = 1;
+
+/// The tag of a reply to a look-up.
+const FOUND: u8 = 3;
 
 /// The tag of a reply that refuses.
 const REFUSED: u8 = 2;
+
+/// The tags of look-ups: of names and of bytes, whose replies may be long, and those that are the front's.
+const NAMES: u8 = 0x44;
+const READ: u8 = 0x45;
+pub const STATE: u8 = 0x41;
+pub const CHECKPOINT: u8 = 0x42;
 
 /// The tag of a body that asks kfsd who the client is. It is never forwarded.
 const HELLO: u8 = 0xf0;
 
 /// The tag of kfsd's answer to it.
 const WELCOME: u8 = 0xf0;
+
+/// The tag of a body that asks kfsd for the moment, and of the answer.
+const MOMENT: u8 = 0xf1;
+
+/// The tag before a number (8) and a call: the call is made once under this number. Without a call it asks how it ended.
+const NUMBERED: u8 = 0xf2;
+
+/// The tag before a serial (8): asks which leases of the client others want, behind that serial. And the answer's.
+const WANTED: u8 = 0xf3;
+
+/// The tag before a node (4): asks when it was changed. And the answer's.
+const TIMES: u8 = 0xf4;
+
+/// How many bytes stand before the call.
+pub const NUMBERED_HEAD: usize = 9;
+
+/// What stands for the position in an answer that is told again.
+const NO_POSITION: [u8; 4] = [0xff; 4];
 
 /// What stands before a body.
 #[derive(Clone, Copy, Debug, PartialEq, Eq)]
@@ -69,6 +107,14 @@ pub enum Refusal {
     Unlisted = 130,
     /// The user, or all users, have as many connections as they may. The connection ends.
     TooMany = 131,
+    /// The lease would live for longer than any may. Nothing was done.
+    TooFar = 132,
+    /// The call of this number is under way. Ask again.
+    UnderWay = 133,
+    /// No call of this number has been made, or so many others since that it is forgotten.
+    NotThere = 134,
+    /// Another client has wanted the lease for long, so it isn't renewed. Nothing was done.
+    Wanted = 135,
 }
 
 impl Refusal {
@@ -97,13 +143,74 @@ pub fn welcome(number: u32, client: u32, grant: [u32; 2]) -> Vec<u8> {
     reply(number, &said)
 }
 
+/// The reply with an answer that was given before, or may have been.
+pub fn told_again(number: u32, answer: &[u8]) -> Vec<u8> {
+    reply(number, &said_again(answer))
+}
+
+/// What stands behind the head of that reply.
+pub fn said_again(answer: &[u8]) -> Vec<u8> {
+    let mut said = vec![ANSWERED];
+    said.extend_from_slice(&NO_POSITION);
+    said.extend_from_slice(answer);
+    said
+}
+
+/// The reply that tells the moment, and how many seconds a lease may live; 0 where that isn't limited.
+pub fn moment(number: u32, now: u64, longest: u64) -> Vec<u8> {
+    let mut said = vec![MOMENT];
+    for long in [now, longest] {
+        said.extend_from_slice(&long.to_be_bytes());
+    }
+    reply(number, &said)
+}
+
+/// The reply that tells which leases of a client others want, and the serial of the last one.
+pub fn wanted(number: u32, behind: u64, wants: &[&Want]) -> Vec<u8> {
+    let mut said = vec![WANTED];
+    said.extend_from_slice(&wants.last().map_or(behind, |want| want.serial).to_be_bytes());
+    // There are 64 at most.
+    said.extend_from_slice(&(wants.len() as u16).to_be_bytes());
+    for want in wants {
+        let (node, path) = match &want.on {
+            On::Node(node) => (*node, &[][..]),
+            On::Path(path) => (0, path.as_slice()),
+        };
+        said.extend_from_slice(&want.by.to_be_bytes());
+        said.extend_from_slice(&node.to_be_bytes());
+        // It came with a length of two bytes.
+        said.extend_from_slice(&(path.len() as u16).to_be_bytes());
+        said.extend_from_slice(path);
+    }
+    reply(number, &said)
+}
+
+/// The reply that tells when a node was changed, as far as kfsd knows.
+pub fn times(number: u32, stamp: Option<Stamp>) -> Vec<u8> {
+    let mut said = vec![TIMES, u8::from(stamp.is_some())];
+    for time in stamp.iter().flat_map(|stamp| [stamp.modified, stamp.changed]) {
+        said.extend_from_slice(&time.to_be_bytes());
+    }
+    reply(number, &said)
+}
+
 /// What a body asks for, as far as kfsd looks into it.
 #[derive(Clone, Copy, Debug, PartialEq, Eq)]
 pub enum Asked {
     /// Who the client is. kfsd answers.
     Hello,
+    /// The moment. kfsd answers.
+    Moment,
+    /// Which leases others want, behind this serial. kfsd answers when there is one, or after a while.
+    Wants(u64),
+    /// When this node was changed. kfsd answers.
+    Times(u32),
+    /// How the call of this number ended. kfsd answers.
+    Outcome(u64),
     /// A call of this client.
     Of(u32),
+    /// A call of this client, under this number.
+    Numbered(u32, u64),
     /// A call that is the front's alone.
     OfFront,
     /// Something else, of which `kfs_serve` decides.
@@ -114,10 +221,32 @@ pub enum Asked {
 pub fn asked(body: &[u8]) -> Asked {
     match *body {
         [HELLO] => Asked::Hello,
+        [MOMENT] => Asked::Moment,
+        [WANTED, s0, s1, s2, s3, s4, s5, s6, s7] => Asked::Wants(u64::from_be_bytes([s0, s1, s2, s3, s4, s5, s6, s7])),
+        [TIMES, a, b, c, d] => Asked::Times(u32::from_be_bytes([a, b, c, d])),
+        [NUMBERED, n0, n1, n2, n3, n4, n5, n6, n7, ref call @ ..] => {
+            let number = u64::from_be_bytes([n0, n1, n2, n3, n4, n5, n6, n7]);
+            match asked(call) {
+                _ if call.is_empty() => Asked::Outcome(number),
+                Asked::Of(client) => Asked::Numbered(client, number),
+                _ => Asked::OfFront,
+            }
+        }
         [1 | 2 | 3 | 6, a, b, c, d, ..] => Asked::Of(u32::from_be_bytes([a, b, c, d])),
-        [4 | 5, ..] => Asked::OfFront,
+        [4 | 5 | STATE | CHECKPOINT, ..] => Asked::OfFront,
         _ => Asked::Other,
     }
+}
+
+/// How many bytes the reply to a body may have, where they are many: those that a look-up asks for.
+pub fn found_in(body: &[u8]) -> u32 {
+    let asked = match *body {
+        [NAMES, _, _, _, _, a, b, c, d, ..] => u32::from_be_bytes([a, b, c, d]),
+        // The count is its last field.
+        [READ, .., a, b, c, d] => u32::from_be_bytes([a, b, c, d]),
+        _ => 0,
+    };
+    asked.min(FOUND_LIMIT)
 }
 
 /// A reply of `kfs_serve`.
@@ -126,6 +255,24 @@ pub struct Reply {
     pub number: u32,
     /// What stands behind the head.
     pub said: Vec<u8>,
+}
+
+impl Reply {
+    /// What a look-up has found; none where the frame is refused, or was a call.
+    pub fn found(&self) -> Option<&[u8]> {
+        match self.said.as_slice() {
+            [FOUND, found @ ..] => Some(found),
+            _ => None,
+        }
+    }
+
+    /// The answer, without its position; none where the frame is refused.
+    pub fn answer(&self) -> Option<&[u8]> {
+        match self.said.as_slice() {
+            [ANSWERED, _, _, _, _, answer @ ..] => Some(answer),
+            _ => None,
+        }
+    }
 }
 
 /// The next reply, or none where the output ends.
@@ -170,10 +317,32 @@ mod tests {
         }
         assert_eq!(asked(&[4]), Asked::OfFront);
         assert_eq!(asked(&[5, 0]), Asked::OfFront);
+        assert_eq!(asked(&[STATE]), Asked::OfFront);
+        assert_eq!(asked(&[CHECKPOINT, 0]), Asked::OfFront);
+        assert_eq!(asked(&[READ, 0, 0, 0, 5]), Asked::Other);
         assert_eq!(asked(&[]), Asked::Other);
         assert_eq!(asked(&[7, 0, 0, 0, 1]), Asked::Other);
         assert_eq!(asked(&[HELLO]), Asked::Hello);
+        assert_eq!(asked(&[MOMENT]), Asked::Moment);
+        assert_eq!(asked(&[NUMBERED, 0, 0, 0, 0, 0, 0, 1, 0]), Asked::Outcome(256));
+        assert_eq!(asked(&[NUMBERED, 0, 0, 0, 0, 0, 0, 1, 0, 1, 0, 0, 0, 7]), Asked::Numbered(7, 256));
+        for call in [4, HELLO, NUMBERED] {
+            assert_eq!(asked(&[NUMBERED, 0, 0, 0, 0, 0, 0, 1, 0, call]), Asked::OfFront);
+        }
+        assert_eq!(asked(&[NUMBERED, 0]), Asked::Other);
+        assert_eq!(asked(&[WANTED, 0, 0, 0, 0, 0, 0, 1, 0]), Asked::Wants(256));
+        assert_eq!(asked(&[WANTED]), Asked::Other);
+        assert_eq!(asked(&[TIMES, 0, 0, 1, 0]), Asked::Times(256));
         assert_eq!(asked(&[HELLO, 0]), Asked::Other);
+    }
+
+    #[test]
+    fn long_replies_are_foreseen() {
+        assert_eq!(found_in(&[READ, 0, 0, 0, 5, 0, 0, 0, 0, 0, 0, 1, 0]), 256);
+        assert_eq!(found_in(&[READ, 0, 0, 0, 5, 0, 0, 0, 0, 1, 0, 0, 0]), FOUND_LIMIT);
+        assert_eq!(found_in(&[NAMES, 0, 0, 0, 5, 0, 0, 1, 4, b'a']), 260);
+        assert_eq!(found_in(&[READ, 0, 0]), 0);
+        assert_eq!(found_in(&[1; 20]), 0);
     }
 
     #[tokio::test]

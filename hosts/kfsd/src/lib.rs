@@ -6,15 +6,31 @@
 
 #![forbid(unsafe_code)]
 
+pub mod bytes;
+pub mod calls;
+pub mod clock;
 pub mod config;
 pub mod connection;
 pub mod control;
 pub mod daemon;
 pub mod desk;
+pub mod duties;
 pub mod figures;
+pub mod flight;
 pub mod folder;
+pub mod following;
 pub mod frames;
+pub mod journal;
+pub mod leases;
+pub mod metrics;
+pub mod moves;
+pub mod outcomes;
+pub mod pace;
 pub mod peer;
 pub mod queue;
 pub mod sockets;
+pub mod status;
+pub mod store;
+pub mod times;
 pub mod users;
+pub mod wants;

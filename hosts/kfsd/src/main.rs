@@ -19,7 +19,7 @@ struct Words {
     verbose: bool,
 }
 
-#[tokio::main(worker_threads = 2)]
+#[tokio::main]
 async fn main() -> ExitCode {
     let words = Words::parse();
     let level = if words.verbose { Level::DEBUG } else { Level::INFO };

@@ -1,9 +1,13 @@
 //! The calls that wait for `kfs_serve`, by client. Clients take turns by bytes, so none waits for all that another has sent.
 
+use crate::calls::Note;
 use crate::config::FRAME_COST;
-use crate::frames::{Head, Reply, HEAD};
+use crate::frames::{Head, Reply, CHECKPOINT, HEAD};
+use crate::outcomes::{Marker, MARKER};
+use crate::users::FRONT;
 use std::collections::{HashMap, VecDeque};
 use std::sync::{Mutex, MutexGuard, PoisonError};
+use std::time::Instant;
 use tokio::sync::{oneshot, Notify, OwnedSemaphorePermit};
 
 /// How many bytes a client may send in one turn, each frame with its cost. A longer frame waits for some turns.
@@ -31,8 +35,14 @@ pub struct Call {
     /// The client that sends it, as the kernel's answer and the table of users say.
     pub client: u32,
     pub body: Vec<u8>,
-    /// The bytes that it takes, until it is sent.
-    pub bytes: Permits,
+    /// What kfsd follows of it.
+    pub note: Note,
+    /// When it came.
+    pub came: Instant,
+    /// The client's own number for it, where it has one.
+    pub number: Option<u64>,
+    /// The bytes that it takes, until it is sent. None of kfsd's own.
+    pub bytes: Option<Permits>,
     pub asker: Asker,
 }
 
@@ -40,13 +50,24 @@ pub struct Call {
 #[derive(Debug)]
 pub struct Asker {
     pub to: oneshot::Sender<Answer>,
-    /// The place among the frames that are under way. Its connection holds it, too.
-    pub frame: std::sync::Arc<Permits>,
+    /// The place among the frames that are under way. Its connection holds it, too. None of kfsd's own.
+    pub frame: Option<std::sync::Arc<Permits>>,
 }
 
 impl Call {
     fn cost(&self) -> usize {
         self.body.len() + FRAME_COST as usize
+    }
+
+    /// Whether it is the first of those that are sent at once: all before it is kept then (flight.rs).
+    fn is_alone(&self) -> bool {
+        self.client == FRONT && self.body == [CHECKPOINT]
+    }
+
+    /// How many bytes are sent for it, with its marker.
+    fn length(&self) -> usize {
+        let marker = self.number.map_or(0, |_| HEAD + MARKER);
+        marker + HEAD + self.body.len()
     }
 }
 
@@ -54,9 +75,25 @@ impl Call {
 #[derive(Debug)]
 pub struct Sent {
     pub number: u32,
+    pub client: u32,
+    pub note: Note,
+    /// When it came.
+    pub came: Instant,
+    /// The client's own number for it.
+    pub numbered: Option<u64>,
+    /// Whether all before it has to be kept before it is sent.
+    pub is_checkpoint: bool,
     /// How many bytes it has.
     pub length: usize,
-    pub asker: Asker,
+    /// None where it is a marker.
+    pub asker: Option<Asker>,
+}
+
+impl Sent {
+    /// Whether something of its answer is kept here.
+    pub fn is_kept(&self) -> bool {
+        self.numbered.is_some() || matches!(self.note, Note::Submit(_))
+    }
 }
 
 /// Calls that are sent at once.
@@ -109,6 +146,21 @@ impl Queue {
         lines.push(call);
         drop(lines);
         self.changed.notify_one();
+    }
+
+    /// Puts a call of kfsd's own in line. Where the answer is dropped, nobody knows it.
+    pub fn push_own(&self, body: Vec<u8>) -> oneshot::Receiver<Answer> {
+        let (to, answer) = oneshot::channel();
+        self.push(Call {
+            client: FRONT,
+            body,
+            note: Note::Nothing,
+            came: Instant::now(),
+            number: None,
+            bytes: None,
+            asker: Asker { to, frame: None },
+        });
+        answer
     }
 
     /// How many calls wait.
@@ -175,15 +227,46 @@ impl Lines {
     fn batch(&mut self, most: usize) -> Batch {
         let mut batch = Batch::default();
         while let Some(call) = self.pop(most.saturating_sub(batch.bytes.len()), batch.sent.is_empty()) {
-            let number = self.next_number;
-            self.next_number = number.wrapping_add(1);
-            // Bodies have at most 16,777,216 bytes.
-            let head = Head { length: call.body.len() as u32, number, from: call.client };
-            batch.bytes.extend_from_slice(&head.bytes());
-            batch.bytes.extend_from_slice(&call.body);
-            batch.sent.push(Sent { number, length: HEAD + call.body.len(), asker: call.asker });
+            if let Some(number) = call.number {
+                let marker = Marker::new(call.client, number, &call.body).bytes();
+                let number = self.put(&mut batch.bytes, FRONT, &marker);
+                let length = HEAD + MARKER;
+                batch.sent.push(Sent {
+                    number,
+                    client: FRONT,
+                    note: Note::Nothing,
+                    came: call.came,
+                    numbered: None,
+                    is_checkpoint: false,
+                    length,
+                    asker: None,
+                });
+            }
+            let number = self.put(&mut batch.bytes, call.client, &call.body);
+            let is_checkpoint = call.is_alone();
+            let Call { client, body, note, came, number: numbered, asker, .. } = call;
+            batch.sent.push(Sent {
+                number,
+                client,
+                note,
+                came,
+                numbered,
+                is_checkpoint,
+                length: HEAD + body.len(),
+                asker: Some(asker),
+            });
         }
         batch
+    }
+
+    /// Puts a frame behind these bytes, and tells its number.
+    fn put(&mut self, bytes: &mut Vec<u8>, from: u32, body: &[u8]) -> u32 {
+        let number = self.next_number;
+        self.next_number = number.wrapping_add(1);
+        // Bodies have at most 16,777,216 bytes.
+        bytes.extend_from_slice(&Head { length: body.len() as u32, number, from }.bytes());
+        bytes.extend_from_slice(body);
+        number
     }
 
     /// The next call, where there is one and it fits in so many bytes or is the first.
@@ -191,13 +274,13 @@ impl Lines {
         loop {
             let client = *self.turns.front()?;
             let line = self.of.get_mut(&client)?;
-            let (cost, length) = line.calls.front().map(|call| (call.cost(), call.body.len() + HEAD))?;
+            let (cost, length, is_alone) = line.calls.front().map(|call| (call.cost(), call.length(), call.is_alone()))?;
             if cost > line.credit {
                 line.credit += TURN;
                 self.turns.rotate_left(1);
                 continue;
             }
-            if length > room && !is_first {
+            if (length > room || is_alone) && !is_first {
                 return None;
             }
             line.credit -= cost;
@@ -228,8 +311,19 @@ mod tests {
 
     fn call(client: u32, length: usize) -> (Call, oneshot::Receiver<Answer>) {
         let (to, answer) = oneshot::channel();
-        let asker = Asker { to, frame: Arc::new(permits()) };
-        (Call { client, body: vec![7; length], bytes: permits(), asker }, answer)
+        let asker = Asker { to, frame: Some(Arc::new(permits())) };
+        (
+            Call {
+                client,
+                body: vec![7; length],
+                note: Note::Nothing,
+                came: Instant::now(),
+                number: None,
+                bytes: Some(permits()),
+                asker,
+            },
+            answer,
+        )
     }
 
     /// The clients of the frames in these bytes, with the length of each body.
@@ -292,6 +386,41 @@ mod tests {
         }
         // 8,192 bytes of frames that cost 276 each
         assert_eq!(before, [29; 20]);
+    }
+
+    #[tokio::test]
+    async fn a_call_of_its_own_is_from_the_front() {
+        let queue = Queue::default();
+        queue.push(call(7, 3).0);
+        let answer = queue.push_own(vec![4; 9]);
+        let batch = queue.next(MOST).await.unwrap();
+        assert_eq!(clients_in(&batch.bytes), [(7, 3), (FRONT, 9)]);
+        drop(batch);
+        assert!(answer.await.is_err());
+    }
+
+    #[tokio::test]
+    async fn a_checkpoint_is_the_first_of_a_batch() {
+        let queue = Queue::default();
+        queue.push(call(7, 1).0);
+        let _answer = queue.push_own(vec![CHECKPOINT]);
+        queue.push(call(8, 2).0);
+        let (first, second) = (queue.next(MOST).await.unwrap(), queue.next(MOST).await.unwrap());
+        assert_eq!(clients_in(&first.bytes), [(7, 1)]);
+        assert_eq!(clients_in(&second.bytes), [(FRONT, 1), (8, 2)]);
+        assert_eq!(second.sent.iter().map(|sent| sent.is_checkpoint).collect::<Vec<_>>(), [true, false]);
+    }
+
+    #[tokio::test]
+    async fn a_marker_stands_before_a_numbered_call() {
+        let queue = Queue::default();
+        let (mut one, _answer) = call(7, 3);
+        one.number = Some(9);
+        queue.push(one);
+        let batch = queue.next(MOST).await.unwrap();
+        assert_eq!(clients_in(&batch.bytes), [(FRONT, MARKER as u32), (7, 3)]);
+        assert_eq!(Marker::of(&batch.bytes[HEAD..HEAD + MARKER]), Some(Marker::new(7, 9, &[7; 3])));
+        assert_eq!(batch.sent.iter().map(|sent| sent.numbered).collect::<Vec<_>>(), [None, Some(9)]);
     }
 
     #[tokio::test]

@@ -13,7 +13,7 @@ use std::path::{Path, PathBuf};
 use std::sync::Arc;
 use std::time::Duration;
 use tokio::net::{UnixListener, UnixStream};
-use tokio::task::JoinSet;
+use tokio::task::{yield_now, JoinSet};
 use tokio::time::sleep;
 use tracing::warn;
 
@@ -74,7 +74,11 @@ pub async fn accept(sockets: Sockets, shared: Arc<Shared>) {
     loop {
         tokio::select! {
             taken = sockets.clients.listener.accept() => match taken {
-                Ok((stream, _)) => take(stream, &shared, &mut tasks),
+                Ok((stream, _)) => {
+                    take(stream, &shared, &mut tasks);
+                    // Where one comes after another, the tasks of those that were taken wait for this one else.
+                    yield_now().await;
+                }
                 Err(fault) => rest(fault).await,
             },
             taken = sockets.control.listener.accept() => match taken {
@@ -104,7 +108,13 @@ fn take(stream: UnixStream, shared: &Arc<Shared>, tasks: &mut JoinSet<()>) {
     match place {
         Ok(place) => {
             shared.figures.connections.add(1);
-            tasks.spawn(connection::serve(stream, place, Arc::clone(shared)));
+            let (wait, shared) = (place.account.arrivals.wait(), Arc::clone(shared));
+            tasks.spawn(async move {
+                if !wait.is_zero() {
+                    sleep(wait).await;
+                }
+                connection::serve(stream, place, shared).await;
+            });
         }
         Err(refusal) => {
             shared.figures.turned_away.add(1);

@@ -1,6 +1,7 @@
 //! Who may connect, and which client of the desk each one is.
 
 use crate::config::Limits;
+use crate::pace::Pace;
 use serde::Deserialize;
 use std::collections::{BTreeSet, HashMap};
 use std::fmt::Write as _;
@@ -14,6 +15,11 @@ pub const FRONT: u32 = u32::MAX;
 
 /// How many supplementary groups a client of the desk may have.
 const GROUP_LIMIT: usize = 16;
+
+/// How many frames of a user kfsd itself answers a second, and how many connections it takes; and how many of each at once.
+const ANSWERS: u32 = 10_000;
+const ARRIVALS: u32 = 1_000;
+const AT_ONCE: u32 = 1_000;
 
 /// A user of the configuration.
 #[derive(Clone, Debug, Deserialize, PartialEq, Eq)]
@@ -90,6 +96,9 @@ pub struct Account {
     pub user: User,
     pub frames: Arc<Semaphore>,
     pub bytes: Arc<Semaphore>,
+    /// Frames that kfsd answers itself, and new connections. Where a user has more of them, they wait.
+    pub answers: Pace,
+    pub arrivals: Pace,
     connections: AtomicU32,
 }
 
@@ -99,6 +108,8 @@ impl Account {
             user,
             frames: Arc::new(Semaphore::new(limits.frames_a_user as usize)),
             bytes: Arc::new(Semaphore::new(limits.bytes_a_user as usize)),
+            answers: Pace::new(ANSWERS, AT_ONCE),
+            arrivals: Pace::new(ARRIVALS, AT_ONCE),
             connections: AtomicU32::new(0),
         }
     }

@@ -2,6 +2,7 @@
 import contextlib
 import os
 import signal
+import socket
 import statistics
 import struct
 import threading
@@ -44,6 +45,15 @@ def fill(connection, data):
     return count
 
 
+def are_ended(daemon, connections, data):
+    """Whether all connections of the first user have ended. Those that haven't send what is taken at once."""
+    for it in connections:
+        it.socket.settimeout(0)
+        with contextlib.suppress(OSError):
+            it.socket.send(data)
+    return daemon.status()["user"][0]["connections"] == 0
+
+
 def readers_that_never_read(made):
     """8 connections send calls and never read. They stop being read, others go on, and they are ended."""
     with Daemon(*made, reply_seconds=3, frames_a_user=256).start() as daemon:
@@ -56,7 +66,8 @@ def readers_that_never_read(made):
         # a socket's buffers hold much; kfsd itself holds what the limits say
         assert max(taken) < 8 << 20, taken
         assert daemon.resident() < MEMORY, daemon.resident()
-        daemon.wait_for(lambda: daemon.status()["user"][0]["connections"] == 0)
+        # where all replies went into a socket's buffers nothing is late, so they send more
+        daemon.wait_for(lambda: are_ended(daemon, hanging, data))
         assert daemon.status()["connections"]["too_slow"] >= 1
         daemon.wait_for(lambda: daemon.frames_left() == 256)
         assert daemon.status()["user"][0]["bytes_left"] == 32 << 20
@@ -174,6 +185,40 @@ def one_with_much_to_do(made):
                 os.waitpid(child, 0)
 
 
+def connecting_on(daemon, uid):
+    """A process that connects as a user and goes in the middle of a frame, again and again, until it is ended."""
+    child = os.fork()
+    if child:
+        return child
+    os.setuid(uid)
+    while True:
+        with contextlib.suppress(OSError), socket.socket(socket.AF_UNIX) as it:
+            it.connect(f"{daemon.room}/socket")
+            it.send(frame(1, 7, lease(7, 10))[:-3])
+
+
+def those_who_come_and_go(made):
+    """A listed user and a stranger connect without end, two processes each. Another one's new connections are taken and answered."""
+    with Daemon(*made).start() as daemon:
+        for uid in (1000, 4242):
+            children = [connecting_on(daemon, uid) for _ in range(2)]
+            try:
+                daemon.wait_for(lambda: daemon.status()["connections"]["turned_away"] > 2000)
+                times = []
+                for at in range(20):
+                    began = time.monotonic()
+                    it = daemon.connect(9)
+                    assert it.ask(at, lease(9, 10 + at)).answer
+                    times.append(time.monotonic() - began)
+                    it.close()
+                print(f"    beside connections of user {uid} without end a connection and a call took {1e3 * statistics.median(times):.0f} ms, at most {1e3 * max(times):.0f} ms")
+                assert max(times) < 2, times
+            finally:
+                for child in children:
+                    os.kill(child, signal.SIGKILL)
+                    os.waitpid(child, 0)
+
+
 def settled(daemon, read):
     """What a figure is once it doesn't change any more."""
     before, now = None, read(daemon.status())
@@ -229,4 +274,4 @@ def bytes_are_limited(made):
         assert max(taken) < 1 << 20, taken
 
 
-TESTS = [frames_are_limited, bytes_are_limited, readers_that_never_read, a_slow_reader, long_frames_that_never_end, a_byte_now_and_then, gone_in_the_middle, idle_ones, one_with_much_to_do]
+TESTS = [frames_are_limited, bytes_are_limited, readers_that_never_read, a_slow_reader, long_frames_that_never_end, a_byte_now_and_then, gone_in_the_middle, idle_ones, those_who_come_and_go, one_with_much_to_do]

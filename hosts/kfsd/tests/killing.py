@@ -1,11 +1,12 @@
 """Kills in the middle. After each of them every answered call is found again, and none is there more often than it was sent."""
 import collections
+import itertools
 import random
 import struct
 import threading
 import time
 
-from running import Daemon, Gone, frame, kept_in, lease, user
+from running import Daemon, Gone, frame, kept_in, lease, numbered, user
 
 from benchmarks import files_made
 
@@ -17,6 +18,8 @@ MOST = 3_400
 
 class Client:
     """Sends calls that are each its own, in a thread, and sends those again of which nobody knows."""
+
+    most = MOST
 
     def __init__(self, daemon, client):
         self.daemon, self.client, self.next_end = daemon, client, 1
@@ -34,7 +37,7 @@ class Client:
 
     def run(self):
         try:
-            while not self.is_over.is_set() and self.next_end < MOST:
+            while not self.is_over.is_set() and self.next_end < self.most:
                 with self.daemon.lock:
                     connection = self.daemon.connect_or_none(self.client)
                 if connection is None:
@@ -46,7 +49,7 @@ class Client:
 
     def talk(self, connection):
         """Sends bursts until this ends, or the connection does."""
-        while not self.is_over.is_set() and self.next_end < MOST:
+        while not self.is_over.is_set() and self.next_end < self.most:
             calls, place = self.calls(), 0
             self.sent += calls
             try:
@@ -97,9 +100,9 @@ def answered_by(clients):
     return [call for it in clients for call in list(it.answered)]
 
 
-def run_with_kills(daemon, kills, kill):
-    """Lets clients work while kfs_serve or kfsd is killed so often. Looks after each kill, and at the end."""
-    clients = [Client(daemon, it["client"]) for it in USERS]
+def run_with_kills(daemon, kills, kill, kind=Client, look_at=look):
+    """Lets clients of a kind work while kfs_serve or kfsd is killed so often. Looks after each kill."""
+    clients = [kind(daemon, it["client"]) for it in USERS]
     chance = random.Random(kills)
     for it in clients:
         it.thread.start()
@@ -109,7 +112,7 @@ def run_with_kills(daemon, kills, kill):
             known = answered_by(clients)
             with daemon.lock:
                 kill()
-                look(daemon, clients, known)
+                look_at(daemon, clients, known)
         time.sleep(0.1)
     finally:
         for it in clients:
@@ -161,11 +164,13 @@ def submission(at):
     return struct.pack(">BII", 1, 7, len(log)) + log + struct.pack(">I", len(plan)) + plan
 
 
-def fill_journal(connection, is_over, wrong):
-    """Sends long submissions that are refused, so that the journal is begun anew now and then."""
+def fill_journal(connection, is_over, wrong, number=None):
+    """Sends long submissions that are refused, so that the journal is begun anew now and then; under numbers from one on, where it is given."""
     call = struct.pack(">BII", 1, connection.client, 60_000) + bytes(60_000) + bytes(4)
-    while not is_over.is_set():
-        reply = connection.ask(1, call)
+    for at in itertools.count(number or 0):
+        if is_over.is_set():
+            break
+        reply = connection.ask(1, call if number is None else numbered(at, call))
         if reply.refusal != ("Unknown", 0) and reply.answer[4:5] != bytes([NO]):
             wrong.append(reply)
 

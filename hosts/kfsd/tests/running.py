@@ -1,4 +1,5 @@
 """A running kfsd, connections to it as any user, and what its files keep."""
+import contextlib
 import importlib.machinery
 import importlib.util
 import json
@@ -20,8 +21,10 @@ import frames  # noqa: E402
 from frames import FRONT, frame  # noqa: E402,F401
 
 # What kfsd refuses by itself (docs/KFSD.md).
-frames.REFUSALS |= {128: "Unknown", 129: "Stopping", 130: "Unlisted", 131: "TooMany"}
-HELLO = b"\xf0"
+frames.REFUSALS |= {128: "Unknown", 129: "Stopping", 130: "Unlisted", 131: "TooMany", 132: "TooFar", 133: "UnderWay", 134: "NotThere", 135: "Wanted"}
+HELLO, MOMENT = b"\xf0", b"\xf1"
+# The tags of calls that are the front's.
+FRONTS = (4, 5)
 # How long a test waits for what is due at once.
 SOON = 30
 
@@ -45,6 +48,11 @@ def lease(client, end, path=b"/", writes=False):
 def user(uid, client, grant=(1, 0), gid=None):
     """A user of the configuration, without numbers to give where it says no grant."""
     return {"uid": uid, "gid": uid if gid is None else gid, "client": client, "grant": list(grant)}
+
+
+def numbered(number, call=b""):
+    """A call under a number of the client's own; without a call the question how it ended."""
+    return b"\xf2" + struct.pack(">Q", number) + call
 
 
 USERS = [user(1000, 7, (2, 99)), user(1001, 8, (100, 199)), user(1002, 9, (200, 299))]
@@ -99,6 +107,13 @@ class Connection:
         assert reply.number == number, (reply, number)
         return reply
 
+    def moment(self, number=0):
+        """The moment, and how many seconds a lease may live."""
+        self.send(number, MOMENT)
+        found, said = self.next()
+        assert found == number and said[0] == MOMENT[0], (found, said)
+        return struct.unpack(">QQ", said[1:])
+
     def is_ended(self):
         """Whether the other end has closed, with nothing more to read."""
         try:
@@ -111,11 +126,23 @@ class Connection:
         self.socket.close()
 
 
+def children_of(process):
+    """The children of a process, as descriptors, which mean these and no others that have their numbers later."""
+    found = []
+    for task in os.listdir(f"/proc/{process}/task"):
+        with contextlib.suppress(OSError), open(f"/proc/{process}/task/{task}/children", encoding="ascii") as it:
+            found += [os.pidfd_open(int(child)) for child in it.read().split()]
+    return found
+
+
 class Daemon:
     """A kfsd with a folder of its own."""
 
-    def __init__(self, binaries, program, users=None, tiers=(64, 64, 64), **limits):
+    def __init__(self, binaries, program, users=None, tiers=(64, 64, 64), duties=None, figures=None, **limits):
         self.binaries, self.users, self.limits, self.tiers = binaries, list(USERS if users is None else users), limits, tiers
+        # most tests ask for leases up to any end, and count seconds of none
+        self.duties = {"lease_seconds": 0, "checkpoint_at_stop": False, "free_percent": 0, **(duties or {})}
+        self.figures = figures
         self.room = tempfile.mkdtemp(prefix="kfsd-")
         os.chmod(self.room, 0o755)
         self.folder, self.program = f"{self.room}/desk", program
@@ -128,8 +155,14 @@ class Daemon:
 
     def __exit__(self, kind, *_):
         if self.process and self.process.poll() is None:
+            children = children_of(self.process.pid)
             self.process.kill()
             self.process.wait()
+            for held in children:
+                # kfs_serve ends by itself, and what stands in its place may not
+                with contextlib.suppress(ProcessLookupError):
+                    signal.pidfd_send_signal(held, signal.SIGKILL)
+                os.close(held)
         if kind is not None:
             print(f"--- {self.log}\n{self.said()[-3000:]}---")
         shutil.rmtree(self.room, ignore_errors=True)
@@ -137,8 +170,10 @@ class Daemon:
     def put_config(self):
         """Writes the configuration."""
         lines = [f'{name} = "{self.room}/{name}"' for name in ("socket", "control")]
+        lines += [f'figures = "{self.figures}"'] if self.figures else []
         lines += [f'folder = "{self.folder}"', f'program = "{self.program}"', f"tiers = {list(self.tiers)}", "[limits]"]
         lines += [f"{name} = {value}" for name, value in self.limits.items()]
+        lines += ["[duties]", *(f"{name} = {json.dumps(value)}" for name, value in self.duties.items())]
         for it in self.users:
             lines += ["[[user]]", *(f"{name} = {json.dumps(value)}" for name, value in it.items())]
         with open(f"{self.room}/kfsd.toml", "w", encoding="utf-8") as it:
@@ -177,18 +212,23 @@ class Daemon:
     def stranger(self, uid, client=7):
         return Connection(f"{self.room}/socket", uid, client)
 
+    def ask(self, *words):
+        """What kfsctl prints."""
+        words = [f"{self.binaries}/kfsctl", "--control", f"{self.room}/control", *words]
+        return subprocess.run(words, check=True, capture_output=True, text=True, timeout=SOON).stdout
+
     def status(self):
-        words = [f"{self.binaries}/kfsctl", "--control", f"{self.room}/control", "status"]
-        return tomllib.loads(subprocess.run(words, check=True, capture_output=True, text=True, timeout=SOON).stdout)
+        return tomllib.loads(self.ask("status"))
 
     def kill_desk(self):
-        """Kills kfs_serve, once it runs."""
+        """Kills kfs_serve, once it has opened its files: of processes that never do, one after another, kfsd takes only five."""
         self.wait_for(self.has_killed_desk)
 
-    def has_killed_desk(self):
-        """Kills the process that kfsd names, where it is a child of kfsd. Returns whether it was."""
-        pid = self.status()["kfs_serve"]["process"]
-        if pid == 0:
+    def has_killed_desk(self, while_opening=False):
+        """Kills the process that kfsd names, where it is a child of kfsd, and has opened its files or still does. Returns whether it was."""
+        found = self.status()["kfs_serve"]
+        pid = found["process"]
+        if pid == 0 or found["is_open"] == while_opening:
             return False
         try:
             # by this the process is meant, and not another one that has its number by then
@@ -228,8 +268,8 @@ class Daemon:
             return int(it.read().split()[1]) * os.sysconf("SC_PAGE_SIZE")
 
     def kept(self):
-        """The calls in the file that counts."""
-        return kept_in(self.folder)[1]
+        """The calls of clients in the file that counts. Ticks and moves are kfsd's own."""
+        return [call for call in kept_in(self.folder)[1] if call[0] not in FRONTS]
 
 
 def pretender(daemon, text):

@@ -15,10 +15,11 @@ TICK = struct.pack(">BQ", 4, 10)
 def a_client_is_named_by_the_kernel(made):
     """The client says hello, makes a call of its own, and is refused each one that isn't."""
     with Daemon(*made).start() as daemon, contextlib.closing(daemon.connect(7)) as seven:
-        seven.send(1, HELLO)
-        assert seven.next() == (1, struct.pack(">BIII", 0xF0, 7, 2, 99))
+        for sender in (7, 8, FRONT):
+            seven.send(1, HELLO, sender)
+            assert seven.next() == (1, struct.pack(">BIII", 0xF0, 7, 2, 99))
         before = daemon.status()["frames"]["sent"]
-        forged = [(8, lease(7, 10)), (8, lease(8, 10)), (7, lease(8, 10)), (FRONT, lease(7, 10)), (FRONT, TICK), (7, TICK), (8, HELLO)]
+        forged = [(8, lease(7, 10)), (8, lease(8, 10)), (7, lease(8, 10)), (FRONT, lease(7, 10)), (FRONT, TICK), (7, TICK), (8, HELLO + HELLO)]
         forged += [(7, bytes([tag]) + struct.pack(">I", 8)) for tag in (1, 2, 3, 6)]
         for number, (sender, body) in enumerate(forged):
             reply = seven.ask(number, body, sender)

@@ -4,13 +4,18 @@
 
 use anyhow::{bail, Context, Result};
 use clap::{Parser, Subcommand};
+use kfsd::folder::FILES;
+use kfsd::status::Status;
 use std::io::{Read, Write};
+use std::os::unix::fs::DirBuilderExt;
 use std::os::unix::net::UnixStream;
-use std::path::PathBuf;
-use std::time::Duration;
+use std::path::{Path, PathBuf};
+use std::process::{Command, ExitStatus, Stdio};
+use std::thread::sleep;
+use std::time::{Duration, Instant};
 
 /// How long an answer may take.
-const TIME: Duration = Duration::from_secs(10);
+const TIME: Duration = Duration::from_secs(60);
 
 /// Asks a running kfsd.
 #[derive(Debug, Parser)]
@@ -27,21 +32,119 @@ struct Words {
 enum Asked {
     /// Prints what runs, who is connected, and counts since the start.
     Status,
+    /// Prints a line for each user that may connect.
+    Users,
+    /// Prints a line for each lease, and for each that another client wants.
+    Leases,
+    /// Prints how many places of each tier are free, and how many rows the docket has.
+    Free,
+    /// Has the journal begun anew, with the state of now.
+    Checkpoint,
+    /// Copies the two files of a desk, also while it is in use, and has the copy opened, which looks at all of it.
+    Fsck {
+        /// The folder of the two files.
+        #[arg(long)]
+        folder: PathBuf,
+        /// The program kfs_serve.
+        #[arg(long, default_value = "/usr/lib/kfsd/kfs_serve")]
+        program: PathBuf,
+    },
+    /// Prints a line now and then: calls a second, and what waits.
+    Watch {
+        /// Seconds between two lines.
+        #[arg(long, default_value_t = 1)]
+        seconds: u64,
+        /// How many lines; without it there is no end.
+        #[arg(long)]
+        count: Option<u64>,
+    },
 }
 
 fn main() -> Result<()> {
     let words = Words::parse();
     let question = match words.asked {
-        Asked::Status => "status\n",
+        Asked::Status => "status",
+        Asked::Users => "users",
+        Asked::Leases => "leases",
+        Asked::Free => "free",
+        Asked::Checkpoint => "checkpoint",
+        Asked::Fsck { folder, program } => return fsck(&folder, &program),
+        Asked::Watch { seconds, count } => return watch(&words.control, Duration::from_secs(seconds), count),
     };
-    let mut stream = UnixStream::connect(&words.control).with_context(|| words.control.display().to_string())?;
+    print(&ask(&words.control, question)?)
+}
+
+fn print(text: &str) -> Result<()> {
+    std::io::stdout().write_all(text.as_bytes())?;
+    Ok(())
+}
+
+/// How often a copy is made anew: where the journal was begun anew meanwhile, it may not be whole.
+const COPIES: u32 = 5;
+
+/// Looks at a copy of the files, in a folder of its own that goes.
+fn fsck(folder: &Path, program: &Path) -> Result<()> {
+    let room = std::env::temp_dir().join(format!("kfsctl-{}", std::process::id()));
+    std::fs::DirBuilder::new().mode(0o700).create(&room).with_context(|| room.display().to_string())?;
+    let found = (1..=COPIES).find_map(|at| match open_copy(folder, program, &room) {
+        Ok(status) if !status.success() && at < COPIES => None,
+        found => Some(found),
+    });
+    std::fs::remove_dir_all(&room)?;
+    match found {
+        Some(Ok(status)) if status.success() => print("the files are those of a desk whose image breaks no rule\n"),
+        Some(Ok(status)) => bail!("kfs_serve doesn't open a copy of the files: {status} (PROTOCOL.md)"),
+        Some(Err(fault)) => Err(fault),
+        None => bail!("no copy was made"),
+    }
+}
+
+/// Copies the files, and has them opened with no frame.
+fn open_copy(folder: &Path, program: &Path, room: &Path) -> Result<ExitStatus> {
+    for name in FILES {
+        std::fs::copy(folder.join(name), room.join(name)).with_context(|| folder.join(name).display().to_string())?;
+    }
+    let mut opened = Command::new(program);
+    opened.arg("open").arg(room).arg(u32::MAX.to_string()).stdin(Stdio::null()).stdout(Stdio::null());
+    opened.status().with_context(|| program.display().to_string())
+}
+
+/// The answer to a question.
+fn ask(control: &Path, question: &str) -> Result<String> {
+    let mut stream = UnixStream::connect(control).with_context(|| control.display().to_string())?;
     stream.set_read_timeout(Some(TIME))?;
-    stream.write_all(question.as_bytes())?;
+    stream.write_all(format!("{question}\n").as_bytes())?;
     let mut text = String::new();
     stream.read_to_string(&mut text)?;
     match text.strip_prefix("# ") {
         Some(why) => bail!("kfsd: {}", why.trim_end()),
-        None => std::io::stdout().write_all(text.as_bytes())?,
+        None => Ok(text),
+    }
+}
+
+fn status(control: &Path) -> Result<(Instant, Status)> {
+    Ok((Instant::now(), toml::from_str(&ask(control, "status")?)?))
+}
+
+/// Prints so many lines, with so long between them.
+fn watch(control: &Path, time: Duration, count: Option<u64>) -> Result<()> {
+    print("calls/s unknown waiting connections leases wanted starts\n")?;
+    let mut before = status(control)?;
+    for _ in 0..count.unwrap_or(u64::MAX) {
+        sleep(time);
+        let now = status(control)?;
+        print(&line(&before.1, &now.1, now.0 - before.0))?;
+        before = now;
     }
     Ok(())
+}
+
+fn line(before: &Status, now: &Status, time: Duration) -> String {
+    let calls = now.frames.answered.saturating_sub(before.frames.answered) as f64 / time.as_secs_f64();
+    let unknown = now.frames.unknown.saturating_sub(before.frames.unknown);
+    let connections: u32 = now.user.iter().map(|user| user.connections).sum();
+    format!(
+        "{calls:>7.0} {unknown:>7} {:>7} {connections:>11} {:>6} {:>6} {:>6}\n",
+        now.kfs_serve.waiting_calls, now.desk.leases, now.desk.wanted_leases, now.kfs_serve.starts
+    )
 }

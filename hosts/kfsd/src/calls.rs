@@ -1,0 +1,223 @@
+//! Calls of a desk and their answers as bytes (docs/FORMATS.md), as far as kfsd follows what the desk does.
+
+use crate::bytes::Bytes;
+
+const SUBMIT: u8 = 1;
+const LEASE: u8 = 2;
+const DROP: u8 = 3;
+const TICK: u8 = 4;
+const LEASE_BY_NUMBER: u8 = 6;
+
+/// What a lease is asked on.
+#[derive(Clone, Debug, PartialEq, Eq, Hash)]
+pub enum On {
+    Path(Vec<u8>),
+    Node(u32),
+}
+
+/// A call for a lease.
+#[derive(Clone, Debug, PartialEq, Eq)]
+pub struct Wish {
+    pub client: u32,
+    pub writes: bool,
+    /// The moment at which the lease ends.
+    pub end: u64,
+    pub on: On,
+}
+
+/// What a log does to a node, as its plan says.
+#[derive(Clone, Copy, Debug, PartialEq, Eq)]
+pub enum Change {
+    /// The bytes of a file, or the names of a directory.
+    Bytes,
+    /// It is new, or its header is another.
+    Header,
+    /// It isn't there any more.
+    Gone,
+}
+
+/// What kfsd follows of a call.
+#[derive(Clone, Debug, PartialEq, Eq)]
+pub enum Note {
+    Lease(Wish),
+    Drop {
+        client: u32,
+    },
+    /// A log and its plan. A plan that is right names all that the log changes.
+    Submit(Vec<(u32, Change)>),
+    /// Nothing is followed, or it is told by the answer.
+    Nothing,
+}
+
+impl Note {
+    /// What these bytes ask for. Where they are no call, it is nothing; `kfs_serve` refuses them.
+    pub fn of(body: &[u8]) -> Note {
+        Note::read(body).unwrap_or(Note::Nothing)
+    }
+
+    fn read(body: &[u8]) -> Option<Note> {
+        let mut bytes = Bytes(body);
+        let tag = bytes.byte()?;
+        let client = bytes.word()?;
+        match tag {
+            SUBMIT => {
+                let _log = bytes.counted()?;
+                Some(Note::Submit(changes_in(bytes.counted()?)?))
+            }
+            LEASE | LEASE_BY_NUMBER => {
+                let (writes, end) = (bytes.byte()? == 1, bytes.long()?);
+                let on = if tag == LEASE {
+                    let length = bytes.half()?;
+                    On::Path(bytes.take(length.into())?.to_vec())
+                } else {
+                    On::Node(bytes.word()?)
+                };
+                Some(Note::Lease(Wish { client, writes, end, on }))
+            }
+            DROP => Some(Note::Drop { client }),
+            _ => None,
+        }
+    }
+}
+
+/// What a plan changes, each node as often as it has rows of different kinds.
+fn changes_in(plan: &[u8]) -> Option<Vec<(u32, Change)>> {
+    let mut bytes = Bytes(plan);
+    let _head = bytes.take(5)?;
+    let (names, nodes, pieces) = (bytes.half()?, bytes.half()?, bytes.word()?);
+    let (mut found, mut gone) = (Vec::new(), Vec::new());
+    for _ in 0..names {
+        put(&mut found, bytes.word()?, Change::Bytes);
+        let length = bytes.byte()?;
+        let _name_and_number = bytes.take(usize::from(length) + 4)?;
+    }
+    for _ in 0..nodes {
+        let (node, state) = (bytes.word()?, bytes.byte()?);
+        if state == 0 {
+            gone.push((node, Change::Gone));
+        } else {
+            let _header = bytes.take(20)?;
+            put(&mut found, node, Change::Header);
+        }
+    }
+    for _ in 0..pieces {
+        put(&mut found, bytes.word()?, Change::Bytes);
+        let _start_and_length = bytes.take(16)?;
+        let payload = if bytes.byte()? == 1 { 6 } else { 0 };
+        let _payload = bytes.take(payload)?;
+    }
+    found.extend(gone);
+    Some(found)
+}
+
+/// Adds a change, where the last one isn't the same.
+fn put(found: &mut Vec<(u32, Change)>, node: u32, change: Change) {
+    if found.last() != Some(&(node, change)) {
+        found.push((node, change));
+    }
+}
+
+/// The call that sets the moment.
+pub fn tick(moment: u64) -> Vec<u8> {
+    let mut body = vec![TICK];
+    body.extend_from_slice(&moment.to_be_bytes());
+    body
+}
+
+/// Why the desk refuses a call for a lease, as far as kfsd looks at it.
+#[derive(Clone, Copy, Debug, PartialEq, Eq)]
+pub enum Why {
+    /// This client has a lease that doesn't go with it.
+    Held(u32),
+    Else,
+}
+
+/// What the desk answered, as far as kfsd follows it.
+#[derive(Clone, Copy, Debug, PartialEq, Eq)]
+pub enum Told {
+    /// A log has landed.
+    Landed,
+    /// Too few places of tier 0 are free.
+    NoRoom,
+    Leased(u32),
+    Dropped(u32),
+    Ticked(u64),
+    NoLease(Why),
+    Else,
+}
+
+impl Told {
+    /// What an answer says. Its position is not among these bytes.
+    pub fn of(answer: &[u8]) -> Told {
+        Told::read(answer).unwrap_or(Told::Else)
+    }
+
+    fn read(answer: &[u8]) -> Option<Told> {
+        let mut bytes = Bytes(answer);
+        match bytes.byte()? {
+            1 => Some(Told::Landed),
+            3 => Some(Told::NoRoom),
+            4 => Some(Told::Leased(bytes.word()?)),
+            5 => Some(Told::Dropped(bytes.word()?)),
+            6 => Some(Told::Ticked(bytes.long()?)),
+            8 => {
+                let code = bytes.half()?.to_be_bytes()[0];
+                let _index = bytes.long()?;
+                let client = bytes.word()?;
+                Some(Told::NoLease(if code == 7 { Why::Held(client) } else { Why::Else }))
+            }
+            _ => None,
+        }
+    }
+}
+
+#[cfg(test)]
+mod tests {
+    use super::*;
+
+    #[test]
+    fn calls_for_leases_are_read() {
+        let by_path = [2, 0, 0, 0, 7, 1, 0, 0, 0, 0, 0, 0, 0, 100, 0, 1, b'/'];
+        let wish = Wish { client: 7, writes: true, end: 100, on: On::Path(b"/".to_vec()) };
+        assert_eq!(Note::of(&by_path), Note::Lease(wish.clone()));
+        let by_number = [6, 0, 0, 0, 7, 1, 0, 0, 0, 0, 0, 0, 0, 100, 0, 0, 1, 2];
+        assert_eq!(Note::of(&by_number), Note::Lease(Wish { on: On::Node(258), ..wish }));
+        assert_eq!(Note::of(&[3, 0, 0, 0, 7, 0, 0, 0, 1]), Note::Drop { client: 7 });
+        assert_eq!(Note::of(&by_path[..16]), Note::Nothing);
+        assert_eq!(Note::of(&[]), Note::Nothing);
+        assert_eq!(tick(258), [4, 0, 0, 0, 0, 0, 0, 1, 2]);
+    }
+
+    #[test]
+    fn a_plan_says_what_changes() {
+        let mut plan = b"KPLN\x01\0\x02\0\x02\0\0\0\x03".to_vec();
+        for name in [b'a', b'b'] {
+            plan.extend_from_slice(&[0, 0, 0, 1, 1, name, 0, 0, 0, 5]);
+        }
+        plan.extend_from_slice(&[0, 0, 0, 4, 0]);
+        plan.extend_from_slice(&[[0, 0, 0, 5, 1].as_slice(), &[7; 20]].concat());
+        for source in [0, 0, 1] {
+            plan.extend_from_slice(&[[0, 0, 0, 5].as_slice(), &[0; 16], &[source]].concat());
+        }
+        plan.extend_from_slice(&[9; 6]);
+        let mut call = vec![1, 0, 0, 0, 7, 0, 0, 0, 1, 99];
+        call.extend_from_slice(&(plan.len() as u32).to_be_bytes());
+        call.extend_from_slice(&plan);
+        let changes = vec![(1, Change::Bytes), (5, Change::Header), (5, Change::Bytes), (4, Change::Gone)];
+        assert_eq!(Note::of(&call), Note::Submit(changes));
+        for cut in 1..plan.len() {
+            assert_eq!(changes_in(&plan[..cut]), None);
+        }
+    }
+
+    #[test]
+    fn answers_are_read() {
+        assert_eq!(Told::of(&[4, 0, 0, 0, 1]), Told::Leased(1));
+        assert_eq!(Told::of(&[6, 0, 0, 0, 0, 0, 0, 1, 0]), Told::Ticked(256));
+        assert_eq!(Told::of(&[8, 7, 0, 0, 0, 0, 0, 0, 0, 0, 0, 0, 0, 0, 9]), Told::NoLease(Why::Held(9)));
+        assert_eq!(Told::of(&[8, 6, 0, 0, 0, 0, 0, 0, 0, 0, 0, 0, 0, 0, 0]), Told::NoLease(Why::Else));
+        assert_eq!(Told::of(&[1, 0]), Told::Landed);
+        assert_eq!(Told::of(&[2, 0]), Told::Else);
+        assert_eq!(Told::of(&[3, 0]), Told::NoRoom);
+    }
+}

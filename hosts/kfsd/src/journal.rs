@@ -1,0 +1,203 @@
+//! The two files of a desk (docs/FORMATS.md), read while no `kfs_serve` has them open.
+//!
+//! kfsd writes nothing to them. What it reads here `kfs_serve` opens behind it, and refuses where it is wrong.
+
+use crate::bytes::Bytes;
+use crate::folder::FILES;
+use crate::leases::{Lease, Leases};
+use std::fs::File;
+use std::io::{self, BufReader, ErrorKind, Read, Seek, SeekFrom};
+use std::path::Path;
+
+const HEAD: usize = 21;
+const BUFFER: usize = 1 << 20;
+
+/// What the files tell, in its order.
+#[derive(Debug)]
+pub enum Part<'a> {
+    /// The moment and the leases of the state that the file which counts begins with. Calls before it are part of it.
+    State(Leases),
+    /// A call that is kept, and its answer without the position.
+    Call(&'a [u8], &'a [u8]),
+}
+
+/// A file whose head is whole.
+struct Whole {
+    number: u64,
+    file: BufReader<File>,
+    /// Where the file ends.
+    end: u64,
+    /// Where the first record begins.
+    records: u64,
+}
+
+/// Reads both files. The calls of the file that counted before come first, where they lead to the state of the one that counts.
+pub fn read(folder: &Path, mut tell: impl FnMut(Part<'_>)) -> io::Result<()> {
+    let mut found = Vec::new();
+    for name in FILES {
+        found.extend(Whole::open(&folder.join(name))?);
+    }
+    // Of two with one number the first counts.
+    found.sort_by_key(|whole| std::cmp::Reverse(whole.number));
+    let mut found = found.into_iter();
+    let mut counts = match found.next() {
+        Some(counts) => counts,
+        None => return Ok(()),
+    };
+    if let Some(mut before) = found.next().filter(|before| before.number.checked_add(1) == Some(counts.number)) {
+        before.tell_calls(&mut tell)?;
+    }
+    tell(Part::State(counts.state()?));
+    counts.tell_calls(&mut tell)
+}
+
+impl Whole {
+    /// Opens a file; none where it isn't there, or its head isn't whole.
+    fn open(path: &Path) -> io::Result<Option<Whole>> {
+        let file = match File::open(path) {
+            Ok(file) => file,
+            Err(fault) if fault.kind() == ErrorKind::NotFound => return Ok(None),
+            Err(fault) => return Err(fault),
+        };
+        let end = file.metadata()?.len();
+        let mut file = BufReader::with_capacity(BUFFER, file);
+        if end < HEAD as u64 {
+            return Ok(None);
+        }
+        let mut head = [0; HEAD];
+        file.read_exact(&mut head)?;
+        let mut bytes = Bytes(&head);
+        let is_whole = bytes.take(4) == Some(b"KDJL");
+        let number = bytes.long().unwrap_or(0);
+        let is_open = bytes.byte() == Some(1);
+        let records = bytes.long().and_then(|length| length.checked_add(HEAD as u64)).filter(|at| *at <= end);
+        Ok(records.filter(|_| is_whole && is_open).map(|records| Whole { number, file, end, records }))
+    }
+
+    fn take(&mut self, count: usize) -> io::Result<Vec<u8>> {
+        let mut bytes = vec![0; count];
+        self.file.read_exact(&mut bytes)?;
+        Ok(bytes)
+    }
+
+    /// The moment and the leases of the state. The file stands at the state.
+    fn state(&mut self) -> io::Result<Leases> {
+        let head = self.take(HEAD)?;
+        let mut bytes = Bytes(&head[5..]);
+        let moment = bytes.long().unwrap_or(0);
+        let (clients, leases) = (bytes.word().unwrap_or(0), bytes.word().unwrap_or(0));
+        for _ in 0..clients {
+            let row = self.take(22)?;
+            self.take(4 * usize::from(row[21]))?;
+        }
+        let mut found = Leases::at(moment);
+        for _ in 0..leases {
+            let row = self.take(17)?;
+            let mut bytes = Bytes(&row);
+            if let (Some(node), Some(client), Some(kind), Some(end)) = (bytes.word(), bytes.word(), bytes.byte(), bytes.long())
+            {
+                found.held.insert((node, client), Lease { writes: kind == 1, end, path: None });
+            }
+        }
+        Ok(found)
+    }
+
+    /// Tells each call, up to the first record that isn't whole.
+    fn tell_calls(&mut self, tell: &mut impl FnMut(Part<'_>)) -> io::Result<()> {
+        let mut at = self.records;
+        self.file.seek(SeekFrom::Start(at))?;
+        while self.end - at >= 5 {
+            let head = self.take(5)?;
+            let length = u64::from(Bytes(&head[1..]).word().unwrap_or(0));
+            at += 5;
+            if head[0] != 1 || length > self.end - at {
+                break;
+            }
+            at += length;
+            let group = self.take(length as usize)?;
+            tell_group(&group, tell);
+        }
+        Ok(())
+    }
+}
+
+/// Tells the calls of a group: each behind its length of four bytes, and its answer behind one of one byte.
+fn tell_group(group: &[u8], tell: &mut impl FnMut(Part<'_>)) {
+    let mut bytes = Bytes(group);
+    while let Some(call) = bytes.counted() {
+        let answer = bytes.byte().and_then(|length| bytes.take(length.into()));
+        match answer {
+            Some(answer) => tell(Part::Call(call, answer)),
+            None => return,
+        }
+    }
+}
+
+#[cfg(test)]
+mod tests {
+    use super::*;
+    use crate::folder::tests::Room;
+
+    /// A file with this number, a state with a client and a lease, and a group for each of these calls.
+    fn file(number: u64, gate: u8, calls: &[&[u8]]) -> Vec<u8> {
+        let mut state = b"KDSK\x01".to_vec();
+        state.extend_from_slice(&[0, 0, 0, 0, 0, 0, 0, 50, 0, 0, 0, 1, 0, 0, 0, 1]);
+        // client 7 with one group
+        state.extend_from_slice(&[0, 0, 0, 7, 0, 0, 0, 1, 0, 0, 0, 1, 0, 0, 0, 0, 2, 0, 0, 0, 9, 1, 0, 0, 0, 5]);
+        // its lease on node 3 up to 60, and an image
+        state.extend_from_slice(&[0, 0, 0, 3, 0, 0, 0, 7, 1, 0, 0, 0, 0, 0, 0, 0, 60, 99]);
+        let mut bytes = b"KDJL".to_vec();
+        bytes.extend_from_slice(&number.to_be_bytes());
+        bytes.push(gate);
+        bytes.extend_from_slice(&(state.len() as u64).to_be_bytes());
+        bytes.extend_from_slice(&state);
+        for call in calls {
+            bytes.push(1);
+            bytes.extend_from_slice(&(call.len() as u32 + 7).to_be_bytes());
+            bytes.extend_from_slice(&(call.len() as u32).to_be_bytes());
+            bytes.extend_from_slice(call);
+            bytes.extend_from_slice(&[2, 1, 1]);
+        }
+        bytes.push(0);
+        bytes
+    }
+
+    /// The calls that are told, with the moment of the state among them.
+    fn told(first: &[u8], second: &[u8]) -> Vec<String> {
+        let room = Room::new("journal");
+        std::fs::write(room.0.join(FILES[0]), first).unwrap();
+        std::fs::write(room.0.join(FILES[1]), second).unwrap();
+        let mut found = Vec::new();
+        read(&room.0, |part| match part {
+            Part::State(leases) => found.push(format!("{} {:?}", leases.moment, leases.held.keys().next())),
+            Part::Call(call, answer) => found.push(format!("{}{answer:?}", String::from_utf8_lossy(call))),
+        })
+        .unwrap();
+        found
+    }
+
+    #[test]
+    fn the_calls_before_come_first() {
+        let (old, new) = (file(4, 1, &[b"a", b"b"]), file(5, 1, &[b"c"]));
+        let state = "50 Some((3, 7))";
+        assert_eq!(told(&new, &old), ["a[1, 1]", "b[1, 1]", state, "c[1, 1]"]);
+        assert_eq!(told(&old, &new), ["a[1, 1]", "b[1, 1]", state, "c[1, 1]"]);
+        // what isn't the file before tells nothing
+        assert_eq!(told(&file(3, 1, &[b"a"]), &new), [state, "c[1, 1]"]);
+        assert_eq!(told(&file(6, 0, &[b"a"]), &new), [state, "c[1, 1]"]);
+        assert_eq!(told(&old[..30], &new), [state, "c[1, 1]"]);
+        assert_eq!(told(&[], &new), [state, "c[1, 1]"]);
+        assert_eq!(told(&[], &[]), Vec::<String>::new());
+    }
+
+    #[test]
+    fn a_record_that_is_cut_ends_the_calls() {
+        let whole = file(5, 1, &[b"a", b"b"]);
+        for cut in 1..14 {
+            assert_eq!(
+                told(&whole[..whole.len() - cut], &[]),
+                ["50 Some((3, 7))", "a[1, 1]", "b[1, 1]"][..if cut > 1 { 2 } else { 3 }]
+            );
+        }
+    }
+}

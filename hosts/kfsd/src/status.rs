@@ -1,0 +1,142 @@
+//! How kfsd stands, as texts for `kfsctl`.
+
+use crate::calls::On;
+use crate::connection::Shared;
+use serde::{Deserialize, Serialize};
+use std::fmt::Write as _;
+use std::sync::Arc;
+use std::time::Instant;
+
+/// How many leases are listed.
+const LISTED: usize = 10_000;
+
+/// What `kfsctl status` prints.
+#[derive(Debug, Deserialize, Serialize)]
+pub struct Status {
+    pub kfs_serve: DeskStatus,
+    pub desk: Standing,
+    pub connections: ConnectionStatus,
+    pub frames: FrameStatus,
+    #[serde(default)]
+    pub user: Vec<UserStatus>,
+}
+
+#[derive(Debug, Deserialize, Serialize)]
+pub struct DeskStatus {
+    pub process: u64,
+    pub is_open: bool,
+    pub starts: u64,
+    pub waiting_calls: usize,
+}
+
+#[derive(Debug, Deserialize, Serialize)]
+pub struct Standing {
+    pub moment: u64,
+    pub leases: usize,
+    pub wanted_leases: usize,
+    pub moved_blocks: u64,
+}
+
+#[derive(Debug, Deserialize, Serialize)]
+pub struct ConnectionStatus {
+    pub taken: u64,
+    pub turned_away: u64,
+    pub too_slow: u64,
+}
+
+#[derive(Debug, Deserialize, Serialize)]
+pub struct FrameStatus {
+    pub sent: u64,
+    pub answered: u64,
+    pub unknown: u64,
+    pub answered_here: u64,
+    pub own: u64,
+    pub mean_micros: u64,
+}
+
+#[derive(Debug, Deserialize, Serialize)]
+pub struct UserStatus {
+    pub uid: u32,
+    pub client: u32,
+    pub connections: u32,
+    pub frames_left: usize,
+    pub bytes_left: usize,
+}
+
+/// How kfsd stands now.
+pub fn status(shared: &Shared) -> Status {
+    let (figures, table) = (&shared.figures, Arc::clone(&shared.table.borrow()));
+    let user = table.all().into_iter().map(|account| UserStatus {
+        uid: account.user.uid,
+        client: account.user.client,
+        connections: account.connections(),
+        frames_left: account.frames.available_permits(),
+        bytes_left: account.bytes.available_permits(),
+    });
+    let micros = figures.times.sum().as_micros() as u64;
+    Status {
+        kfs_serve: DeskStatus {
+            process: figures.process.get(),
+            is_open: figures.opened.get() == 1,
+            starts: figures.starts.get(),
+            waiting_calls: shared.queue.len(),
+        },
+        desk: standing(shared),
+        connections: ConnectionStatus {
+            taken: figures.connections.get(),
+            turned_away: figures.turned_away.get(),
+            too_slow: figures.too_slow.get(),
+        },
+        frames: FrameStatus {
+            sent: figures.sent.get(),
+            answered: figures.answered.get(),
+            unknown: figures.unknown.get(),
+            answered_here: figures.answered_here.get(),
+            own: figures.own.get(),
+            mean_micros: micros.checked_div(figures.times.count()).unwrap_or(0),
+        },
+        user: user.collect(),
+    }
+}
+
+fn standing(shared: &Shared) -> Standing {
+    let following = &shared.following;
+    let leases = following.leases().held.len();
+    let wanted_leases = following.wants().all(Instant::now()).len();
+    Standing { moment: following.clock.now(), leases, wanted_leases, moved_blocks: shared.figures.moved.get() }
+}
+
+/// A line for each user that may connect.
+pub fn users(shared: &Shared) -> String {
+    let mut text = String::from("     uid   client connections frames_left bytes_left\n");
+    for user in status(shared).user {
+        let UserStatus { uid, client, connections, frames_left, bytes_left } = user;
+        // Nothing is refused where a String is written to, here and below.
+        let _ = writeln!(text, "{uid:>8} {client:>8} {connections:>11} {frames_left:>11} {bytes_left:>10}");
+    }
+    text
+}
+
+/// A line for each lease, and then one for each that another client wants.
+pub fn leases(shared: &Shared) -> String {
+    let (now, following) = (shared.following.clock.now(), &shared.following);
+    let mut text = String::from("    node   client kind  seconds path\n");
+    let leases = following.leases();
+    for ((node, client), lease) in leases.held.iter().take(LISTED) {
+        let (kind, left) = (if lease.writes { "write" } else { "read" }, lease.end.saturating_sub(now));
+        let path = lease.path.as_deref().unwrap_or(b"").escape_ascii();
+        let _ = writeln!(text, "{node:>8} {client:>8} {kind:<5} {left:>7} {path}");
+    }
+    if leases.held.len() > LISTED {
+        let _ = writeln!(text, "and {} more", leases.held.len() - LISTED);
+    }
+    drop(leases);
+    for (holder, want, since) in following.wants().all(Instant::now()) {
+        let what = match &want.on {
+            On::Node(node) => format!("node {node}"),
+            On::Path(path) => path.escape_ascii().to_string(),
+        };
+        let _ = writeln!(text, "client {} has wanted {what} of client {holder} for {} seconds", want.by, since.as_secs());
+    }
+    text
+}

@@ -1,0 +1,116 @@
+//! When nodes were changed: kfsd keeps the time of the landing, which the desk doesn't know.
+
+use crate::calls::Change;
+use std::collections::HashMap;
+use std::time::{SystemTime, UNIX_EPOCH};
+
+/// When a node was changed, in nanoseconds since 1970.
+#[derive(Clone, Copy, Debug, PartialEq, Eq)]
+pub struct Stamp {
+    /// When a file's bytes or a directory's names were.
+    pub modified: i64,
+    /// When anything of it was.
+    pub changed: i64,
+    /// When it was modified, at the time at which all its blocks went to slower tiers; 0 where they didn't.
+    pub moved: i64,
+}
+
+/// The time now.
+pub fn now() -> i64 {
+    SystemTime::now().duration_since(UNIX_EPOCH).map_or(0, |since| since.as_nanos() as i64)
+}
+
+/// The stamps of all nodes of which a landing is known.
+#[derive(Debug, Default)]
+pub struct Times {
+    of: HashMap<u32, Stamp>,
+    /// What isn't kept yet: none where the node is gone.
+    unsaved: HashMap<u32, Option<Stamp>>,
+}
+
+impl Times {
+    /// Takes what was kept.
+    pub fn begin_with(&mut self, kept: Vec<(u32, Stamp)>) {
+        self.of = kept.into_iter().collect();
+    }
+
+    /// The stamp of a node.
+    pub fn of(&self, node: u32) -> Option<Stamp> {
+        self.of.get(&node).copied()
+    }
+
+    /// A log has landed at this time, and has changed these.
+    pub fn landed(&mut self, changes: &[(u32, Change)], time: i64) {
+        for (node, change) in changes {
+            let stamp = match change {
+                Change::Gone => None,
+                Change::Bytes => Some(Stamp { modified: time, changed: time, moved: 0 }),
+                Change::Header => {
+                    let before = self.of(*node).unwrap_or(Stamp { modified: time, changed: time, moved: 0 });
+                    Some(Stamp { changed: time, ..before })
+                }
+            };
+            match stamp {
+                Some(stamp) => self.of.insert(*node, stamp),
+                None => self.of.remove(node),
+            };
+            self.unsaved.insert(*node, stamp);
+        }
+    }
+
+    /// The nodes whose blocks aren't all on slower tiers, those first that were written longest ago.
+    pub fn oldest(&self) -> Vec<u32> {
+        let mut found: Vec<_> = self.of.iter().filter(|(_, stamp)| stamp.moved != stamp.modified).collect();
+        found.sort_by_key(|(node, stamp)| (stamp.modified, **node));
+        found.into_iter().map(|(node, _)| *node).collect()
+    }
+
+    /// All blocks of a file are on slower tiers that was modified at this time. Where it was written since, they aren't.
+    pub fn is_moved(&mut self, node: u32, modified: i64) {
+        if let Some(stamp) = self.of.get_mut(&node).filter(|stamp| stamp.modified == modified) {
+            stamp.moved = modified;
+            self.unsaved.insert(node, Some(*stamp));
+        }
+    }
+
+    /// Takes what isn't kept yet.
+    pub fn take_unsaved(&mut self) -> HashMap<u32, Option<Stamp>> {
+        std::mem::take(&mut self.unsaved)
+    }
+}
+
+#[cfg(test)]
+mod tests {
+    use super::*;
+
+    #[test]
+    fn stamps_follow_landings() {
+        let mut times = Times::default();
+        times.landed(&[(1, Change::Bytes), (5, Change::Header)], 100);
+        assert_eq!(times.of(5), Some(Stamp { modified: 100, changed: 100, moved: 0 }));
+        times.landed(&[(5, Change::Header)], 200);
+        assert_eq!(times.of(5), Some(Stamp { modified: 100, changed: 200, moved: 0 }));
+        times.landed(&[(5, Change::Header), (5, Change::Bytes)], 300);
+        assert_eq!(times.of(5), Some(Stamp { modified: 300, changed: 300, moved: 0 }));
+        times.landed(&[(5, Change::Gone)], 400);
+        assert_eq!(times.of(5), None);
+        let unsaved = times.take_unsaved();
+        assert_eq!((unsaved[&5], unsaved[&1]), (None, Some(Stamp { modified: 100, changed: 100, moved: 0 })));
+        assert!(times.take_unsaved().is_empty());
+    }
+    #[test]
+    fn the_oldest_go_first_and_once() {
+        let mut times = Times::default();
+        times.landed(&[(5, Change::Bytes), (6, Change::Bytes)], 100);
+        times.landed(&[(4, Change::Bytes)], 50);
+        times.landed(&[(5, Change::Header)], 200);
+        assert_eq!(times.oldest(), [4, 5, 6]);
+        times.is_moved(4, 50);
+        times.is_moved(5, 99);
+        assert_eq!(times.oldest(), [5, 6]);
+        times.landed(&[(4, Change::Header)], 300);
+        assert_eq!(times.oldest(), [5, 6]);
+        times.landed(&[(4, Change::Bytes)], 400);
+        assert_eq!(times.oldest(), [5, 6, 4]);
+    }
+}

@@ -1,0 +1,88 @@
+"""Look-ups go through kfsd, and it asks some itself."""
+import struct
+import time
+
+from killing import submission
+from running import Daemon, kept_in, lease, numbered, user
+
+FOUND, REFUSED = 3, 2
+NODE, STATE, CHECKPOINT = 0x40, 0x41, 0x42
+NOT_YOURS = bytes([REFUSED, 5, 0, 0, 0, 0])
+USERS = [user(1000, 7, (2, 999)), user(1001, 8)]
+
+
+def said(connection, body):
+    """What stands behind the head of the reply."""
+    connection.send(3, body)
+    number, found = connection.next()
+    assert number == 3
+    return found
+
+
+def has_look_ups(daemon):
+    """Whether this kfs_serve knows look-ups: an older one refuses them."""
+    is_known = said(daemon.connect(7), struct.pack(">BI", NODE, 1))[0] == FOUND
+    if not is_known:
+        print("    this kfs_serve knows no look-ups: nothing is tried")
+    return is_known
+
+
+def look_ups_go_through(made):
+    """A client is told of a node. What is the front's is refused by kfsd."""
+    with Daemon(*made, users=USERS).start() as daemon:
+        seven = daemon.connect(7)
+        sent = daemon.status()["frames"]["sent"]
+        for body in (bytes([STATE]), bytes([CHECKPOINT]), bytes([CHECKPOINT, 0])):
+            assert said(seven, body) == NOT_YOURS
+        assert daemon.status()["frames"]["sent"] == sent
+        if not has_look_ups(daemon):
+            return
+        root = said(seven, struct.pack(">BI", NODE, 1))
+        assert root == struct.pack(">BBBHIIHQ", FOUND, 1, 2, 0o777, 0, 0, 1, 0), root
+        assert said(seven, struct.pack(">BI", NODE, 9)) == bytes([FOUND, 1, 0])
+
+
+def kfsctl_asks_the_desk(made):
+    """Free places and a checkpoint: behind it the journal has no calls, and all is there behind a kill. Numbered calls are known still."""
+    with Daemon(*made, users=USERS, tiers=(64, 32, 16)).start() as daemon:
+        if not has_look_ups(daemon):
+            return
+        seven = daemon.connect(7)
+        assert seven.ask(0, lease(7, 1 << 40, writes=True)).answer
+        for at in range(5):
+            assert seven.ask(1, numbered(at, submission(at))).answer[4] == 1
+        text = daemon.ask("free")
+        assert "tier 0 has 64, tier 1 32, tier 2 16" in text and "rows of the docket: 11" in text, text
+        for turn in range(1, 4):
+            assert daemon.ask("checkpoint") == "the journal is begun anew\n"
+            number, calls = kept_in(daemon.folder)
+            assert number == turn and not calls
+        assert daemon.status()["frames"]["own"] >= 3
+        daemon.process.kill()
+        daemon.process.wait()
+        daemon.start()
+        seven = daemon.connect(7)
+        assert all(seven.ask(1, numbered(at)).answer[4] == 1 for at in range(5))
+        assert seven.ask(1, submission(0)).answer[4] == 2
+        assert "rows of the docket: 1" in daemon.ask("free")
+
+
+def a_stop_begins_the_journal_anew(made):
+    """With checkpoint_at_stop the next start has no call to make again, and all is as it was."""
+    with Daemon(*made, users=USERS, duties={"checkpoint_at_stop": True}).start() as daemon:
+        if not has_look_ups(daemon):
+            assert daemon.stop()[0] == 0
+            return
+        seven = daemon.connect(7)
+        assert seven.ask(0, lease(7, 1 << 40, writes=True)).answer
+        assert seven.ask(1, numbered(1, submission(0))).answer[4] == 1
+        time.sleep(1.1)
+        assert daemon.stop()[0] == 0
+        assert kept_in(daemon.folder) == (1, [])
+        daemon.start()
+        assert daemon.status()["desk"]["leases"] == 1
+        seven = daemon.connect(7)
+        assert seven.ask(1, numbered(1)).answer[4] == 1 and seven.ask(1, submission(0)).answer[4] == 2
+
+
+TESTS = [look_ups_go_through, kfsctl_asks_the_desk, a_stop_begins_the_journal_anew]

@@ -1,0 +1,100 @@
+"""Blocks go to slower tiers where few places of tier 0 are free."""
+import struct
+import time
+
+from loading import image_in
+from looking import has_look_ups
+from running import Daemon, lease, user
+
+from benchmarks import FILE, NameRow, log_of, node, plan_of, put
+from fuzzing.codec import Create, Write
+from fuzzing.images import contents_of, finding, placement_of, tree_of
+
+USERS = [user(1000, 7, (2, 999)), user(1001, 8)]
+YES, NO_ROOM = 1, 3
+SIZE = 6000  # two blocks
+
+
+def created(number, fill):
+    """The call that creates a file of two blocks."""
+    name = b"f%d" % number
+    log = log_of([Create(1, name, number, FILE, 0o644), Write(number, 0, bytes([fill]) * SIZE)])
+    plan = plan_of([NameRow(1, name, number)], [node(number, SIZE)], [put(number, 0, SIZE, 1, 0)])
+    return struct.pack(">BII", 1, 7, len(log)) + log + struct.pack(">I", len(plan)) + plan
+
+
+def free(daemon):
+    """The free places of each tier."""
+    words = daemon.ask("free").splitlines()[0].replace(",", "").split()
+    return int(words[8]), int(words[11]), int(words[14])
+
+
+def create(daemon, connection, number):
+    """Creates a file, as often as it takes."""
+    for _ in range(200):
+        answer = connection.ask(1, created(number, number)).answer
+        if answer[4] == YES:
+            return
+        assert answer[4] == NO_ROOM, answer
+        time.sleep(0.05)
+    raise AssertionError(f"there is no room: {free(daemon)}")
+
+
+def tiers_of(daemon):
+    """On which tiers the blocks of each file lie, by the files of the desk, in which each byte is compared, too."""
+    assert daemon.ask("checkpoint")
+    raw = image_in(daemon.folder)
+    assert finding(raw) is None
+    contents = contents_of(raw)
+    found = {}
+    for (number, _), (tier, _) in placement_of(raw).items():
+        found.setdefault(number, set()).add(tier)
+        assert contents[number].read(0, SIZE) == bytes([number]) * SIZE, number
+    assert set(found) == set(tree_of(raw).nodes) - {1}
+    return found
+
+
+def the_oldest_go_to_slower_tiers(made):
+    """Where fewer than 10 of 40 places are free, the oldest files go until 20 are, and no others; a file that is written again is on tier 0."""
+    with Daemon(*made, users=USERS, tiers=(40, 30, 60), duties={"free_percent": 25}).start() as daemon:
+        if not has_look_ups(daemon):
+            return
+        seven = daemon.connect(7)
+        assert seven.ask(0, lease(7, 1 << 40, writes=True)).answer
+        for number in range(2, 17):
+            create(daemon, seven, number)
+        time.sleep(6)
+        assert free(daemon) == (10, 30, 60) and daemon.status()["desk"]["moved_blocks"] == 0
+        create(daemon, seven, 17)
+        daemon.wait_for(lambda: free(daemon)[0] == 20)
+        assert free(daemon) == (20, 18, 60) and daemon.status()["desk"]["moved_blocks"] == 12
+        assert tiers_of(daemon) == {number: {1} if number < 8 else {0} for number in range(2, 18)}
+        # back by itself none comes; what is written anew lies on tier 0
+        assert seven.ask(0, struct.pack(">BIBQI", 6, 7, 1, 1 << 40, 2)).answer[4] == 4
+        log, plan = log_of([Write(2, 0, bytes([2]) * SIZE)]), plan_of([], [], [put(2, 0, SIZE, 0, 0)])
+        assert seven.ask(1, struct.pack(">BII", 1, 7, len(log)) + log + struct.pack(">I", len(plan)) + plan).answer[4] == YES
+        assert free(daemon) == (18, 20, 60)
+        assert tiers_of(daemon)[2] == {0}
+
+
+def all_tiers_are_filled(made):
+    """Files are created until all three tiers are nearly full, behind new starts of kfsd, too. Each has room once the oldest were moved."""
+    with Daemon(*made, users=USERS, tiers=(20, 30, 40), duties={"free_percent": 20}).start() as daemon:
+        if not has_look_ups(daemon):
+            return
+        seven = daemon.connect(7)
+        assert seven.ask(0, lease(7, 1 << 40, writes=True)).answer
+        for number in range(2, 42):
+            create(daemon, seven, number)
+            if number in (15, 30):
+                assert daemon.stop()[0] == 0
+                daemon.start()
+                seven = daemon.connect(7)
+        found = tiers_of(daemon)
+        assert len(found) == 40 and {1} in found.values() and {2} in found.values()
+        newest = [found[number] for number in range(38, 42)]
+        assert all(0 in it for it in newest), newest
+        print(f"    40 files of two blocks on tiers of 20, 30 and 40 places: {free(daemon)} are free")
+
+
+TESTS = [the_oldest_go_to_slower_tiers, all_tiers_are_filled]

@@ -1,0 +1,124 @@
+"""Leases that another client wants: who holds one is told, and it isn't renewed for ever."""
+import struct
+import threading
+import time
+
+from running import Daemon, lease
+
+LEASED, REFUSED, HELD = 4, 8, 7
+WANTED = ("Wanted", 0)
+
+
+def by_number(client, end, node=1):
+    return struct.pack(">BIBQI", 6, client, 1, end, node)
+
+
+def ask_for_wants(connection, behind=0):
+    connection.send(9, b"\xf3" + struct.pack(">Q", behind))
+
+
+def wants(connection):
+    """The serial that a connection is told, and who wants what."""
+    number, said = connection.next()
+    assert number == 9 and said[0] == 0xF3, (number, said)
+    serial, count = struct.unpack(">QH", said[1:11])
+    rest, found = said[11:], []
+    for _ in range(count):
+        by, node, length = struct.unpack(">IIH", rest[:10])
+        found.append((by, node, rest[10 : 10 + length]))
+        rest = rest[10 + length :]
+    assert not rest
+    return serial, found
+
+
+def is_held(reply):
+    return reply.answer[4:6] == bytes([REFUSED, HELD])
+
+
+def the_holder_is_told(made):
+    """A connection that asks for wants is answered as soon as another client asks for the lease, by path or by number; and once."""
+    with Daemon(*made).start() as daemon:
+        seven, listening, eight = daemon.connect(7), daemon.connect(7), daemon.connect(8)
+        assert seven.ask(1, lease(7, 1000, writes=True)).answer[4] == LEASED
+        ask_for_wants(listening)
+        time.sleep(0.2)
+        began = time.monotonic()
+        assert is_held(eight.ask(1, lease(8, 1000)))
+        serial, found = wants(listening)
+        assert found == [(8, 1, b"")] and time.monotonic() - began < 1, found
+        assert is_held(eight.ask(2, by_number(8, 1000)))
+        ask_for_wants(listening)
+        assert wants(listening) == (serial, [(8, 1, b"")])
+        # behind that serial nothing is new, until a lease is wanted that isn't yet
+        ask_for_wants(listening, serial)
+        listening.socket.settimeout(1)
+        try:
+            wants(listening)
+            raise AssertionError("it is told twice")
+        except TimeoutError:
+            listening.socket.settimeout(30)
+        assert seven.ask(2, struct.pack(">BII", 3, 7, 1)).answer[4] == 5
+        assert eight.ask(3, lease(8, 1000, writes=True)).answer[4] == LEASED
+        assert is_held(seven.ask(3, lease(7, 1000)))
+        other = daemon.connect(8)
+        ask_for_wants(other)
+        assert wants(other)[1] == [(7, 1, b"")]
+        # a stop ends the waiting
+        assert daemon.stop()[0] == 0
+        assert wants(listening)[1] == []
+
+
+def a_wanted_lease_is_not_renewed(made):
+    """Who holds a lease renews it without end, until another one has asked for it for 2 seconds. Then the other one gets it."""
+    with Daemon(*made, duties={"wanted_seconds": 2}).start() as daemon:
+        seven, eight = daemon.connect(7), daemon.connect(8)
+        is_over, refused, wrong = threading.Event(), [], []
+
+        def renew():
+            while not is_over.is_set():
+                reply = seven.ask(1, lease(7, seven.moment()[0] + 3, writes=True))
+                if reply.refusal == WANTED:
+                    refused.append(time.monotonic())
+                elif reply.answer[4] not in (LEASED, REFUSED):
+                    wrong.append(reply)
+                time.sleep(0.02)
+
+        renewing = threading.Thread(target=renew)
+        renewing.start()
+        try:
+            time.sleep(1)
+            assert not refused
+            began = time.monotonic()
+            while True:
+                reply = eight.ask(1, by_number(8, eight.moment()[0] + 100))
+                if reply.answer[4] == LEASED:
+                    break
+                assert time.monotonic() - began < 20, "the other one never gets it"
+                time.sleep(0.05)
+            taken = time.monotonic() - began
+        finally:
+            is_over.set()
+            renewing.join()
+        assert not wrong, wrong
+        assert 1.9 < refused[0] - began < 3, refused[0] - began
+        assert taken < 2 + 3 + 2.5, taken
+        print(f"    a lease that is renewed without end was another's after {taken:.1f} s")
+
+
+def a_want_that_is_given_up_is_over(made):
+    """Where the other one doesn't ask any more, the lease is renewed as before."""
+    with Daemon(*made, duties={"wanted_seconds": 1}).start() as daemon:
+        seven, eight = daemon.connect(7), daemon.connect(8)
+        assert seven.ask(1, lease(7, 1000, writes=True)).answer[4] == LEASED
+        for _ in range(4):
+            assert is_held(eight.ask(1, lease(8, 1000)))
+            time.sleep(0.4)
+        assert seven.ask(2, lease(7, 2000, writes=True)).refusal == WANTED
+        assert seven.ask(2, by_number(7, 2000)).refusal == WANTED
+        time.sleep(1.2)
+        assert seven.ask(3, lease(7, 2000, writes=True)).answer[4] == LEASED
+        assert is_held(eight.ask(2, lease(8, 1000)))
+        assert seven.ask(4, lease(7, 2001, writes=True)).answer[4] == LEASED
+
+
+TESTS = [the_holder_is_told, a_wanted_lease_is_not_renewed, a_want_that_is_given_up_is_over]
