@@ -1,0 +1,33 @@
+//! kfs-client: a process gathers its changes in a private log, reads them over what a server shows, and hands the log in with
+//! its plan.
+//!
+//! Nobody believes it: the server judges each log by its own tree, and compares the plan. Begin with `Session` in
+//! `session.rs`; docs/CLIENT.md says who keeps what, and when something is durable.
+
+#![forbid(unsafe_code)]
+#![warn(missing_docs)]
+
+pub mod bytes;
+mod change;
+pub mod client;
+pub mod desk;
+pub mod draft;
+pub mod entry;
+pub mod fault;
+pub mod judge;
+pub mod log;
+pub mod name;
+pub mod node;
+pub mod paths;
+pub mod plan;
+pub mod program;
+pub mod shown;
+
+pub use client::Client;
+pub use draft::Draft;
+pub use entry::{Entry, Kind};
+pub use fault::{Fault, Reason};
+pub use log::{Full, Log};
+pub use name::Name;
+pub use node::Header;
+pub use shown::{Shown, Unshown};
