@@ -12,4 +12,15 @@ impl<T: PartialEq> Change<T> {
     pub fn is_one(&self) -> bool {
         self.before != self.now
     }
+
+    /// Whether a value is the one of now, and not the one before; none where it is neither.
+    pub fn side_of(&self, value: &T) -> Option<bool> {
+        if *value == self.now {
+            Some(true)
+        } else if *value == self.before {
+            Some(false)
+        } else {
+            None
+        }
+    }
 }

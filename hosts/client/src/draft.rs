@@ -78,9 +78,9 @@ impl Draft {
         self.created.contains(&number)
     }
 
-    /// Whether this log has changed the node, its bytes, or a name in it.
-    pub fn has_changed(&self, number: u32) -> bool {
-        self.nodes.contains_key(&number) || self.files.contains_key(&number) || self.names.contains_key(&number)
+    /// The nodes that this log has changed: their header, bytes, or a name in them.
+    pub fn changed(&self) -> BTreeSet<u32> {
+        self.nodes.keys().chain(self.files.keys()).chain(self.names.keys()).copied().collect()
     }
 
     // ---- What shows now
@@ -336,6 +336,24 @@ impl Draft {
         self.set_header(found.number, header, now);
         if is_last {
             self.files.remove(&found.number);
+        }
+    }
+
+    // ---- Whether it was done
+
+    /// Whether a server shows what a change of the log has made, or what stood there before. None where it shows neither, or
+    /// where no name and no header changes.
+    pub(crate) fn is_done(&self, shown: &mut dyn Shown) -> Result<Option<bool>, Unshown> {
+        let name = self.names.iter().find_map(|(directory, names)| {
+            let (name, change) = names.iter().find(|(_, change)| change.is_one())?;
+            Some((*directory, name, change))
+        });
+        if let Some((directory, name, change)) = name {
+            return Ok(change.side_of(&shown.find(directory, name)?));
+        }
+        match self.nodes.iter().find(|(_, change)| change.is_one()) {
+            Some((number, change)) => Ok(change.side_of(&shown.header(*number)?)),
+            None => Ok(None),
         }
     }
 

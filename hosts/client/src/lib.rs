@@ -8,26 +8,34 @@
 #![warn(missing_docs)]
 
 pub mod bytes;
+pub mod cache;
 mod change;
 pub mod client;
 pub mod desk;
 pub mod draft;
 pub mod entry;
+pub mod failure;
 pub mod fault;
+mod hand_in;
 pub mod judge;
+pub mod leases;
 pub mod log;
 pub mod name;
 pub mod node;
 pub mod paths;
 pub mod plan;
 pub mod program;
+pub mod session;
 pub mod shown;
 
 pub use client::Client;
+pub use desk::Desk;
 pub use draft::Draft;
 pub use entry::{Entry, Kind};
+pub use failure::{Failure, HandInFault, Lost};
 pub use fault::{Fault, Reason};
 pub use log::{Full, Log};
 pub use name::Name;
 pub use node::Header;
+pub use session::{Options, Session};
 pub use shown::{Shown, Unshown};

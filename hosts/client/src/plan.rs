@@ -52,6 +52,11 @@ pub struct Plan {
 }
 
 impl Plan {
+    /// Whether nothing changes.
+    pub fn is_empty(&self) -> bool {
+        self.names.is_empty() && self.nodes.is_empty() && self.pieces.is_empty()
+    }
+
     /// Its bytes. A log has too few entries for more rows than the head can count.
     pub fn to_bytes(&self) -> Vec<u8> {
         let mut out = b"KPLN".to_vec();

@@ -5,7 +5,8 @@ use crate::desk::{Answer, Desk, LeaseKind, LeaseRefusal, RowPart, Unanswered, Wa
 use crate::entry::Kind;
 use crate::fault::Reason;
 use crate::name::Name;
-use crate::node::Header;
+use crate::node::{Header, ROOT};
+use crate::paths::Paths;
 use crate::shown::{Shown, Unshown};
 use std::ffi::OsStr;
 use std::fmt::Write as _;
@@ -105,6 +106,21 @@ impl Program {
             Some(text) => Ok(Some(unhex(text).ok_or_else(|| nonsense(&reply))?)),
             None => Err(nonsense(&reply)),
         }
+    }
+
+    /// A path to a node, sought in all of the tree.
+    fn path_to(&mut self, number: u32) -> Result<Option<Vec<u8>>, Unshown> {
+        let mut paths = Paths::default();
+        let mut left = vec![ROOT];
+        while let Some(directory) = left.pop() {
+            for (name, found) in self.list(directory, None, usize::MAX)? {
+                paths.see(directory, &name, found);
+                if self.header(found)?.map_or(false, |header| header.is_directory()) {
+                    left.push(found);
+                }
+            }
+        }
+        Ok(paths.path(number))
     }
 
     fn lease_answer(&mut self, line: &[u8], number: u32) -> Result<Result<(), LeaseRefusal>, Unanswered> {
@@ -241,7 +257,11 @@ impl Shown for Program {
 impl Desk for Program {
     /// A line asks by path alone.
     fn lease(&mut self, wanted: &Wanted) -> Result<Result<(), LeaseRefusal>, Unanswered> {
-        let path = match &wanted.path {
+        let path = match wanted.path.clone() {
+            Some(path) => Some(path),
+            None => self.path_to(wanted.number)?,
+        };
+        let path = match path {
             Some(path) if !path.contains(&b' ') => path,
             _ => return Ok(Err(LeaseRefusal::NotAllowed)),
         };
@@ -250,7 +270,7 @@ impl Desk for Program {
             LeaseKind::Write => 'w',
         };
         let mut line = format!("lease {} ", self.client).into_bytes();
-        line.extend_from_slice(path);
+        line.extend_from_slice(&path);
         line.extend_from_slice(format!(" {kind} {}", wanted.end).as_bytes());
         self.lease_answer(&line, wanted.number)
     }

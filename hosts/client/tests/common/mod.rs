@@ -3,6 +3,7 @@
 
 pub mod chance;
 pub mod model;
+pub mod seat;
 
 use kfs_client::{Client, Draft, Shown};
 use model::Model;

@@ -1,0 +1,102 @@
+//! The leases that a client has, as it was told.
+
+use crate::desk::LeaseKind;
+use crate::judge::Held;
+use std::cell::Cell;
+use std::collections::BTreeMap;
+
+/// A lease on a node.
+#[derive(Clone, Debug)]
+struct Lease {
+    kind: LeaseKind,
+    end: u64,
+    /// Whether it served something since it was granted.
+    is_used: Cell<bool>,
+}
+
+/// Leases by node, and the moment by which they end.
+#[derive(Clone, Debug, Default)]
+pub struct Leases {
+    rows: BTreeMap<u32, Lease>,
+    moment: u64,
+}
+
+impl Leases {
+    /// It is this moment now, or a later one. Those that have ended are gone: their nodes are told.
+    pub fn set_moment(&mut self, moment: u64) -> Vec<u32> {
+        self.moment = self.moment.max(moment);
+        let now = self.moment;
+        let ended: Vec<u32> = self.rows.iter().filter(|(_, lease)| lease.end <= now).map(|(number, _)| *number).collect();
+        for number in &ended {
+            self.rows.remove(number);
+        }
+        ended
+    }
+
+    /// A lease was granted. It takes the place of an earlier one.
+    pub fn grant(&mut self, number: u32, kind: LeaseKind, end: u64) {
+        self.rows.insert(number, Lease { kind, end, is_used: Cell::new(false) });
+    }
+
+    /// A lease is gone.
+    pub fn forget(&mut self, number: u32) {
+        self.rows.remove(&number);
+    }
+
+    /// Whether a lease of any kind is live on the node: then nobody else changes it.
+    pub fn reads(&self, number: u32) -> bool {
+        self.live(number).is_some()
+    }
+
+    /// All nodes on which there is a lease.
+    pub fn numbers(&self) -> Vec<u32> {
+        self.rows.keys().copied().collect()
+    }
+
+    fn live(&self, number: u32) -> Option<&Lease> {
+        let lease = self.rows.get(&number).filter(|lease| lease.end > self.moment)?;
+        lease.is_used.set(true);
+        Some(lease)
+    }
+
+    /// The leases that end within so many moments and are to be renewed: those that were used, or all where a log needs them.
+    pub fn due(&self, within: u64, is_needed: bool) -> Vec<(u32, LeaseKind)> {
+        let until = self.moment.saturating_add(within);
+        let due = self.rows.iter().filter(|(_, lease)| lease.end <= until && (is_needed || lease.is_used.get()));
+        due.map(|(number, lease)| (*number, lease.kind)).collect()
+    }
+}
+
+impl Held for Leases {
+    fn holds(&self, number: u32) -> bool {
+        matches!(self.live(number), Some(lease) if lease.kind == LeaseKind::Write)
+    }
+}
+
+#[cfg(test)]
+mod tests {
+    use super::*;
+
+    #[test]
+    fn a_lease_ends_at_its_moment() {
+        let mut leases = Leases::default();
+        leases.grant(5, LeaseKind::Write, 10);
+        leases.grant(6, LeaseKind::Read, 20);
+        assert!(leases.holds(5) && !leases.holds(6) && leases.reads(6));
+        assert_eq!(leases.set_moment(9), []);
+        assert!(leases.holds(5));
+        assert_eq!(leases.set_moment(10), [5]);
+        assert!(!leases.reads(5) && leases.reads(6));
+    }
+
+    #[test]
+    fn what_nobody_used_is_not_renewed() {
+        let mut leases = Leases::default();
+        leases.grant(5, LeaseKind::Write, 10);
+        leases.grant(6, LeaseKind::Read, 10);
+        assert!(leases.holds(5));
+        assert_eq!(leases.due(10, false), [(5, LeaseKind::Write)]);
+        assert_eq!(leases.due(10, true).len(), 2);
+        assert_eq!(leases.due(9, true), []);
+    }
+}
