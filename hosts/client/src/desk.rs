@@ -45,6 +45,12 @@ pub enum LeaseRefusal {
     /// Another client has a lease that doesn't go with this one.
     #[error("client {0} has a lease on it")]
     Held(u32),
+    /// The end is further away than the server allows.
+    #[error("the lease would live too long")]
+    TooFar,
+    /// Another client has wanted the lease for long, so it isn't renewed.
+    #[error("another client wants it")]
+    Wanted,
     /// No such lease is held.
     #[error("no lease is held")]
     NoneHeld,
@@ -57,7 +63,8 @@ impl LeaseRefusal {
             LeaseRefusal::UnknownClient => Errno::EPERM,
             LeaseRefusal::NoSuchNode => Errno::ENOENT,
             LeaseRefusal::NotAllowed => Errno::EACCES,
-            LeaseRefusal::Past | LeaseRefusal::Held(_) | LeaseRefusal::NoneHeld => Errno::EAGAIN,
+            LeaseRefusal::TooFar => Errno::EINVAL,
+            LeaseRefusal::Past | LeaseRefusal::Held(_) | LeaseRefusal::Wanted | LeaseRefusal::NoneHeld => Errno::EAGAIN,
         }
     }
 }
@@ -145,6 +152,15 @@ impl From<std::io::Error> for Unanswered {
     }
 }
 
+/// What another client asked for a lease on.
+#[derive(Clone, Debug, PartialEq, Eq)]
+pub enum Wish {
+    /// This node.
+    Node(u32),
+    /// What stands at this path.
+    Path(Vec<u8>),
+}
+
 /// A desk, as one client comes to it.
 pub trait Desk: Shown {
     /// Asks for a lease, or for a later end of one.
@@ -159,6 +175,11 @@ pub trait Desk: Shown {
     /// The moment by which leases end, as far as the client knows it.
     fn moment(&mut self) -> Result<u64, Unanswered>;
 
-    /// The nodes whose leases another client wants, since this was asked last.
-    fn wanted_by_others(&mut self) -> Result<Vec<u32>, Unanswered>;
+    /// For how many moments a lease may live at most.
+    fn longest_term(&self) -> u64 {
+        u64::MAX
+    }
+
+    /// What others want of this client's leases, since this was asked last.
+    fn wanted_by_others(&mut self) -> Result<Vec<Wish>, Unanswered>;
 }

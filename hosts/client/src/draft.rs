@@ -138,24 +138,16 @@ impl Draft {
     }
 
     /// A page of names with this log's changes of them. The last page has all new names that follow.
-    fn laid_over(
-        &self,
-        directory: u32,
-        behind: Option<&Name>,
-        page: Vec<(Name, u32)>,
-        is_last: bool,
-    ) -> Vec<(Name, u32)> {
+    fn laid_over(&self, directory: u32, behind: Option<&Name>, page: Vec<(Name, u32)>, is_last: bool) -> Vec<(Name, u32)> {
         let changes = match self.names.get(&directory) {
             Some(changes) => changes,
             None => return page,
         };
         let from = behind.map_or(Bound::Unbounded, Bound::Excluded);
-        let until = match page.last() {
-            Some((last, _)) if !is_last => Bound::Included(last.clone()),
-            _ => Bound::Unbounded,
-        };
+        let last = page.last().map(|(name, _)| name.clone()).filter(|_| !is_last);
+        let until = last.as_ref().map_or(Bound::Unbounded, Bound::Included);
         let mut names: BTreeMap<Name, u32> = page.into_iter().collect();
-        for (name, change) in changes.range::<Name, _>((from, until.as_ref())) {
+        for (name, change) in changes.range::<Name, _>((from, until)) {
             match change.now {
                 Some(number) => names.insert(name.clone(), number),
                 None => names.remove(name),

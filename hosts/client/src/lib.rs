@@ -11,6 +11,7 @@ pub mod bytes;
 pub mod cache;
 mod change;
 pub mod client;
+pub mod connection;
 pub mod desk;
 pub mod draft;
 pub mod entry;
@@ -27,6 +28,7 @@ pub mod plan;
 pub mod program;
 pub mod session;
 pub mod shown;
+mod wants;
 
 pub use client::Client;
 pub use desk::Desk;

@@ -1,7 +1,7 @@
 //! The program `kfs run` as a server of one process, for tests and first trials: nothing is kept, and all clients are one's own.
 
 use crate::client::Client;
-use crate::desk::{Answer, Desk, LeaseKind, LeaseRefusal, RowPart, Unanswered, Wanted, Wrong};
+use crate::desk::{Answer, Desk, LeaseKind, LeaseRefusal, RowPart, Unanswered, Wanted, Wish, Wrong};
 use crate::entry::Kind;
 use crate::fault::Reason;
 use crate::name::Name;
@@ -292,7 +292,7 @@ impl Desk for Program {
         Ok(self.moment)
     }
 
-    fn wanted_by_others(&mut self) -> Result<Vec<u32>, Unanswered> {
+    fn wanted_by_others(&mut self) -> Result<Vec<Wish>, Unanswered> {
         Ok(Vec::new())
     }
 }

@@ -2,7 +2,7 @@
 
 use crate::cache::{Cache, Cached};
 use crate::client::{Access, Client};
-use crate::desk::{Desk, LeaseKind, LeaseRefusal, Unanswered, Wanted};
+use crate::desk::{Desk, LeaseKind, LeaseRefusal, Unanswered, Wanted, Wish};
 use crate::draft::Draft;
 use crate::entry::{Entry, Kind, PAYLOAD_LIMIT};
 use crate::failure::Failure;
@@ -26,7 +26,8 @@ const LONGEST_PAUSE: Duration = Duration::from_millis(50);
 pub struct Options {
     /// How long a change waits in the log at most, where `poll` is called.
     pub linger: Duration,
-    /// For how many moments a lease is asked for. Within the last half of them it is renewed, where it is used.
+    /// For how many moments a lease is asked for; kfsd's are seconds. Within the last half of them it is renewed, where it is
+    /// used.
     pub term: u64,
     /// How long a call waits for another client's lease.
     pub patience: Duration,
@@ -37,7 +38,7 @@ pub struct Options {
 impl Default for Options {
     fn default() -> Options {
         let (linger, patience) = (Duration::from_secs(5), Duration::from_secs(10));
-        Options { linger, term: 60_000, patience, reads_before_lease: 3 }
+        Options { linger, term: 60, patience, reads_before_lease: 3 }
     }
 }
 
@@ -105,6 +106,7 @@ impl<D: Desk> Session<D> {
 
     /// What a node is.
     pub fn header(&mut self, number: u32) -> Result<Header, Failure> {
+        self.pass_time()?;
         self.note_read(number)?;
         let Session { desk, cache, leases, draft, .. } = self;
         let header = draft.header(&mut Cached { shown: desk, cache, leases }, number)?;
@@ -317,7 +319,7 @@ impl<D: Desk> Session<D> {
 
     fn ask_lease(&mut self, number: u32, kind: LeaseKind) -> Result<Result<(), LeaseRefusal>, Unanswered> {
         let moment = self.pass_time()?;
-        let end = moment.saturating_add(self.options.term);
+        let end = moment.saturating_add(self.options.term.min(self.desk.longest_term()));
         let wanted = Wanted { number, path: self.draft.paths().path(number), kind, end };
         let answer = self.desk.lease(&wanted)?;
         if answer.is_ok() {
@@ -340,10 +342,25 @@ impl<D: Desk> Session<D> {
 
     /// Gives up the leases that others want.
     fn give_up_wanted(&mut self) -> Result<(), Failure> {
-        for number in self.desk.wanted_by_others()? {
-            self.give_up(number)?;
+        for wish in self.desk.wanted_by_others()? {
+            let wanted = match wish {
+                Wish::Node(number) => Some(number),
+                Wish::Path(path) => self.node_at(&path)?,
+            };
+            if let Some(number) = wanted {
+                self.give_up(number)?;
+            }
         }
         Ok(())
+    }
+
+    /// The node to which a path leads that another client has gone, if this one may see it.
+    fn node_at(&mut self, path: &[u8]) -> Result<Option<u32>, Failure> {
+        match self.walk(path) {
+            Ok(number) => Ok(Some(number)),
+            Err(failure @ (Failure::Unanswered(_) | Failure::HandIn(_))) => Err(failure),
+            Err(_) => Ok(None),
+        }
     }
 
     /// Hands the log in, and gives a lease up. Where the log isn't kept, the lease goes all the same.

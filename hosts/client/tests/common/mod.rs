@@ -25,9 +25,7 @@ pub fn first_seed() -> u64 {
 
 /// Two plain users who share a group, and a privileged one.
 pub fn clients() -> Vec<Client> {
-    let client = |number, uid, is_privileged, grant| {
-        Client { number, uid, gid: uid, groups: vec![50], is_privileged, grant }
-    };
+    let client = |number, uid, is_privileged, grant| Client { number, uid, gid: uid, groups: vec![50], is_privileged, grant };
     vec![client(7, 1000, false, [2, 25]), client(8, 1001, false, [26, 50]), client(9, 1002, true, [51, 70])]
 }
 

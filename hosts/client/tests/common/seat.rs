@@ -1,6 +1,6 @@
 //! Several clients of one program, each with a desk of its own. Who is refused a lease has its holder told.
 
-use kfs_client::desk::{Answer, Desk, LeaseRefusal, Unanswered, Wanted};
+use kfs_client::desk::{Answer, Desk, LeaseRefusal, Unanswered, Wanted, Wish};
 use kfs_client::program::Program;
 use kfs_client::{Client, Header, Name, Shown, Unshown};
 use std::collections::{BTreeSet, HashMap};
@@ -104,9 +104,9 @@ impl Desk for Seat {
         Ok(self.taken().moment)
     }
 
-    fn wanted_by_others(&mut self) -> Result<Vec<u32>, Unanswered> {
+    fn wanted_by_others(&mut self) -> Result<Vec<Wish>, Unanswered> {
         let client = self.client;
         let wanted = self.taken().wants.remove(&client).unwrap_or_default();
-        Ok(wanted.into_iter().collect())
+        Ok(wanted.into_iter().map(Wish::Node).collect())
     }
 }
