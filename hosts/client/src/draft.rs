@@ -73,6 +73,11 @@ impl Draft {
         &self.paths
     }
 
+    /// Where nodes stand is known by these from now on.
+    pub(crate) fn set_paths(&mut self, paths: Paths) {
+        self.paths = paths;
+    }
+
     /// Whether this log has created the node.
     pub fn has_created(&self, number: u32) -> bool {
         self.created.contains(&number)

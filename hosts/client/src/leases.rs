@@ -3,7 +3,7 @@
 use crate::desk::LeaseKind;
 use crate::judge::Held;
 use std::cell::Cell;
-use std::collections::BTreeMap;
+use std::collections::{BTreeMap, BTreeSet};
 
 /// A lease on a node.
 #[derive(Clone, Debug)]
@@ -18,6 +18,8 @@ struct Lease {
 #[derive(Clone, Debug, Default)]
 pub struct Leases {
     rows: BTreeMap<u32, Lease>,
+    /// Their ends, least first.
+    ends: BTreeSet<(u64, u32)>,
     moment: u64,
 }
 
@@ -26,21 +28,23 @@ impl Leases {
     pub fn set_moment(&mut self, moment: u64) -> Vec<u32> {
         self.moment = self.moment.max(moment);
         let now = self.moment;
-        let ended: Vec<u32> = self.rows.iter().filter(|(_, lease)| lease.end <= now).map(|(number, _)| *number).collect();
-        for number in &ended {
-            self.rows.remove(number);
-        }
+        let ended: Vec<u32> = self.ends.iter().take_while(|(end, _)| *end <= now).map(|(_, number)| *number).collect();
+        ended.iter().for_each(|number| self.forget(*number));
         ended
     }
 
     /// A lease was granted. It takes the place of an earlier one.
     pub fn grant(&mut self, number: u32, kind: LeaseKind, end: u64) {
+        self.forget(number);
         self.rows.insert(number, Lease { kind, end, is_used: Cell::new(false) });
+        self.ends.insert((end, number));
     }
 
     /// A lease is gone.
     pub fn forget(&mut self, number: u32) {
-        self.rows.remove(&number);
+        if let Some(lease) = self.rows.remove(&number) {
+            self.ends.remove(&(lease.end, number));
+        }
     }
 
     /// Whether a lease of any kind is live on the node: then nobody else changes it.
@@ -59,11 +63,12 @@ impl Leases {
         Some(lease)
     }
 
-    /// The leases that end within so many moments and are to be renewed: those that were used, or all where a log needs them.
-    pub fn due(&self, within: u64, is_needed: bool) -> Vec<(u32, LeaseKind)> {
+    /// The leases that end within so many moments and were used.
+    pub fn due(&self, within: u64) -> Vec<(u32, LeaseKind)> {
         let until = self.moment.saturating_add(within);
-        let due = self.rows.iter().filter(|(_, lease)| lease.end <= until && (is_needed || lease.is_used.get()));
-        due.map(|(number, lease)| (*number, lease.kind)).collect()
+        let ends = self.ends.iter().take_while(|(end, _)| *end <= until);
+        let due = ends.filter_map(|(_, number)| Some((*number, self.rows.get(number)?)));
+        due.filter(|(_, lease)| lease.is_used.get()).map(|(number, lease)| (number, lease.kind)).collect()
     }
 }
 
@@ -95,8 +100,11 @@ mod tests {
         leases.grant(5, LeaseKind::Write, 10);
         leases.grant(6, LeaseKind::Read, 10);
         assert!(leases.holds(5));
-        assert_eq!(leases.due(10, false), [(5, LeaseKind::Write)]);
-        assert_eq!(leases.due(10, true).len(), 2);
-        assert_eq!(leases.due(9, true), []);
+        assert_eq!(leases.due(10), [(5, LeaseKind::Write)]);
+        assert_eq!(leases.due(9), []);
+        leases.grant(5, LeaseKind::Write, 12);
+        assert_eq!(leases.due(10), []);
+        assert_eq!(leases.set_moment(11), [6]);
+        assert_eq!(leases.numbers(), [5]);
     }
 }

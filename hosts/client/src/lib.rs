@@ -21,6 +21,7 @@ mod hand_in;
 pub mod judge;
 pub mod leases;
 pub mod log;
+pub mod memory;
 pub mod name;
 pub mod node;
 pub mod paths;

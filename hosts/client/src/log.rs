@@ -42,6 +42,22 @@ impl Log {
         Log { bytes, starts: Vec::new() }
     }
 
+    /// The log that these bytes are, and whose it is; none where they are no log of version 2.
+    pub fn read(bytes: &[u8]) -> Option<(u32, Log)> {
+        let head: [u8; HEAD] = bytes.get(..HEAD)?.try_into().ok()?;
+        let (client, count) = match head {
+            [b'K', b'L', b'O', b'G', VERSION, c0, c1, c2, c3, n0, n1] => ([c0, c1, c2, c3], [n0, n1]),
+            _ => return None,
+        };
+        let (client, count) = (u32::from_be_bytes(client), u16::from_be_bytes(count));
+        let mut log = Log::new(client);
+        for _ in 0..count {
+            let entry = Entry::read(&bytes[log.bytes.len()..]).ok()?;
+            log.push(&entry).ok()?;
+        }
+        (log.bytes == bytes).then_some((client, log))
+    }
+
     /// Its bytes, as they are handed in.
     pub fn as_bytes(&self) -> &[u8] {
         &self.bytes

@@ -380,8 +380,7 @@ impl<D: Desk> Session<D> {
     pub fn poll(&mut self) -> Result<(), Failure> {
         self.pass_time()?;
         self.give_up_wanted()?;
-        let is_needed = !self.draft.log().is_empty();
-        for (number, kind) in self.leases.due(self.options.term / 2, is_needed) {
+        for (number, kind) in self.leases.due(self.options.term / 2) {
             // One that isn't renewed ends at its end.
             let _refused = self.ask_lease(number, kind)?;
         }

@@ -1,0 +1,345 @@
+//! The calls of a file system over a session: what the desk has no entry for is done here, as far as one mount can.
+
+use crate::attributes::{now, Clocks, Times};
+use crate::handles::{Handles, Leftover};
+use kfs_client::client::Access;
+use kfs_client::{Desk, Failure, HandInFault, Header, Kind, Name, Session};
+use nix::errno::Errno;
+
+/// The bits of a mode that a log can say, and the two that it can't.
+const MODE: u32 = 0o1777;
+const SET_USER: u32 = 0o4000;
+/// The bit by which the owner may write.
+const OWNER_WRITES: u16 = 0o200;
+/// How a file is opened (`O_ACCMODE`, `O_WRONLY`, `O_RDWR`, `O_TRUNC`).
+const ACCESS: u32 = 0o3;
+const WRITE_ONLY: u32 = 0o1;
+const READ_AND_WRITE: u32 = 0o2;
+const TRUNCATE: u32 = 0o1000;
+
+/// What is to be changed of a node's header.
+#[derive(Clone, Copy, Debug, Default)]
+pub struct Attributes {
+    pub mode: Option<u32>,
+    pub uid: Option<u32>,
+    pub gid: Option<u32>,
+    pub size: Option<u64>,
+    pub read: Option<std::time::Duration>,
+    pub written: Option<std::time::Duration>,
+}
+
+/// A tree that is mounted.
+#[derive(Debug)]
+pub struct Volume<D> {
+    session: Session<D>,
+    pub clocks: Clocks,
+    pub handles: Handles,
+}
+
+/// The number that POSIX has for a failure. Where calls are lost, people are told on standard error.
+fn errno(failure: Failure) -> Errno {
+    if let Failure::HandIn(fault) = &failure {
+        tell(fault);
+    }
+    failure.errno()
+}
+
+fn tell(fault: &HandInFault) {
+    eprintln!("kfs-mount: a log isn't kept: {fault}");
+    if let HandInFault::Refused { lost, .. } = fault {
+        lost.iter().for_each(|call| eprintln!("kfs-mount: lost: {call}"));
+    }
+}
+
+fn writes(flags: u32) -> bool {
+    matches!(flags & ACCESS, WRITE_ONLY | READ_AND_WRITE)
+}
+
+impl<D: Desk> Volume<D> {
+    /// A volume over a session.
+    pub fn new(session: Session<D>) -> Volume<D> {
+        Volume { session, clocks: Clocks::default(), handles: Handles::default() }
+    }
+
+    /// What is due now and then.
+    pub fn poll(&mut self) -> Result<(), Errno> {
+        self.session.poll().map_err(errno)
+    }
+
+    /// Hands all in, and gives all leases up.
+    pub fn close(&mut self) -> Result<(), Errno> {
+        self.session.close().map_err(errno)
+    }
+
+    /// Hands all in.
+    pub fn sync(&mut self) -> Result<(), Errno> {
+        self.session.sync().map_err(|fault| errno(fault.into()))
+    }
+
+    // ---- Reads
+
+    /// A header as it is shown: with the mode that an open file gets later, and without a hidden name.
+    fn shown(&self, number: u32, header: Header) -> Header {
+        let mode = self.handles.late_mode(number).unwrap_or(header.mode);
+        let links = header.links - u16::from(self.handles.is_hidden(number));
+        Header { mode, links, ..header }
+    }
+
+    pub fn header(&mut self, number: u32) -> Result<Header, Errno> {
+        let header = self.session.header(number).map_err(errno)?;
+        Ok(self.shown(number, header))
+    }
+
+    pub fn lookup(&mut self, directory: u32, name: &[u8]) -> Result<(u32, Header), Errno> {
+        let name = named(name)?;
+        let (number, header) = self.session.lookup(directory, &name).map_err(errno)?;
+        Ok((number, self.shown(number, header)))
+    }
+
+    /// All names of a directory, as a list that stays while it is read.
+    pub fn open_list(&mut self, directory: u32) -> Result<u64, Errno> {
+        let names = self.session.list(directory, None, usize::MAX).map_err(errno)?;
+        Ok(self.handles.open_list(names))
+    }
+
+    pub fn parent(&self, directory: u32) -> u32 {
+        self.session.draft().paths().parent(directory).unwrap_or(directory)
+    }
+
+    pub fn read(&mut self, number: u32, start: u64, most: usize) -> Result<Vec<u8>, Errno> {
+        self.session.read(number, start, most).map_err(errno)
+    }
+
+    pub fn access(&mut self, number: u32, mask: u32) -> Result<(), Errno> {
+        for access in [Access::Read, Access::Write, Access::Search] {
+            if mask & access as u32 != 0 {
+                self.session.access(number, access).map_err(errno)?;
+            }
+        }
+        self.header(number).map(|_| ())
+    }
+
+    // ---- Files that are open
+
+    pub fn open(&mut self, number: u32, flags: u32) -> Result<(), Errno> {
+        let is_new = self.session.draft().has_created(number);
+        if !is_new && flags & ACCESS != WRITE_ONLY {
+            self.access(number, Access::Read as u32)?;
+        }
+        if !is_new && writes(flags) {
+            self.access(number, Access::Write as u32)?;
+        }
+        if flags & TRUNCATE != 0 {
+            self.truncate(number, 0)?;
+        }
+        self.handles.open(number);
+        Ok(())
+    }
+
+    pub fn create(&mut self, directory: u32, name: &[u8], mode: u32, flags: u32) -> Result<(u32, Header), Errno> {
+        let mode = (mode & MODE) as u16;
+        // A log writes what it has created, whatever its mode. A later one needs the bit.
+        let late_mode = Some(mode).filter(|mode| writes(flags) && mode & OWNER_WRITES == 0);
+        let given = if late_mode.is_some() { mode | OWNER_WRITES } else { mode };
+        let (number, header) = self.make(directory, name, Kind::File, given)?;
+        self.handles.open(number);
+        self.handles.set_late_mode(number, late_mode);
+        Ok((number, self.shown(number, header)))
+    }
+
+    pub fn close_file(&mut self, number: u32) -> Result<(), Errno> {
+        let Leftover { late_mode, hidden } = self.handles.close(number);
+        if let Some((directory, name)) = hidden {
+            return self.session.unlink(directory, &name, Kind::File).map_err(errno);
+        }
+        match late_mode {
+            Some(mode) => self.session.change_mode(number, mode).map_err(errno),
+            None => Ok(()),
+        }
+    }
+
+    // ---- Changes
+
+    /// Makes a file or a directory.
+    pub fn make(&mut self, directory: u32, name: &[u8], kind: Kind, mode: u16) -> Result<(u32, Header), Errno> {
+        let name = named(name)?;
+        let number = self.session.create(directory, &name, kind, mode).map_err(errno)?;
+        self.clocks.create(number);
+        self.clocks.write(directory);
+        Ok((number, self.header(number)?))
+    }
+
+    pub fn make_directory(&mut self, directory: u32, name: &[u8], mode: u32) -> Result<(u32, Header), Errno> {
+        self.make(directory, name, Kind::Directory, (mode & MODE) as u16)
+    }
+
+    pub fn write(&mut self, number: u32, offset: u64, bytes: &[u8]) -> Result<usize, Errno> {
+        let count = self.session.write(number, offset, bytes).map_err(errno)?;
+        self.clocks.write(number);
+        Ok(count)
+    }
+
+    fn truncate(&mut self, number: u32, size: u64) -> Result<(), Errno> {
+        self.session.truncate(number, size).map_err(errno)?;
+        self.clocks.write(number);
+        Ok(())
+    }
+
+    /// Changes a header. An owner can't be changed, and a file never runs as its owner.
+    pub fn set_attributes(&mut self, number: u32, wanted: &Attributes) -> Result<Header, Errno> {
+        let header = self.header(number)?;
+        if matches!(wanted.uid, Some(uid) if uid != header.uid) || matches!(wanted.mode, Some(mode) if mode & SET_USER != 0) {
+            return Err(Errno::EPERM);
+        }
+        if let Some(mode) = wanted.mode {
+            self.change_mode(number, (mode & MODE) as u16)?;
+        }
+        if let Some(gid) = wanted.gid.filter(|gid| *gid != header.gid) {
+            self.session.change_group(number, gid).map_err(errno)?;
+            self.clocks.change(number);
+        }
+        if let Some(size) = wanted.size {
+            self.truncate(number, size)?;
+        }
+        if wanted.read.is_some() || wanted.written.is_some() {
+            let times = self.clocks.of(number);
+            let (read, written) = (wanted.read.unwrap_or(times.read), wanted.written.unwrap_or(times.written));
+            self.clocks.set(number, Times { read, written, changed: now() });
+        }
+        self.header(number)
+    }
+
+    /// Changes a mode; of a file that is open with the last close, where the owner couldn't write it then.
+    fn change_mode(&mut self, number: u32, mode: u16) -> Result<(), Errno> {
+        let late_mode = Some(mode).filter(|mode| self.handles.is_open(number) && mode & OWNER_WRITES == 0);
+        let given = if late_mode.is_some() { mode | OWNER_WRITES } else { mode };
+        self.session.change_mode(number, given).map_err(errno)?;
+        self.handles.set_late_mode(number, late_mode);
+        self.clocks.change(number);
+        Ok(())
+    }
+
+    pub fn link(&mut self, number: u32, directory: u32, name: &[u8]) -> Result<Header, Errno> {
+        self.session.link(number, directory, &named(name)?).map_err(errno)?;
+        self.clocks.write(directory);
+        self.clocks.change(number);
+        self.header(number)
+    }
+
+    pub fn unlink(&mut self, directory: u32, name: &[u8], kind: Kind) -> Result<(), Errno> {
+        let name = named(name)?;
+        let (number, header) = self.session.lookup(directory, &name).map_err(errno)?;
+        if kind == Kind::File && self.is_to_hide(number, &header) {
+            self.hide(number, directory, &name)?;
+        } else {
+            self.session.unlink(directory, &name, kind).map_err(errno)?;
+        }
+        self.clocks.write(directory);
+        self.clocks.change(number);
+        Ok(())
+    }
+
+    /// Whether a file that loses this name is open, and has no other.
+    fn is_to_hide(&self, number: u32, header: &Header) -> bool {
+        !header.is_directory() && header.links == 1 && self.handles.is_open(number)
+    }
+
+    /// Gives an open file a name that goes with its last close.
+    fn hide(&mut self, number: u32, directory: u32, name: &Name) -> Result<(), Errno> {
+        let hidden = named(self.handles.hidden_name(number).as_bytes())?;
+        self.session.rename(directory, name, directory, &hidden).map_err(errno)?;
+        self.handles.hide(number, directory, hidden);
+        Ok(())
+    }
+
+    /// Renames. Where nothing may be replaced, what has the new name stays.
+    pub fn rename(&mut self, from: u32, name: &[u8], to: u32, new_name: &[u8], replaces: bool) -> Result<(), Errno> {
+        let (name, new_name) = (named(name)?, named(new_name)?);
+        let (moved, header) = self.session.lookup(from, &name).map_err(errno)?;
+        let there = match self.session.lookup(to, &new_name) {
+            Ok(there) => Some(there),
+            Err(failure) if failure.errno() == Errno::ENOENT => None,
+            Err(failure) => return Err(errno(failure)),
+        };
+        match there {
+            Some(_) if !replaces => return Err(Errno::EEXIST),
+            Some((number, other)) if number != moved && !header.is_directory() && self.is_to_hide(number, &other) => {
+                self.hide(number, to, &new_name)?;
+            }
+            _ => {}
+        }
+        self.session.rename(from, &name, to, &new_name).map_err(errno)?;
+        [from, to].into_iter().for_each(|directory| self.clocks.write(directory));
+        self.clocks.change(moved);
+        Ok(())
+    }
+}
+
+fn named(bytes: &[u8]) -> Result<Name, Errno> {
+    Name::new(bytes).map_err(|fault| errno(fault.into()))
+}
+
+#[cfg(test)]
+mod tests {
+    use super::*;
+    use kfs_client::memory::Memory;
+    use kfs_client::{Client, Options};
+
+    fn volume() -> Volume<Memory> {
+        let client = Client { number: 7, uid: 1000, gid: 1000, groups: vec![], is_privileged: false, grant: [2, 99] };
+        Volume::new(Session::new(Memory::new(client.clone()), client, Options::default()))
+    }
+
+    #[test]
+    fn a_file_that_is_open_outlives_its_name() {
+        let mut volume = volume();
+        let (file, _) = volume.create(1, b"a", 0o644, READ_AND_WRITE).unwrap();
+        volume.write(file, 0, b"abc").unwrap();
+        volume.unlink(1, b"a", Kind::File).unwrap();
+        assert_eq!(volume.lookup(1, b"a"), Err(Errno::ENOENT));
+        volume.sync().unwrap();
+        assert_eq!(volume.read(file, 0, 9).unwrap(), b"abc");
+        assert_eq!(volume.header(file).unwrap().links, 0);
+        volume.close_file(file).unwrap();
+        assert_eq!(volume.header(file), Err(Errno::ENOENT));
+    }
+
+    #[test]
+    fn a_file_that_is_replaced_while_it_is_open_does_too() {
+        let mut volume = volume();
+        let (old, _) = volume.create(1, b"a", 0o644, READ_AND_WRITE).unwrap();
+        let (new, _) = volume.create(1, b"b", 0o644, READ_AND_WRITE).unwrap();
+        assert_eq!(volume.rename(1, b"b", 1, b"a", false), Err(Errno::EEXIST));
+        volume.rename(1, b"b", 1, b"a", true).unwrap();
+        assert_eq!(volume.lookup(1, b"a").unwrap().0, new);
+        volume.write(old, 0, b"old").unwrap();
+        volume.close_file(old).unwrap();
+        volume.sync().unwrap();
+        assert_eq!(volume.header(old), Err(Errno::ENOENT));
+    }
+
+    #[test]
+    fn what_is_open_for_writing_stays_so() {
+        let mut volume = volume();
+        let (file, header) = volume.create(1, b"a", 0o444, READ_AND_WRITE).unwrap();
+        assert_eq!(header.mode, 0o444);
+        volume.sync().unwrap();
+        volume.write(file, 0, b"abc").unwrap();
+        volume.close_file(file).unwrap();
+        volume.sync().unwrap();
+        assert_eq!(volume.header(file).unwrap().mode, 0o444);
+        assert_eq!(volume.open(file, WRITE_ONLY), Err(Errno::EACCES));
+    }
+
+    #[test]
+    fn what_is_not_there_is_refused() {
+        let mut volume = volume();
+        let (file, _) = volume.create(1, b"a", 0o644, 0).unwrap();
+        let owner = Attributes { uid: Some(1), ..Attributes::default() };
+        assert_eq!(volume.set_attributes(file, &owner), Err(Errno::EPERM));
+        let as_owner = Attributes { mode: Some(0o4755), ..Attributes::default() };
+        assert_eq!(volume.set_attributes(file, &as_owner), Err(Errno::EPERM));
+        let mode = Attributes { mode: Some(0o2700), ..Attributes::default() };
+        assert_eq!(volume.set_attributes(file, &mode).unwrap().mode, 0o700);
+    }
+}

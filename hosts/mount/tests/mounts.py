@@ -1,0 +1,162 @@
+"""kfs-mount, tried with real programs and with random calls, each beside a tmpfs.
+
+Its server is in memory (`Memory` of kfs-client). It needs /dev/fuse and root; what is called runs as another user. RANDOM_CALLS says
+how many random calls are made.
+"""
+import contextlib
+import hashlib
+import os
+import re
+import signal
+import stat
+import subprocess
+import sys
+import tempfile
+import time
+import traceback
+
+import beside
+
+HERE = os.path.dirname(os.path.realpath(__file__))
+TOP = os.path.dirname(os.path.dirname(os.path.dirname(HERE)))
+CRATE, OUT, REGISTRY = f"{TOP}/hosts/mount", f"{TOP}/hosts/client/out", "/usr/share/cargo/registry"
+USER = 1000
+SOON = 30
+# What git writes that tells times, numbers of nodes, where the folder is, and that there are no symbolic links.
+UNLIKE = re.compile(r"/\.git/(index|config|logs/.*)")
+GIT = {f"GIT_{who}_{what}": value for who in ("AUTHOR", "COMMITTER") for what, value in (("NAME", "a"), ("EMAIL", "a@b"), ("DATE", "@0 +0000"))}
+PROGRAMS = [
+    ("git", "git init -q -b main r && cd r && for i in $(seq 60); do echo $i > f$i; done && git add . && git commit -qm one && git rm -q f7 && git commit -qm two && git -c gc.auto=0 fsck --strict && git gc -q && git fsck && cd .. && git clone -q r r2 && cd r2 && git fsck && git log --format=%s"),
+    ("sqlite3", "sqlite3 t.db 'create table t(a, b); with recursive c(x) as (select 1 union all select x + 1 from c where x < 3000) insert into t select x, x * 7 from c; delete from t where a % 3 = 0; pragma integrity_check; select count(*) from t'"),
+    ("sqlite3", "sqlite3 w.db 'create table t(a); pragma journal_mode = wal; insert into t values (1), (2); begin; insert into t values (3); rollback; select count(*) from t; pragma integrity_check'"),
+    ("make", r"""mkdir p && cd p && for i in 1 2 3 4; do echo "int f$i(int x){return x*$i;}" > f$i.c; done && echo 'int f1(int);int f2(int);int f3(int);int f4(int);int main(void){return f1(f2(f3(f4(1))));}' > main.c && printf 'p: main.o f1.o f2.o f3.o f4.o\n\tcc -o p $^\n' > Makefile && make -s && { ./p; echo $?; } && make -q && echo done"""),
+    ("tar", "mkdir s && for d in $(seq 20); do mkdir -m 750 s/$d && for f in $(seq 50); do seq $((d * f)) > s/$d/$f; done; done && chmod 400 s/3/4 && ln s/1/1 s/2/one && tar cf s.tar --sort=name --mtime=@0 s && mkdir t && tar xf s.tar -C t && diff -r s t/s && cp -a s u && diff -r s u && rm -rf s && find u -type f | wc -l"),
+    ("python3", "mkdir m && for i in $(seq 30); do echo \"def f(): return $i\" > m/m$i.py; done && python3 -m compileall -q --invalidation-mode checked-hash m && python3 -c 'import m.m7; print(m.m7.f())'"),
+]
+
+
+def cargo(command, *rest):
+    source = ["--config", f"{TOP}/hosts/debian.toml"] if os.path.isdir(REGISTRY) else []
+    return ["cargo", command, *source, "--manifest-path", f"{CRATE}/Cargo.toml", "--target-dir", OUT, "-j", "1", "--quiet", *rest]
+
+
+def is_there(word):
+    return subprocess.run(["cargo", word, "--version"], check=False, capture_output=True).returncode == 0
+
+
+@contextlib.contextmanager
+def mounted(*words):
+    """A folder at which a new tree is mounted, for the user. It's empty, and each may write there."""
+    with tempfile.TemporaryDirectory(prefix="kfs-mount-") as room:
+        os.chmod(room, 0o755)
+        folder = f"{room}/at"
+        os.mkdir(folder)
+        process = subprocess.Popen([f"{OUT}/debug/kfs-mount", folder, "--uid", str(USER), "--gid", str(USER), "--allow-other", *words], stdout=subprocess.PIPE, text=True)
+        try:
+            assert process.stdout.readline() == "mounted\n"
+            yield folder
+        finally:
+            process.send_signal(signal.SIGTERM)
+            status = process.wait(SOON)
+            process.stdout.close()
+        assert status == 0, status
+
+
+@contextlib.contextmanager
+def tmpfs():
+    """A folder of a tmpfs that is as the root of a new tree."""
+    with tempfile.TemporaryDirectory(prefix="kfs-tmpfs-", dir="/dev/shm") as room:
+        os.chmod(room, 0o755)
+        folder = f"{room}/at"
+        os.mkdir(folder)
+        os.chmod(folder, 0o777)
+        yield folder
+
+
+def snapshot(folder):
+    """What stands in a folder: of each path its kind, mode, links and bytes."""
+    found = {}
+    for path, names, files in os.walk(folder):
+        for name in names + files:
+            whole = f"{path}/{name}"
+            header = os.lstat(whole)
+            short = whole.removeprefix(folder)
+            if stat.S_ISDIR(header.st_mode):
+                found[short] = (oct(header.st_mode), header.st_uid, header.st_gid)
+            elif not UNLIKE.search(short):
+                with open(whole, "rb") as it:
+                    digest = hashlib.sha256(it.read()).hexdigest()
+                found[short] = (oct(header.st_mode), header.st_uid, header.st_gid, header.st_nlink, header.st_size, digest)
+    return found
+
+
+def as_user(function, *words):
+    """Calls a function as the user, in a process of its own."""
+    child = os.fork()
+    if child == 0:
+        status = 1
+        try:
+            os.setgroups([])
+            os.setgid(USER)
+            os.setuid(USER)
+            os.umask(0o022)
+            function(*words)
+            status = 0
+        except BaseException:
+            traceback.print_exc(file=sys.stdout)
+        sys.stdout.flush()
+        os._exit(status)
+    assert os.waitstatus_to_exitcode(os.waitpid(child, 0)[1]) == 0
+
+
+def can_mount():
+    """Whether this machine has what a mount needs."""
+    if os.path.exists("/dev/fuse"):
+        return True
+    print("    /dev/fuse isn't there: left out")
+    return False
+
+
+def a_mount(_made):
+    """Its text has no warning, and its own tests go well."""
+    if is_there("clippy"):
+        subprocess.run(cargo("clippy", "--all-targets", "--", "-D", "warnings"), check=True)
+    if is_there("fmt"):
+        subprocess.run(["cargo", "fmt", "--manifest-path", f"{CRATE}/Cargo.toml", "--check"], check=True)
+    subprocess.run(cargo("test"), check=True)
+    subprocess.run(cargo("build"), check=True)
+
+
+def real_programs(_made):
+    """Programs say and leave on a mount what they do on a tmpfs."""
+    for name, script in PROGRAMS if can_mount() else []:
+        if subprocess.run(["which", name], check=False, capture_output=True).returncode:
+            print(f"    {name} isn't there: left out")
+            continue
+        began = time.monotonic()
+        with tmpfs() as other, mounted() as folder:
+            due, found = run_as_owner(other, script), run_as_owner(folder, script)
+            assert found[0] == due[0], (name, found[0], due[0])
+            differ = {path: (found[1].get(path), due[1].get(path)) for path in found[1].keys() | due[1].keys() if found[1].get(path) != due[1].get(path)}
+            assert not differ, (name, dict(list(differ.items())[:5]))
+        print(f"    {name}: {len(due[1])} paths alike ({time.monotonic() - began:.1f} s)")
+
+
+def run_as_owner(folder, script):
+    """A script in a folder that the user has made."""
+    ran = subprocess.run(["bash", "-ec", f"mkdir work && cd work && {{ {script}; }}"], cwd=folder, env={**os.environ, **GIT, "HOME": "/nonexistent"}, user=USER, group=USER, extra_groups=[], umask=0o022, capture_output=True, text=True, timeout=600)
+    assert ran.returncode == 0, ran.stderr[-2000:] + ran.stdout[-2000:]
+    return ran.stdout.replace(folder, "."), snapshot(folder)
+
+
+def random_calls(_made):
+    """Random calls have the same results and errors as on a tmpfs."""
+    if not can_mount():
+        return
+    count = os.environ.get("RANDOM_CALLS", "20000")
+    with tmpfs() as other, mounted() as folder:
+        as_user(beside.compare, folder, other, count)
+        assert snapshot(folder) == snapshot(other)
+
+
+TESTS = [a_mount, real_programs, random_calls]
