@@ -257,48 +257,58 @@ impl Draft {
 
     // ---- The changes
 
+    /// Makes the change of an entry that the judge has let pass. It answers no effects but these.
     fn make(&mut self, index: u16, entry: &Entry, effect: Effect) {
-        match (entry, effect) {
-            (Entry::Create { directory, name, number, kind, mode }, Effect::Created) => {
-                let (uid, gid) = (self.client.uid, self.client.gid);
-                let header = Header { kind: *kind, mode: *mode, uid, gid, links: 1, size: 0 };
-                self.nodes.insert(*number, Change { before: None, now: Some(header) });
-                self.created.insert(*number);
-                self.next = number.saturating_add(1);
-                self.set_name(*directory, name, None, Some(*number));
-            }
-            (Entry::Write { number, offset, payload }, Effect::Of(header)) => {
-                self.file(*number, &header).write(*offset, payload.len(), index, 0);
-                self.set_size(*number, header);
-            }
-            (Entry::Truncate { number, size }, Effect::Of(header)) => {
-                self.file(*number, &header).resize(*size);
-                self.set_size(*number, header);
-            }
-            (Entry::Link { number, directory, name }, Effect::Of(header)) => {
-                self.set_header(*number, header, Some(Header { links: header.links + 1, ..header }));
-                self.set_name(*directory, name, None, Some(*number));
-            }
-            (Entry::Chmod { number, mode }, Effect::Of(header)) => {
-                self.set_header(*number, header, Some(Header { mode: *mode, ..header }));
-            }
-            (Entry::Regroup { number, group }, Effect::Of(header)) => {
-                self.set_header(*number, header, Some(Header { gid: *group, ..header }));
-            }
-            (Entry::Unlink { directory, name, .. }, Effect::Gone(found)) => {
-                self.set_name(*directory, name, Some(found.number), None);
-                self.lose_name(found);
-            }
-            (Entry::Rename { directory, name, new_directory, new_name }, Effect::Moved(moved, there)) => {
-                self.set_name(*directory, name, Some(moved.number), None);
-                let replaced = there.map(|found| found.number);
-                self.set_name(*new_directory, new_name, replaced, Some(moved.number));
-                if let Some(found) = there {
+        match effect {
+            Effect::Nothing => {}
+            Effect::Created => self.create(entry),
+            Effect::Of(header) => self.change(index, entry, header),
+            Effect::Gone(found) => {
+                if let Entry::Unlink { directory, name, .. } = entry {
+                    self.set_name(*directory, name, Some(found.number), None);
                     self.lose_name(found);
                 }
             }
-            // The judge answers no other effects.
-            _ => {}
+            Effect::Moved(moved, there) => {
+                if let Entry::Rename { directory, name, new_directory, new_name } = entry {
+                    self.set_name(*directory, name, Some(moved.number), None);
+                    let replaced = there.map(|found| found.number);
+                    self.set_name(*new_directory, new_name, replaced, Some(moved.number));
+                    there.into_iter().for_each(|found| self.lose_name(found));
+                }
+            }
+        }
+    }
+
+    fn create(&mut self, entry: &Entry) {
+        if let Entry::Create { directory, name, number, kind, mode } = entry {
+            let (uid, gid) = (self.client.uid, self.client.gid);
+            let header = Header { kind: *kind, mode: *mode, uid, gid, links: 1, size: 0 };
+            self.nodes.insert(*number, Change { before: None, now: Some(header) });
+            self.created.insert(*number);
+            self.next = number.saturating_add(1);
+            self.set_name(*directory, name, None, Some(*number));
+        }
+    }
+
+    /// Changes a node that had this header before the entry.
+    fn change(&mut self, index: u16, entry: &Entry, header: Header) {
+        match entry {
+            Entry::Write { number, offset, payload } => {
+                self.file(*number, &header).write(*offset, payload.len(), index, 0);
+                self.set_size(*number, header);
+            }
+            Entry::Truncate { number, size } => {
+                self.file(*number, &header).resize(*size);
+                self.set_size(*number, header);
+            }
+            Entry::Link { number, directory, name } => {
+                self.set_header(*number, header, Some(Header { links: header.links + 1, ..header }));
+                self.set_name(*directory, name, None, Some(*number));
+            }
+            Entry::Chmod { number, mode } => self.set_header(*number, header, Some(Header { mode: *mode, ..header })),
+            Entry::Regroup { number, group } => self.set_header(*number, header, Some(Header { gid: *group, ..header })),
+            Entry::Create { .. } | Entry::Unlink { .. } | Entry::Rename { .. } => {}
         }
     }
 

@@ -3,7 +3,7 @@
 //! A draft takes an entry where the model does, and refuses it for the same reason. It shows what the model has, before it is
 //! handed in. Its plan is the one that the program makes, byte by byte, and is answered yes; the program's tree is the model's
 //! then. An entry that the draft refused, handed in behind the others, is refused by the program, at its index and for the same
-//! reason. A plan that lacks a row is refused at that row.
+//! reason. A log whose entries are mixed up is refused where the model refuses it, and a plan that lacks a row at that row.
 
 mod common;
 
@@ -12,7 +12,7 @@ use common::model::{Leased, Model, Run};
 use common::{clients, compare_draft, compare_shown, first_seed, program_path, runs};
 use kfs_client::desk::{Answer, Desk, LeaseKind, RowPart, Wanted};
 use kfs_client::program::Program;
-use kfs_client::{Client, Draft, Entry, Fault, Kind, Name, Reason};
+use kfs_client::{Client, Draft, Entry, Fault, Kind, Log, Name, Reason};
 
 const MODES: [u16; 10] = [0o777, 0o755, 0o700, 0o1777, 0o770, 0o644, 0o666, 0o400, 0o000, 0o1700];
 const NAMES: [&[u8]; 7] = [b"a", b"b", b"c", b"dd", b"e", b"f", b"\xff"];
@@ -24,6 +24,7 @@ struct Counts {
     refused: u64,
     refused_by_program: u64,
     handed_in: u64,
+    wrong_logs: u64,
     wrong_plans: u64,
     pieces: u64,
 }
@@ -128,7 +129,7 @@ impl Session<'_> {
         compare_draft(&mut self.drafts[at], &mut self.program, &run.model);
         let after = run.model;
         if self.chance.percent(90) {
-            self.hand_in(at, after);
+            self.hand_in(at, after, &before, &leased);
         }
         self.drafts[at].clear();
         for number in leased.0 {
@@ -178,18 +179,42 @@ impl Session<'_> {
         self.counts.refused_by_program += 1;
     }
 
-    fn hand_in(&mut self, at: usize, after: Model) {
+    fn hand_in(&mut self, at: usize, after: Model, before: &Model, leased: &Leased) {
         let draft = &self.drafts[at];
         let plan = draft.plan();
         let bytes = plan.to_bytes();
         let made = self.program.plan(draft.log().as_bytes()).unwrap();
         assert!(made.as_ref() == Some(&bytes), "the plan is another one: {plan:?}");
         self.wrong_plans(at);
+        self.wrong_log(at, before, leased);
         let answer = self.program.submit(self.drafts[at].log().as_bytes(), &bytes).unwrap();
         assert_eq!(answer, Answer::Yes);
         self.model = after;
         self.counts.handed_in += 1;
         self.counts.pieces += plan.pieces.len() as u64;
+    }
+
+    /// Hands in the log with an entry left out, twice there, or at another's place. Where the model refuses it, so does the program.
+    fn wrong_log(&mut self, at: usize, before: &Model, leased: &Leased) {
+        let mut entries: Vec<Entry> = self.drafts[at].log().entries().collect();
+        if entries.is_empty() {
+            return;
+        }
+        let (one, other) = (self.chance.below(entries.len() as u64) as usize, self.chance.below(entries.len() as u64) as usize);
+        match self.chance.below(3) {
+            0 => drop(entries.remove(one)),
+            1 => entries.insert(other, entries[one].clone()),
+            _ => entries.swap(one, other),
+        }
+        let mut run = Run::new(before, &self.clients[at], leased);
+        let fault = entries.iter().enumerate().find_map(|(index, entry)| Some((index, run.enter(entry).err()?)));
+        if let Some((index, reason)) = fault {
+            let mut log = Log::new(self.clients[at].number);
+            entries.iter().for_each(|entry| log.push(entry).unwrap());
+            let answer = self.program.submit(log.as_bytes(), &self.drafts[at].plan().to_bytes()).unwrap();
+            assert_eq!(answer, Answer::Entry(index, reason));
+            self.counts.wrong_logs += 1;
+        }
     }
 
     /// Hands the log in with plans that lack a row.
@@ -225,7 +250,7 @@ fn random_logs_are_those_of_the_model_and_of_the_program() {
         let mut session = Session { chance, program, model: Model::fresh(), clients: &clients, drafts, counts: &mut counts };
         let told = std::panic::catch_unwind(std::panic::AssertUnwindSafe(|| {
             for _ in 0..session.chance.below(10) + 1 {
-                let count = session.chance.below(60);
+                let count = session.chance.below(120);
                 session.log(count);
             }
         }));
@@ -235,5 +260,11 @@ fn random_logs_are_those_of_the_model_and_of_the_program() {
         }
     }
     println!("{counts:?}");
-    assert!(counts.taken > 0 && counts.refused_by_program > 0 && counts.wrong_plans > 0 && counts.pieces > 0);
+    assert!(
+        counts.taken > 0
+            && counts.refused_by_program > 0
+            && counts.wrong_plans > 0
+            && counts.wrong_logs > 0
+            && counts.pieces > 0
+    );
 }

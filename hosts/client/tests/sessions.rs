@@ -347,6 +347,26 @@ fn faults_are_those_of_posix() {
 }
 
 #[test]
+fn the_greatest_file_and_the_most_names() {
+    let [mut mine, mut other, _] = sessions(&quick());
+    let file = mine.open(b"/f", Some(0o644)).unwrap();
+    mine.truncate(file, 1 << 32).unwrap();
+    mine.write(file, (1 << 32) - 3, b"end").unwrap();
+    assert_eq!(mine.write(file, (1 << 32) - 2, b"end").unwrap_err().errno(), Errno::EFBIG);
+    assert_eq!(mine.write(file, 1 << 32, b"x").unwrap_err().errno(), Errno::EFBIG);
+    assert_eq!(mine.write(file, u64::MAX, b"x").unwrap_err().errno(), Errno::EFBIG);
+    assert_eq!(mine.read(file, (1 << 32) - 5, 100).unwrap(), b"\0\0end");
+    for index in 1..1024 {
+        mine.link(file, ROOT, &name(&format!("l{index}"))).unwrap();
+    }
+    assert_eq!(mine.link(file, ROOT, &name("more")).unwrap_err().errno(), Errno::EMLINK);
+    mine.close().unwrap();
+    let header = other.header(file).unwrap();
+    assert_eq!((header.links, header.size), (1024, 1 << 32));
+    assert_eq!(other.read(file, (1 << 32) - 4, 100).unwrap(), b"\0end");
+}
+
+#[test]
 fn numbers_are_given_in_order_and_again() {
     let mut user = users().remove(0);
     user.grant = [5, 7];

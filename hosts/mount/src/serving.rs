@@ -28,8 +28,7 @@ pub fn serve<D: Desk>(device: &mut File, signals: &mut SignalFd, volume: &mut Vo
             [PollFd::new(device.as_raw_fd(), PollFlags::POLLIN), PollFd::new(signals.as_raw_fd(), PollFlags::POLLIN)];
         match poll(&mut waits, PAUSE) {
             Ok(0) | Err(Errno::EINTR) => {
-                // What fails now is tried again, and told to who asks for it.
-                let _ = volume.poll();
+                volume.poll();
                 continue;
             }
             Ok(_) => {}
@@ -98,6 +97,7 @@ fn answer_of<D: Desk>(volume: &mut Volume<D>, request: &mut Request<'_>) -> Resu
         Operation::Open | Operation::Create | Operation::Read | Operation::Write | Operation::Release => {
             answer_of_file(volume, request)
         }
+        Operation::SymbolicLink => Err(Errno::EPERM),
         Operation::Forget | Operation::Interrupt | Operation::Destroy | Operation::Other(_) => Err(Errno::ENOSYS),
         _ => answer_of_names(volume, request),
     }

@@ -34,6 +34,8 @@ pub struct Volume<D> {
     session: Session<D>,
     pub clocks: Clocks,
     pub handles: Handles,
+    /// What the next who asks that all is kept is told: calls were lost since, and nobody was told.
+    owed: Option<Errno>,
 }
 
 /// The number that POSIX has for a failure. Where calls are lost, people are told on standard error.
@@ -58,12 +60,16 @@ fn writes(flags: u32) -> bool {
 impl<D: Desk> Volume<D> {
     /// A volume over a session.
     pub fn new(session: Session<D>) -> Volume<D> {
-        Volume { session, clocks: Clocks::default(), handles: Handles::default() }
+        Volume { session, clocks: Clocks::default(), handles: Handles::default(), owed: None }
     }
 
-    /// What is due now and then.
-    pub fn poll(&mut self) -> Result<(), Errno> {
-        self.session.poll().map_err(errno)
+    /// What is due now and then. What fails is tried again; who asks next that all is kept is told of calls that are lost.
+    pub fn poll(&mut self) {
+        if let Err(failure) = self.session.poll() {
+            let is_lost = matches!(&failure, Failure::HandIn(HandInFault::Refused { lost, .. }) if !lost.is_empty());
+            let told = errno(failure);
+            self.owed = self.owed.or(Some(told).filter(|_| is_lost));
+        }
     }
 
     /// Hands all in, and gives all leases up.
@@ -73,7 +79,8 @@ impl<D: Desk> Volume<D> {
 
     /// Hands all in.
     pub fn sync(&mut self) -> Result<(), Errno> {
-        self.session.sync().map_err(|fault| errno(fault.into()))
+        self.session.sync().map_err(|fault| errno(fault.into()))?;
+        self.owed.take().map_or(Ok(()), Err)
     }
 
     // ---- Reads
