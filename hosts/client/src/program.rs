@@ -123,12 +123,32 @@ impl Program {
         Ok(paths.path(number))
     }
 
+    /// Asks for a lease by this path alone. A path with a space is none of a line.
+    pub fn lease_by_path(&mut self, wanted: &Wanted, path: &[u8]) -> Result<Result<(), LeaseRefusal>, Unanswered> {
+        if path.contains(&b' ') {
+            return Ok(Err(LeaseRefusal::NotAllowed));
+        }
+        let kind = match wanted.kind {
+            LeaseKind::Read => 'r',
+            LeaseKind::Write => 'w',
+        };
+        let mut line = format!("lease {} ", self.client).into_bytes();
+        line.extend_from_slice(path);
+        line.extend_from_slice(format!(" {kind} {}", wanted.end).as_bytes());
+        self.lease_answer(&line, wanted.number)
+    }
+
     fn lease_answer(&mut self, line: &[u8], number: u32) -> Result<Result<(), LeaseRefusal>, Unanswered> {
         let reply = self.ask_bytes(line)?;
         let words: Vec<&str> = reply.split(' ').collect();
         match words[..] {
             [_, "leased" | "dropped", found] if found == number.to_string() => Ok(Ok(())),
-            [_, "leased", _] => Ok(Err(LeaseRefusal::NoSuchNode)),
+            [_, "leased", other] => {
+                // The path leads to another node.
+                let line = format!("drop {} {other}", self.client);
+                self.ask(&line)?;
+                Ok(Err(LeaseRefusal::NoSuchNode))
+            }
             [_, "refused", name] => lease_refusal(name).map(Err).ok_or_else(|| nonsense(&reply).into()),
             ["full" | "memory"] => Err(Unanswered::NoMemory),
             _ => Err(nonsense(&reply).into()),
@@ -255,24 +275,19 @@ impl Shown for Program {
 }
 
 impl Desk for Program {
-    /// A line asks by path alone.
+    /// A line asks by path alone: by the one that is known, or else by one that is sought.
     fn lease(&mut self, wanted: &Wanted) -> Result<Result<(), LeaseRefusal>, Unanswered> {
-        let path = match wanted.path.clone() {
-            Some(path) => Some(path),
-            None => self.path_to(wanted.number)?,
+        let known = match &wanted.path {
+            Some(path) => self.lease_by_path(wanted, path)?,
+            None => Err(LeaseRefusal::NoSuchNode),
         };
-        let path = match path {
-            Some(path) if !path.contains(&b' ') => path,
-            _ => return Ok(Err(LeaseRefusal::NotAllowed)),
-        };
-        let kind = match wanted.kind {
-            LeaseKind::Read => 'r',
-            LeaseKind::Write => 'w',
-        };
-        let mut line = format!("lease {} ", self.client).into_bytes();
-        line.extend_from_slice(&path);
-        line.extend_from_slice(format!(" {kind} {}", wanted.end).as_bytes());
-        self.lease_answer(&line, wanted.number)
+        if !matches!(known, Err(LeaseRefusal::NoSuchNode)) {
+            return Ok(known);
+        }
+        match self.path_to(wanted.number)? {
+            Some(path) => self.lease_by_path(wanted, &path),
+            None => Ok(known),
+        }
     }
 
     fn drop_lease(&mut self, number: u32) -> Result<Result<(), LeaseRefusal>, Unanswered> {

@@ -304,6 +304,12 @@ impl<D: Desk> Session<D> {
                 Ok(()) => return Ok(()),
                 Err(refusal) => refusal,
             };
+            // The server knows a path from before this log.
+            let is_moved = matches!(refusal, LeaseRefusal::NotAllowed | LeaseRefusal::NoSuchNode);
+            if is_moved && !self.is_waiting && !self.draft.log().is_empty() {
+                self.sync()?;
+                continue;
+            }
             let may_wait = matches!(refusal, LeaseRefusal::Held(_)) && !self.is_waiting && Instant::now() < until;
             if !may_wait {
                 return Err(Failure::Lease(number, refusal));

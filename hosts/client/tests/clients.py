@@ -3,6 +3,7 @@
 KFS_PROGRAM names a program `kfs` that is there. Else the kit's quick build makes one, which proves nothing. KFS_RUNS says how many
 random runs the tests make.
 """
+import functools
 import os
 import subprocess
 import sys
@@ -23,12 +24,17 @@ def cargo(command, *rest):
     return ["cargo", command, *source, "--manifest-path", f"{CRATE}/Cargo.toml", "--target-dir", f"{CRATE}/out", "-j", "1", "--quiet", *rest]
 
 
-def program_in(room):
+# Where the program is made. It goes with this process.
+ROOM = tempfile.TemporaryDirectory(prefix="kfs-client-made-")
+
+
+@functools.cache
+def kfs_program():
     """The path of the program `kfs`."""
     if "KFS_PROGRAM" in os.environ:
         return os.environ["KFS_PROGRAM"]
     with open(f"{TOP}/crates/kfs/src/main.rt", encoding="utf-8") as it:
-        return build_quick(it.read(), "kfs_program", room)
+        return build_quick(it.read(), "kfs_program", ROOM.name)
 
 
 def is_there(word):
@@ -42,12 +48,11 @@ def a_client_library(made):
     if is_there("fmt"):
         subprocess.run(["cargo", "fmt", "--manifest-path", f"{CRATE}/Cargo.toml", "--check"], check=True)
     binaries, server = made
-    with tempfile.TemporaryDirectory(prefix="kfs-client-made-") as room:
-        program = program_in(room)
-        names = {"KFS_PROGRAM": program, "KFS_SERVE": server, "KFSD": f"{binaries}/kfsd"}
-        subprocess.run(cargo("test"), check=True, env={**os.environ, **names})
-        ran = subprocess.run(cargo("run", "--example", "first", "--", program), check=True, capture_output=True, text=True)
-        assert ran.stdout == GREETING, ran.stdout
+    program = kfs_program()
+    names = {"KFS_PROGRAM": program, "KFS_SERVE": server, "KFSD": f"{binaries}/kfsd"}
+    subprocess.run(cargo("test"), check=True, env={**os.environ, **names})
+    ran = subprocess.run(cargo("run", "--example", "first", "--", program), check=True, capture_output=True, text=True)
+    assert ran.stdout == GREETING, ran.stdout
 
 
 TESTS = [a_client_library]

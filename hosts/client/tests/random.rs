@@ -14,7 +14,7 @@ use kfs_client::desk::{Answer, Desk, LeaseKind, RowPart, Wanted};
 use kfs_client::program::Program;
 use kfs_client::{Client, Draft, Entry, Fault, Kind, Log, Name, Reason};
 
-const MODES: [u16; 10] = [0o777, 0o755, 0o700, 0o1777, 0o770, 0o644, 0o666, 0o400, 0o000, 0o1700];
+const MODES: [u16; 12] = [0o777, 0o755, 0o700, 0o1777, 0o770, 0o644, 0o666, 0o400, 0o000, 0o1700, 0o500, 0o555];
 const NAMES: [&[u8]; 7] = [b"a", b"b", b"c", b"dd", b"e", b"f", b"\xff"];
 
 /// Counts of what was tried, so that a test tells that it tried something.

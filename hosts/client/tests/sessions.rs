@@ -269,6 +269,23 @@ fn a_lost_answer_is_found_out() {
 }
 
 #[test]
+fn a_lease_is_had_below_a_directory_that_the_log_has_moved() {
+    let [mut mine, mut other, _] = sessions(&quick());
+    let directory = other.create(ROOT, &name("d"), Kind::Directory, 0o777).unwrap();
+    other.open(b"/d/f", Some(0o666)).unwrap();
+    other.close().unwrap();
+    mine.desk().is_by_path = true;
+    mine.rename(ROOT, &name("d"), ROOT, &name("e")).unwrap();
+    let file = mine.walk(b"/e/f").unwrap();
+    assert_eq!(mine.draft().log().len(), 1);
+    // The server knows no such path before the log is handed in.
+    mine.write(file, 0, b"x").unwrap();
+    assert_eq!(other.lookup(ROOT, &name("e")).unwrap().0, directory);
+    mine.close().unwrap();
+    assert_eq!(other.read(file, 0, 9).unwrap(), b"x");
+}
+
+#[test]
 fn without_free_blocks_the_log_stays() {
     let mut seat = seats(&program_path(), [2, 8, 8], &users());
     let mut mine = Session::new(seat.remove(0), users().remove(0), quick());

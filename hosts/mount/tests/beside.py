@@ -13,10 +13,10 @@ DEPTH = 4
 
 
 class Both:
-    """Two folders."""
+    """Two folders, and the names that are given in them."""
 
-    def __init__(self, folders, chance):
-        self.folders, self.chance = folders, chance
+    def __init__(self, folders, names, chance):
+        self.folders, self.names, self.chance = folders, names, chance
         self.known = [""]
 
     def look(self):
@@ -28,8 +28,8 @@ class Both:
         """A random path: mostly one that is there, or a name below one."""
         if self.chance.random() < 0.7:
             known = self.chance.choice(self.known)
-            return known if known and self.chance.random() < 0.6 else f"{known}/{self.chance.choice(NAMES)}"
-        parts = [self.chance.choice(NAMES) for _ in range(self.chance.choice([1, 1, 2, 2, 2, 3, DEPTH]))]
+            return known if known and self.chance.random() < 0.6 else f"{known}/{self.chance.choice(self.names)}"
+        parts = [self.chance.choice(self.names) for _ in range(self.chance.choice([1, 1, 2, 2, 2, 3, DEPTH]))]
         if self.chance.random() < 0.02:
             # never at the front: there it would lead out of the folder
             parts.insert(self.chance.randrange(1, len(parts) + 1), self.chance.choice([".", "..", "y" * 256]))
@@ -100,11 +100,11 @@ def sync(path):
         os.close(it)
 
 
-def compare(one, other, count):
+def compare(one, other, count, names):
     """Makes so many calls in both folders."""
-    both = Both((one, other), random.Random(int(os.environ.get("RANDOM_SEED", "1"))))
+    both = Both((one, other), names, random.Random(int(os.environ.get("RANDOM_SEED", "1"))))
     done = 0
-    for at in range(int(count)):
+    for at in range(count):
         if at % 20 == 0:
             both.look()
         what, function = some_call(both)

@@ -1,7 +1,7 @@
 """kfs-mount, tried with real programs and with random calls, each beside a tmpfs.
 
-Its server is in memory (`Memory` of kfs-client). It needs /dev/fuse and root; what is called runs as another user. RANDOM_CALLS says
-how many random calls are made.
+Its server is in memory (`Memory` of kfs-client), or the program `kfs`. It needs /dev/fuse and root; what is called runs as another
+user. RANDOM_CALLS says how many random calls are made.
 """
 import contextlib
 import hashlib
@@ -16,6 +16,7 @@ import time
 import traceback
 
 import beside
+from clients import kfs_program
 
 HERE = os.path.dirname(os.path.realpath(__file__))
 TOP = os.path.dirname(os.path.dirname(os.path.dirname(HERE)))
@@ -151,12 +152,14 @@ def run_as_owner(folder, script):
 
 def random_calls(_made):
     """Random calls have the same results and errors as on a tmpfs."""
-    if not can_mount():
-        return
-    count = os.environ.get("RANDOM_CALLS", "20000")
-    with tmpfs() as other, mounted() as folder:
-        as_user(beside.compare, folder, other, count)
-        assert snapshot(folder) == snapshot(other)
+    servers = [(), ("--program", kfs_program())] if can_mount() else []
+    for words in servers:
+        # No line of the program can say a path with a space.
+        names = [name for name in beside.NAMES if not words or " " not in name]
+        count = int(os.environ.get("RANDOM_CALLS", "10000"))
+        with tmpfs() as other, mounted(*words) as folder:
+            as_user(beside.compare, folder, other, count, names)
+            assert snapshot(folder) == snapshot(other)
 
 
 TESTS = [a_mount, real_programs, random_calls]

@@ -28,13 +28,21 @@ pub struct Seat {
     pub client: u32,
     pub trouble: Trouble,
     pub calls: u64,
+    /// Whether leases are asked for by the path alone that the client gives.
+    pub is_by_path: bool,
 }
 
 /// The seats of these clients at a new program.
 pub fn seats(path: &str, tiers: [u32; 3], clients: &[Client]) -> Vec<Seat> {
     let program = Program::start(path, tiers, clients).unwrap();
     let shared = Arc::new(Mutex::new(Shared { program, wants: HashMap::new(), moment: 0 }));
-    let seat = |client: &Client| Seat { shared: Arc::clone(&shared), client: client.number, trouble: Trouble::None, calls: 0 };
+    let seat = |client: &Client| Seat {
+        shared: Arc::clone(&shared),
+        client: client.number,
+        trouble: Trouble::None,
+        calls: 0,
+        is_by_path: false,
+    };
     clients.iter().map(seat).collect()
 }
 
@@ -78,7 +86,10 @@ impl Shown for Seat {
 impl Desk for Seat {
     fn lease(&mut self, wanted: &Wanted) -> Result<Result<(), LeaseRefusal>, Unanswered> {
         let mut shared = self.taken();
-        let answer = shared.program.lease(wanted)?;
+        let answer = match &wanted.path {
+            Some(path) if self.is_by_path => shared.program.lease_by_path(wanted, path)?,
+            _ => shared.program.lease(wanted)?,
+        };
         if let Err(LeaseRefusal::Held(holder)) = answer {
             shared.wants.entry(holder).or_default().insert(wanted.number);
         }
