@@ -9,6 +9,14 @@ use std::time::{Duration, SystemTime, UNIX_EPOCH};
 const KEPT: u64 = 1;
 const DIRECTORY: u32 = 0o040_000;
 const FILE: u32 = 0o100_000;
+const LINK: u32 = 0o120_000;
+
+/// A node as it is shown to the kernel. Of a link the size is that of its target.
+#[derive(Clone, Copy, Debug, PartialEq, Eq)]
+pub struct Shape {
+    pub header: Header,
+    pub is_link: bool,
+}
 
 /// The times of a node, since the beginning of 1970.
 #[derive(Clone, Copy, Debug, PartialEq, Eq)]
@@ -76,8 +84,10 @@ impl Clocks {
 }
 
 /// The bits of a mode that say what a node is.
-pub fn type_bits(header: &Header) -> u32 {
-    if header.is_directory() {
+pub fn type_bits(shape: &Shape) -> u32 {
+    if shape.is_link {
+        LINK
+    } else if shape.header.is_directory() {
         DIRECTORY
     } else {
         FILE
@@ -85,7 +95,8 @@ pub fn type_bits(header: &Header) -> u32 {
 }
 
 /// The 88 bytes of `fuse_attr`.
-pub fn attributes(number: u32, header: &Header, times: Times, reply: &mut Reply) {
+pub fn attributes(number: u32, shape: &Shape, times: Times, reply: &mut Reply) {
+    let header = &shape.header;
     let [read, written, changed] = [times.read, times.written, times.changed];
     reply.long(number.into()).long(header.size).long((header.size + 511) / 512);
     for time in [read, written, changed] {
@@ -94,22 +105,22 @@ pub fn attributes(number: u32, header: &Header, times: Times, reply: &mut Reply)
     for time in [read, written, changed] {
         reply.word(time.subsec_nanos());
     }
-    reply.word(type_bits(header) | u32::from(header.mode)).word(header.links.into());
+    reply.word(type_bits(shape) | u32::from(header.mode)).word(header.links.into());
     reply.word(header.uid).word(header.gid).word(0).word(4096).word(0);
 }
 
 /// `fuse_attr_out`.
-pub fn attribute_reply(number: u32, header: &Header, clocks: &Clocks) -> Reply {
+pub fn attribute_reply(number: u32, shape: &Shape, clocks: &Clocks) -> Reply {
     let mut reply = Reply::default();
     reply.long(KEPT).word(0).word(0);
-    attributes(number, header, clocks.of(number), &mut reply);
+    attributes(number, shape, clocks.of(number), &mut reply);
     reply
 }
 
 /// `fuse_entry_out`.
-pub fn entry(number: u32, header: &Header, clocks: &Clocks, reply: &mut Reply) {
+pub fn entry(number: u32, shape: &Shape, clocks: &Clocks, reply: &mut Reply) {
     reply.long(number.into()).long(clocks.generation(number)).long(KEPT).long(KEPT).word(0).word(0);
-    attributes(number, header, clocks.of(number), reply);
+    attributes(number, shape, clocks.of(number), reply);
 }
 
 #[cfg(test)]
@@ -120,10 +131,11 @@ mod tests {
     #[test]
     fn sizes_are_those_of_the_kernel() {
         let header = Header { kind: Kind::File, mode: 0o644, uid: 1, gid: 2, links: 1, size: 513 };
+        let shape = Shape { header, is_link: false };
         let mut clocks = Clocks::default();
-        assert_eq!(attribute_reply(5, &header, &clocks).0.len(), 16 + 88);
+        assert_eq!(attribute_reply(5, &shape, &clocks).0.len(), 16 + 88);
         let mut reply = Reply::default();
-        entry(5, &header, &clocks, &mut reply);
+        entry(5, &shape, &clocks, &mut reply);
         assert_eq!(reply.0.len(), 128);
         assert_eq!(reply.0[8..16], [0; 8]);
         clocks.create(5);

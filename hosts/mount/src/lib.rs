@@ -5,6 +5,7 @@
 
 pub mod attributes;
 pub mod handles;
+pub mod links;
 pub mod mounting;
 pub mod protocol;
 pub mod serving;

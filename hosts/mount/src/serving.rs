@@ -1,9 +1,9 @@
 //! Requests of the kernel, one after another.
 
-use crate::attributes::{attribute_reply, entry, now, type_bits};
+use crate::attributes::{attribute_reply, entry, now, type_bits, Shape};
 use crate::protocol::{init_reply, reply_bytes, Operation, Reply, Request, REQUEST};
 use crate::volume::{Attributes, Volume};
-use kfs_client::{Desk, Header, Kind, Name};
+use kfs_client::{Desk, Kind, Name};
 use nix::errno::Errno;
 use nix::poll::{poll, PollFd, PollFlags};
 use nix::sys::signalfd::SignalFd;
@@ -76,13 +76,13 @@ fn answer_of<D: Desk>(volume: &mut Volume<D>, request: &mut Request<'_>) -> Resu
             Ok(entry_reply(volume, found))
         }
         Operation::GetAttributes => {
-            let header = volume.header(node)?;
-            Ok(attribute_reply(node, &header, &volume.clocks))
+            let shape = volume.shape(node)?;
+            Ok(attribute_reply(node, &shape, &volume.clocks))
         }
         Operation::SetAttributes => {
             let wanted = wanted_attributes(request)?;
-            let header = volume.set_attributes(node, &wanted)?;
-            Ok(attribute_reply(node, &header, &volume.clocks))
+            let shape = volume.set_attributes(node, &wanted)?;
+            Ok(attribute_reply(node, &shape, &volume.clocks))
         }
         Operation::StatFileSystem => Ok(file_system_reply()),
         Operation::Sync => volume.sync().map(|()| Reply::default()),
@@ -97,7 +97,7 @@ fn answer_of<D: Desk>(volume: &mut Volume<D>, request: &mut Request<'_>) -> Resu
         Operation::Open | Operation::Create | Operation::Read | Operation::Write | Operation::Release => {
             answer_of_file(volume, request)
         }
-        Operation::SymbolicLink => Err(Errno::EPERM),
+        Operation::ReadLink => volume.read_link(node).map(Reply),
         Operation::Forget | Operation::Interrupt | Operation::Destroy | Operation::Other(_) => Err(Errno::ENOSYS),
         _ => answer_of_names(volume, request),
     }
@@ -121,6 +121,11 @@ fn answer_of_names<D: Desk>(volume: &mut Volume<D>, request: &mut Request<'_>) -
             let found = volume.make_directory(node, request.text()?, mode)?;
             Ok(entry_reply(volume, found))
         }
+        Operation::SymbolicLink => {
+            let (name, target) = (request.text()?, request.text()?);
+            let found = volume.make_link(node, name, target)?;
+            Ok(entry_reply(volume, found))
+        }
         Operation::Unlink => volume.unlink(node, request.text()?, Kind::File).map(|()| Reply::default()),
         Operation::RemoveDirectory => volume.unlink(node, request.text()?, Kind::Directory).map(|()| Reply::default()),
         Operation::Rename | Operation::RenameWithFlags => {
@@ -135,8 +140,8 @@ fn answer_of_names<D: Desk>(volume: &mut Volume<D>, request: &mut Request<'_>) -
         }
         Operation::Link => {
             let number = node_of(request.long()?)?;
-            let header = volume.link(number, node, request.text()?)?;
-            Ok(entry_reply(volume, (number, header)))
+            let shape = volume.link(number, node, request.text()?)?;
+            Ok(entry_reply(volume, (number, shape)))
         }
         _ => Err(Errno::ENOSYS),
     }
@@ -178,9 +183,9 @@ fn node_of(number: u64) -> Result<u32, Errno> {
     u32::try_from(number).map_err(|_| Errno::ESTALE)
 }
 
-fn entry_reply<D>(volume: &Volume<D>, (number, header): (u32, Header)) -> Reply {
+fn entry_reply<D>(volume: &Volume<D>, (number, shape): (u32, Shape)) -> Reply {
     let mut reply = Reply::default();
-    entry(number, &header, &volume.clocks, &mut reply);
+    entry(number, &shape, &volume.clocks, &mut reply);
     reply
 }
 
@@ -250,16 +255,16 @@ fn read_directory<D: Desk>(volume: &mut Volume<D>, request: &mut Request<'_>, is
             break;
         }
         // A name that went since the list was made leads nowhere.
-        let header = match volume.header(number) {
-            Ok(header) => header,
+        let shape = match volume.shape(number) {
+            Ok(shape) => shape,
             Err(_) => continue,
         };
         if is_plus && matches!(text.as_slice(), b"." | b"..") {
             reply.zeros(128);
         } else if is_plus {
-            entry(number, &header, &volume.clocks, &mut reply);
+            entry(number, &shape, &volume.clocks, &mut reply);
         }
-        reply.long(number.into()).long(at).word(text.len() as u32).word(type_bits(&header) >> 12).bytes(&text);
+        reply.long(number.into()).long(at).word(text.len() as u32).word(type_bits(&shape) >> 12).bytes(&text);
         reply.zeros((8 - text.len() % 8) % 8);
     }
     Ok(reply)

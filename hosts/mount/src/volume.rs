@@ -1,7 +1,8 @@
 //! The calls of a file system over a session: what the desk has no entry for is done here, as far as one mount can.
 
-use crate::attributes::{now, Clocks, Times};
+use crate::attributes::{now, Clocks, Shape, Times};
 use crate::handles::{Handles, Leftover};
+use crate::links::{link_bytes, target_of, LENGTH};
 use kfs_client::client::Access;
 use kfs_client::{Desk, Failure, HandInFault, Header, Kind, Name, Session};
 use nix::errno::Errno;
@@ -11,6 +12,9 @@ const MODE: u32 = 0o1777;
 const SET_USER: u32 = 0o4000;
 /// The bit by which the owner may write.
 const OWNER_WRITES: u16 = 0o200;
+/// The mode that a link is shown with, and that of its file.
+const LINK_MODE: u16 = 0o777;
+const LINK_FILE_MODE: u16 = 0o755;
 /// How a file is opened (`O_ACCMODE`, `O_WRONLY`, `O_RDWR`, `O_TRUNC`).
 const ACCESS: u32 = 0o3;
 const WRITE_ONLY: u32 = 0o1;
@@ -85,22 +89,44 @@ impl<D: Desk> Volume<D> {
 
     // ---- Reads
 
-    /// A header as it is shown: with the mode that an open file gets later, and without a hidden name.
-    fn shown(&self, number: u32, header: Header) -> Header {
-        let mode = self.handles.late_mode(number).unwrap_or(header.mode);
+    /// A node as it is shown: a link with its target's length, a file with the mode that it gets later, and without a hidden
+    /// name.
+    fn shown(&mut self, number: u32, header: Header) -> Shape {
         let links = header.links - u16::from(self.handles.is_hidden(number));
-        Header { mode, links, ..header }
+        match self.target(number, &header) {
+            Some(target) => {
+                let header = Header { mode: LINK_MODE, size: target.len() as u64, links, ..header };
+                Shape { header, is_link: true }
+            }
+            None => {
+                let mode = self.handles.late_mode(number).unwrap_or(header.mode);
+                Shape { header: Header { mode, links, ..header }, is_link: false }
+            }
+        }
     }
 
-    pub fn header(&mut self, number: u32) -> Result<Header, Errno> {
+    /// The target of a link, where the node is one and can be read.
+    fn target(&mut self, number: u32, header: &Header) -> Option<Vec<u8>> {
+        if header.is_directory() || header.size != LENGTH {
+            return None;
+        }
+        target_of(&self.session.read(number, 0, LENGTH as usize).ok()?)
+    }
+
+    pub fn shape(&mut self, number: u32) -> Result<Shape, Errno> {
         let header = self.session.header(number).map_err(errno)?;
         Ok(self.shown(number, header))
     }
 
-    pub fn lookup(&mut self, directory: u32, name: &[u8]) -> Result<(u32, Header), Errno> {
+    pub fn lookup(&mut self, directory: u32, name: &[u8]) -> Result<(u32, Shape), Errno> {
         let name = named(name)?;
         let (number, header) = self.session.lookup(directory, &name).map_err(errno)?;
         Ok((number, self.shown(number, header)))
+    }
+
+    pub fn read_link(&mut self, number: u32) -> Result<Vec<u8>, Errno> {
+        let header = self.session.header(number).map_err(errno)?;
+        self.target(number, &header).ok_or(Errno::EINVAL)
     }
 
     /// All names of a directory, as a list that stays while it is read.
@@ -123,7 +149,7 @@ impl<D: Desk> Volume<D> {
                 self.session.access(number, access).map_err(errno)?;
             }
         }
-        self.header(number).map(|_| ())
+        self.shape(number).map(|_| ())
     }
 
     // ---- Files that are open
@@ -143,15 +169,15 @@ impl<D: Desk> Volume<D> {
         Ok(())
     }
 
-    pub fn create(&mut self, directory: u32, name: &[u8], mode: u32, flags: u32) -> Result<(u32, Header), Errno> {
+    pub fn create(&mut self, directory: u32, name: &[u8], mode: u32, flags: u32) -> Result<(u32, Shape), Errno> {
         let mode = (mode & MODE) as u16;
         // A log writes what it has created, whatever its mode. A later one needs the bit.
         let late_mode = Some(mode).filter(|mode| writes(flags) && mode & OWNER_WRITES == 0);
         let given = if late_mode.is_some() { mode | OWNER_WRITES } else { mode };
-        let (number, header) = self.make(directory, name, Kind::File, given)?;
+        let (number, _) = self.make(directory, name, Kind::File, given)?;
         self.handles.open(number);
         self.handles.set_late_mode(number, late_mode);
-        Ok((number, self.shown(number, header)))
+        Ok((number, self.shape(number)?))
     }
 
     pub fn close_file(&mut self, number: u32) -> Result<(), Errno> {
@@ -168,16 +194,24 @@ impl<D: Desk> Volume<D> {
     // ---- Changes
 
     /// Makes a file or a directory.
-    pub fn make(&mut self, directory: u32, name: &[u8], kind: Kind, mode: u16) -> Result<(u32, Header), Errno> {
+    pub fn make(&mut self, directory: u32, name: &[u8], kind: Kind, mode: u16) -> Result<(u32, Shape), Errno> {
         let name = named(name)?;
         let number = self.session.create(directory, &name, kind, mode).map_err(errno)?;
         self.clocks.create(number);
         self.clocks.write(directory);
-        Ok((number, self.header(number)?))
+        Ok((number, self.shape(number)?))
     }
 
-    pub fn make_directory(&mut self, directory: u32, name: &[u8], mode: u32) -> Result<(u32, Header), Errno> {
+    pub fn make_directory(&mut self, directory: u32, name: &[u8], mode: u32) -> Result<(u32, Shape), Errno> {
         self.make(directory, name, Kind::Directory, (mode & MODE) as u16)
+    }
+
+    /// Makes a link: a file that others can't write.
+    pub fn make_link(&mut self, directory: u32, name: &[u8], target: &[u8]) -> Result<(u32, Shape), Errno> {
+        let bytes = link_bytes(target).ok_or(Errno::ENAMETOOLONG)?;
+        let (number, _) = self.make(directory, name, Kind::File, LINK_FILE_MODE)?;
+        self.session.write(number, 0, &bytes).map_err(errno)?;
+        Ok((number, self.shape(number)?))
     }
 
     pub fn write(&mut self, number: u32, offset: u64, bytes: &[u8]) -> Result<usize, Errno> {
@@ -193,8 +227,11 @@ impl<D: Desk> Volume<D> {
     }
 
     /// Changes a header. An owner can't be changed, and a file never runs as its owner.
-    pub fn set_attributes(&mut self, number: u32, wanted: &Attributes) -> Result<Header, Errno> {
-        let header = self.header(number)?;
+    pub fn set_attributes(&mut self, number: u32, wanted: &Attributes) -> Result<Shape, Errno> {
+        let Shape { header, is_link } = self.shape(number)?;
+        if is_link && (wanted.mode.is_some() || wanted.size.is_some()) {
+            return Err(Errno::EOPNOTSUPP);
+        }
         if matches!(wanted.uid, Some(uid) if uid != header.uid) || matches!(wanted.mode, Some(mode) if mode & SET_USER != 0) {
             return Err(Errno::EPERM);
         }
@@ -213,7 +250,7 @@ impl<D: Desk> Volume<D> {
             let (read, written) = (wanted.read.unwrap_or(times.read), wanted.written.unwrap_or(times.written));
             self.clocks.set(number, Times { read, written, changed: now() });
         }
-        self.header(number)
+        self.shape(number)
     }
 
     /// Changes a mode; of a file that is open with the last close, where the owner couldn't write it then.
@@ -226,11 +263,11 @@ impl<D: Desk> Volume<D> {
         Ok(())
     }
 
-    pub fn link(&mut self, number: u32, directory: u32, name: &[u8]) -> Result<Header, Errno> {
+    pub fn link(&mut self, number: u32, directory: u32, name: &[u8]) -> Result<Shape, Errno> {
         self.session.link(number, directory, &named(name)?).map_err(errno)?;
         self.clocks.write(directory);
         self.clocks.change(number);
-        self.header(number)
+        self.shape(number)
     }
 
     pub fn unlink(&mut self, directory: u32, name: &[u8], kind: Kind) -> Result<(), Errno> {
@@ -306,9 +343,9 @@ mod tests {
         assert_eq!(volume.lookup(1, b"a"), Err(Errno::ENOENT));
         volume.sync().unwrap();
         assert_eq!(volume.read(file, 0, 9).unwrap(), b"abc");
-        assert_eq!(volume.header(file).unwrap().links, 0);
+        assert_eq!(volume.shape(file).unwrap().header.links, 0);
         volume.close_file(file).unwrap();
-        assert_eq!(volume.header(file), Err(Errno::ENOENT));
+        assert_eq!(volume.shape(file), Err(Errno::ENOENT));
     }
 
     #[test]
@@ -322,20 +359,34 @@ mod tests {
         volume.write(old, 0, b"old").unwrap();
         volume.close_file(old).unwrap();
         volume.sync().unwrap();
-        assert_eq!(volume.header(old), Err(Errno::ENOENT));
+        assert_eq!(volume.shape(old), Err(Errno::ENOENT));
     }
 
     #[test]
     fn what_is_open_for_writing_stays_so() {
         let mut volume = volume();
-        let (file, header) = volume.create(1, b"a", 0o444, READ_AND_WRITE).unwrap();
-        assert_eq!(header.mode, 0o444);
+        let (file, shape) = volume.create(1, b"a", 0o444, READ_AND_WRITE).unwrap();
+        assert_eq!(shape.header.mode, 0o444);
         volume.sync().unwrap();
         volume.write(file, 0, b"abc").unwrap();
         volume.close_file(file).unwrap();
         volume.sync().unwrap();
-        assert_eq!(volume.header(file).unwrap().mode, 0o444);
+        assert_eq!(volume.shape(file).unwrap().header.mode, 0o444);
         assert_eq!(volume.open(file, WRITE_ONLY), Err(Errno::EACCES));
+    }
+
+    #[test]
+    fn a_link_is_a_file_of_the_desk() {
+        let mut volume = volume();
+        let (link, shape) = volume.make_link(1, b"l", b"../a").unwrap();
+        assert_eq!((shape.is_link, shape.header.size, shape.header.mode), (true, 4, 0o777));
+        volume.sync().unwrap();
+        assert_eq!(volume.read_link(link).unwrap(), b"../a");
+        assert_eq!(volume.session.header(link).unwrap().size, LENGTH);
+        let (file, _) = volume.create(1, b"a", 0o644, READ_AND_WRITE).unwrap();
+        volume.write(file, 0, &[b' '; LENGTH as usize]).unwrap();
+        assert_eq!(volume.read_link(file), Err(Errno::EINVAL));
+        assert_eq!(volume.make_link(1, b"m", &[b'x'; 1025]).unwrap_err(), Errno::ENAMETOOLONG);
     }
 
     #[test]
@@ -347,6 +398,6 @@ mod tests {
         let as_owner = Attributes { mode: Some(0o4755), ..Attributes::default() };
         assert_eq!(volume.set_attributes(file, &as_owner), Err(Errno::EPERM));
         let mode = Attributes { mode: Some(0o2700), ..Attributes::default() };
-        assert_eq!(volume.set_attributes(file, &mode).unwrap().mode, 0o700);
+        assert_eq!(volume.set_attributes(file, &mode).unwrap().header.mode, 0o700);
     }
 }

@@ -71,6 +71,7 @@ def some_call(both):
     chance = both.chance
     one, other = both.path(), both.path()
     mode = chance.choice(MODES if chance.random() < 0.1 else OPEN_MODES)
+    target = "/".join(chance.choice(both.names) for _ in range(chance.choice([1, 1, 2])))
     data, place = chance.randbytes(chance.choice([0, 1, 10, 100, 5000, 70000])), chance.choice([0, 1, 50, 4096, 9000, 100_000])
     flags = chance.choice(FLAGS) | chance.choice([0, 0, os.O_CREAT, os.O_CREAT, os.O_CREAT | os.O_EXCL]) | chance.choice([0, 0, os.O_TRUNC])
     calls = [
@@ -79,6 +80,8 @@ def some_call(both):
         (f"unlink {one}", lambda _, folder: os.unlink(folder + one), 6),
         (f"rename {one} {other}", lambda _, folder: os.rename(folder + one, folder + other), 10),
         (f"link {one} {other}", lambda _, folder: os.link(folder + one, folder + other), 5),
+        (f"symlink {target} {one}", lambda _, folder: os.symlink(target, folder + one), 4),
+        (f"readlink {one}", lambda _, folder: os.readlink(folder + one), 3),
         (f"chmod {one} {mode:o}", lambda _, folder: os.chmod(folder + one, mode), 5),
         (f"put {one} {flags:o} {mode:o} {len(data)} at {place}", lambda _, folder: put(folder + one, flags, mode, data, place), 20),
         (f"truncate {one} {place}", lambda _, folder: os.truncate(folder + one, place), 5),
@@ -115,5 +118,7 @@ def compare(one, other, count, names):
     for folder in (one, other):
         for path, names, files in os.walk(folder):
             for name in names + files:
+                if os.path.islink(f"{path}/{name}"):
+                    continue
                 os.chmod(f"{path}/{name}", os.lstat(f"{path}/{name}").st_mode & 0o777 | 0o700)
     print(f"    {count} calls alike, {done} of them without an error")

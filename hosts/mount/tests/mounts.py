@@ -27,11 +27,11 @@ SOON = 30
 UNLIKE = re.compile(r"/\.git/(index|config|logs/.*)")
 GIT = {f"GIT_{who}_{what}": value for who in ("AUTHOR", "COMMITTER") for what, value in (("NAME", "a"), ("EMAIL", "a@b"), ("DATE", "@0 +0000"))}
 PROGRAMS = [
-    ("git", "git init -q -b main r && cd r && for i in $(seq 60); do echo $i > f$i; done && git add . && git commit -qm one && git rm -q f7 && git commit -qm two && git -c gc.auto=0 fsck --strict && git gc -q && git fsck && cd .. && git clone -q r r2 && cd r2 && git fsck && git log --format=%s"),
+    ("git", "git init -q -b main r && cd r && for i in $(seq 60); do echo $i > f$i; done && ln -s f3 l3 && git add . && git commit -qm one && git rm -q f7 && git commit -qm two && git -c gc.auto=0 fsck --strict && git gc -q && git fsck && cd .. && git clone -q r r2 && cd r2 && git fsck && git log --format=%s"),
     ("sqlite3", "sqlite3 t.db 'create table t(a, b); with recursive c(x) as (select 1 union all select x + 1 from c where x < 3000) insert into t select x, x * 7 from c; delete from t where a % 3 = 0; pragma integrity_check; select count(*) from t'"),
     ("sqlite3", "sqlite3 w.db 'create table t(a); pragma journal_mode = wal; insert into t values (1), (2); begin; insert into t values (3); rollback; select count(*) from t; pragma integrity_check'"),
     ("make", r"""mkdir p && cd p && for i in 1 2 3 4; do echo "int f$i(int x){return x*$i;}" > f$i.c; done && echo 'int f1(int);int f2(int);int f3(int);int f4(int);int main(void){return f1(f2(f3(f4(1))));}' > main.c && printf 'p: main.o f1.o f2.o f3.o f4.o\n\tcc -o p $^\n' > Makefile && make -s && { ./p; echo $?; } && make -q && echo done"""),
-    ("tar", "mkdir s && for d in $(seq 20); do mkdir -m 750 s/$d && for f in $(seq 50); do seq $((d * f)) > s/$d/$f; done; done && chmod 400 s/3/4 && ln s/1/1 s/2/one && tar cf s.tar --sort=name --mtime=@0 s && mkdir t && tar xf s.tar -C t && diff -r s t/s && cp -a s u && diff -r s u && rm -rf s && find u -type f | wc -l"),
+    ("tar", "mkdir s && for d in $(seq 20); do mkdir -m 750 s/$d && for f in $(seq 50); do seq $((d * f)) > s/$d/$f; done; done && chmod 400 s/3/4 && ln s/1/1 s/2/one && ln -s ../1/2 s/2/two && ln -s nowhere s/3/none && tar cf s.tar --sort=name --mtime=@0 s && mkdir t && tar xf s.tar -C t && diff -r --no-dereference s t/s && cp -a s u && diff -r --no-dereference s u && rm -rf s && find u -type f | wc -l"),
     ("python3", "mkdir m && for i in $(seq 30); do echo \"def f(): return $i\" > m/m$i.py; done && python3 -m compileall -q --invalidation-mode checked-hash m && python3 -c 'import m.m7; print(m.m7.f())'"),
 ]
 
@@ -84,6 +84,8 @@ def snapshot(folder):
             short = whole.removeprefix(folder)
             if stat.S_ISDIR(header.st_mode):
                 found[short] = (oct(header.st_mode), header.st_uid, header.st_gid)
+            elif stat.S_ISLNK(header.st_mode):
+                found[short] = (oct(header.st_mode), header.st_uid, header.st_gid, header.st_nlink, os.readlink(whole))
             elif not UNLIKE.search(short):
                 with open(whole, "rb") as it:
                     digest = hashlib.sha256(it.read()).hexdigest()
