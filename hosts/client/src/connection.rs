@@ -1,9 +1,9 @@
 //! A desk behind kfsd's Unix socket: frames out, replies in (docs/PROTOCOL.md, docs/KFSD.md).
 //!
-//! Of look-ups the server has the header of a node, and no other yet. What kfsd tells besides is asked for at the connection:
-//! the moment, calls that are numbered, so that none is made twice, and which leases others want. An older one tells none of it.
+//! What kfsd tells besides is asked for at the connection: the moment, calls that are numbered, so that none is made twice, and
+//! which leases others want. An older one tells none of it, and an older server has no look-ups.
 
-use crate::desk::{Answer, Desk, LeaseKind, LeaseRefusal, RowPart, Unanswered, Wanted, Wish, Wrong};
+use crate::desk::{Answer, Blocks, Desk, LeaseKind, LeaseRefusal, RowPart, Unanswered, Wanted, Wish, Wrong};
 use crate::entry::Kind;
 use crate::fault::Reason;
 use crate::name::Name;
@@ -30,9 +30,22 @@ const NUMBERED: u8 = 0xf2;
 /// How long a submission of which nobody knows how it ended is handed in again, and after which pause.
 const AGAIN: Duration = Duration::from_secs(30);
 const PAUSE: Duration = Duration::from_millis(50);
-/// The look-up of a node's header, and the first byte of what is found.
+/// The look-ups of a node's header, of a name, of names, of bytes, and of the places of the tiers.
 const NODE: u8 = 0x40;
+const FIND: u8 = 0x43;
+const NAMES: u8 = 0x44;
+const READ: u8 = 0x45;
+const PLACES: u8 = 0x46;
+/// The first bytes of what they find: of a header, of why the client may not ask, of a name, of names, of bytes, and of places.
 const FOUND_NODE: u8 = 1;
+const FOUND_FAULT: u8 = 4;
+const FOUND_NAME: u8 = 5;
+const FOUND_NAMES: u8 = 6;
+const FOUND_BYTES: u8 = 7;
+const FOUND_PLACES: u8 = 8;
+/// The most bytes that a look-up finds, and how many a name takes at most.
+const FOUND_LIMIT: usize = 65_536;
+const NAME_ROOM: usize = 260;
 /// The tags of replies.
 const ANSWERED: u8 = 1;
 const REFUSED: u8 = 2;
@@ -379,28 +392,113 @@ fn found_header(bytes: &[u8]) -> Option<Option<Header>> {
     Some(Some(Header { kind, mode, uid, gid, links: fields.short()?, size: fields.long()? }))
 }
 
+/// Where a name leads that was looked up.
+fn found_name(bytes: &[u8]) -> Option<Option<u32>> {
+    let mut fields = Fields(bytes);
+    match (fields.byte()?, fields.byte()?) {
+        (FOUND_NAME, 0) => Some(None),
+        (FOUND_NAME, 1) => Some(Some(fields.word()?)),
+        _ => None,
+    }
+}
+
+/// Names that were looked up, and whether there are more behind them.
+fn found_names(bytes: &[u8]) -> Option<(Vec<(Name, u32)>, bool)> {
+    let mut fields = Fields(bytes);
+    let (found, has_more) = (fields.byte()?, fields.byte()?);
+    if found != FOUND_NAMES || has_more > 1 {
+        return None;
+    }
+    let mut names = Vec::new();
+    while !fields.0.is_empty() {
+        let (number, length) = (fields.word()?, usize::from(fields.byte()?));
+        let name = Name::new(fields.0.get(..length)?).ok()?;
+        fields.0 = &fields.0[length..];
+        names.push((name, number));
+    }
+    // Who has more to tell has told something.
+    (has_more == 0 || !names.is_empty()).then_some((names, has_more == 1))
+}
+
+impl Connection {
+    /// What a look-up finds; none where there is no such node, or it is one of the other kind.
+    fn look_up(&mut self, body: &[u8]) -> Result<Option<Vec<u8>>, Unshown> {
+        let found = match self.ask(body)? {
+            Reply::Found(found) => found,
+            Reply::Refused(3) => return Err(Unshown::NoSuchLookUp),
+            Reply::Refused(1 | 5) => return Err(Unshown::NotAllowed),
+            _ => return Err(nonsense(body)),
+        };
+        match found[..] {
+            [FOUND_FAULT, 2..=4] => Ok(None),
+            [FOUND_FAULT, _] => Err(Unshown::NotAllowed),
+            _ => Ok(Some(found)),
+        }
+    }
+}
+
+/// The body of a look-up of a node.
+fn look_up_body(tag: u8, number: u32) -> Vec<u8> {
+    let mut body = vec![tag];
+    body.extend_from_slice(&number.to_be_bytes());
+    body
+}
+
 impl Shown for Connection {
     fn header(&mut self, number: u32) -> Result<Option<Header>, Unshown> {
-        let mut body = vec![NODE];
-        body.extend_from_slice(&number.to_be_bytes());
-        match self.ask(&body)? {
-            Reply::Found(bytes) => found_header(&bytes).ok_or_else(|| nonsense(&body)),
-            Reply::Refused(5) => Err(Unshown::NotAllowed),
-            Reply::Refused(3) => Err(Unshown::NoSuchLookUp),
-            _ => Err(nonsense(&body)),
+        let body = look_up_body(NODE, number);
+        let found = self.look_up(&body)?.unwrap_or_default();
+        found_header(&found).ok_or_else(|| nonsense(&body))
+    }
+
+    fn find(&mut self, directory: u32, name: &Name) -> Result<Option<u32>, Unshown> {
+        let mut body = look_up_body(FIND, directory);
+        body.extend_from_slice(name.as_bytes());
+        match self.look_up(&body)? {
+            Some(found) => found_name(&found).ok_or_else(|| nonsense(&body)),
+            None => Ok(None),
         }
     }
 
-    fn find(&mut self, _directory: u32, _name: &Name) -> Result<Option<u32>, Unshown> {
-        Err(Unshown::NoSuchLookUp)
+    fn list(&mut self, directory: u32, behind: Option<&Name>, most: usize) -> Result<Vec<(Name, u32)>, Unshown> {
+        let mut names: Vec<(Name, u32)> = Vec::new();
+        let mut has_more = true;
+        while has_more && names.len() < most {
+            let room = most.saturating_sub(names.len()).saturating_mul(NAME_ROOM).min(FOUND_LIMIT);
+            let mut body = look_up_body(NAMES, directory);
+            body.extend_from_slice(&(room as u32).to_be_bytes());
+            if let Some(last) = names.last().map(|(name, _)| name).or(behind) {
+                body.extend_from_slice(last.as_bytes());
+            }
+            let found = match self.look_up(&body)? {
+                Some(found) => found_names(&found).ok_or_else(|| nonsense(&body))?,
+                None => return Ok(Vec::new()),
+            };
+            names.extend(found.0);
+            has_more = found.1;
+        }
+        names.truncate(most);
+        Ok(names)
     }
 
-    fn list(&mut self, _directory: u32, _behind: Option<&Name>, _most: usize) -> Result<Vec<(Name, u32)>, Unshown> {
-        Err(Unshown::NoSuchLookUp)
-    }
-
-    fn read(&mut self, _number: u32, _start: u64, _most: usize) -> Result<Vec<u8>, Unshown> {
-        Err(Unshown::NoSuchLookUp)
+    fn read(&mut self, number: u32, start: u64, most: usize) -> Result<Vec<u8>, Unshown> {
+        let mut bytes = Vec::new();
+        while bytes.len() < most {
+            let count = (most - bytes.len()).min(FOUND_LIMIT);
+            let mut body = look_up_body(READ, number);
+            body.extend_from_slice(&start.saturating_add(bytes.len() as u64).to_be_bytes());
+            body.extend_from_slice(&(count as u32).to_be_bytes());
+            let found = match self.look_up(&body)? {
+                Some(found) if found.first() == Some(&FOUND_BYTES) && found.len() <= count + 1 => found,
+                Some(_) => return Err(nonsense(&body)),
+                None => break,
+            };
+            bytes.extend_from_slice(&found[1..]);
+            if found.len() <= count {
+                break;
+            }
+        }
+        Ok(bytes)
     }
 }
 
@@ -458,6 +556,21 @@ impl Desk for Connection {
         Ok(self.clock.map_or(0, |clock| clock.moment + clock.told_at.elapsed().as_secs() + 1))
     }
 
+    /// Those of the first tier. Logs are written there alone.
+    fn blocks(&mut self) -> Result<Option<Blocks>, Unanswered> {
+        let found = match self.look_up(&[PLACES]) {
+            Ok(found) => found.unwrap_or_default(),
+            Err(Unshown::NoSuchLookUp) => return Ok(None),
+            Err(fault) => return Err(fault.into()),
+        };
+        let mut fields = Fields(&found);
+        let told = (fields.byte(), fields.word(), fields.word());
+        match told {
+            (Some(FOUND_PLACES), Some(all), Some(free)) => Ok(Some(Blocks { all, free })),
+            _ => Err(nonsense(&[PLACES]).into()),
+        }
+    }
+
     fn longest_term(&self) -> u64 {
         match self.clock {
             // One moment less, since this client's may be ahead of kfsd's.
@@ -488,6 +601,19 @@ mod tests {
         let held = [0, 0, 0, 9, 8, 7, 0, 0, 0, 0, 0, 0, 0, 0, 0, 0, 0, 0, 8];
         assert_eq!(told_of(&held), Some(Told::Unleased(LeaseRefusal::Held(8))));
         assert_eq!(told_of(&[0, 0, 0, 1, 6, 0]), None);
+    }
+
+    #[test]
+    fn names_are_those_of_the_protocol() {
+        let name = |text: &str| Name::new(text.as_bytes()).unwrap();
+        assert_eq!(found_name(&[5, 0]), Some(None));
+        assert_eq!(found_name(&[5, 1, 0, 0, 1, 0]), Some(Some(256)));
+        assert_eq!(found_name(&[5, 1, 0]), None);
+        let two = [6, 1, 0, 0, 0, 5, 1, b'a', 0, 0, 0, 6, 2, b'b', b'c'];
+        assert_eq!(found_names(&two), Some((vec![(name("a"), 5), (name("bc"), 6)], true)));
+        assert_eq!(found_names(&[6, 0]), Some((vec![], false)));
+        assert_eq!(found_names(&[6, 1]), None);
+        assert_eq!(found_names(&two[..14]), None);
     }
 
     #[test]

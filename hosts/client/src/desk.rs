@@ -161,6 +161,15 @@ pub enum Wish {
     Path(Vec<u8>),
 }
 
+/// How many blocks of 4,096 bytes there are where logs are written to.
+#[derive(Clone, Copy, Debug, PartialEq, Eq)]
+pub struct Blocks {
+    /// All of them.
+    pub all: u32,
+    /// Those that are free.
+    pub free: u32,
+}
+
 /// A desk, as one client comes to it.
 pub trait Desk: Shown {
     /// Asks for a lease, or for a later end of one.
@@ -174,6 +183,11 @@ pub trait Desk: Shown {
 
     /// The moment by which leases end, as far as the client knows it.
     fn moment(&mut self) -> Result<u64, Unanswered>;
+
+    /// How many blocks there are, where that is told.
+    fn blocks(&mut self) -> Result<Option<Blocks>, Unanswered> {
+        Ok(None)
+    }
 
     /// For how many moments a lease may live at most.
     fn longest_term(&self) -> u64 {

@@ -329,9 +329,6 @@ impl<D: Desk> Session<D> {
         let wanted = Wanted { number, path: self.draft.paths().path(number), kind, end };
         let answer = self.desk.lease(&wanted)?;
         if answer.is_ok() {
-            if !self.leases.reads(number) {
-                self.cache.forget(number);
-            }
             self.leases.grant(number, kind, end);
         }
         Ok(answer)

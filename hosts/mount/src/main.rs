@@ -13,6 +13,7 @@ use kfs_mount::serving::serve;
 use kfs_mount::volume::Volume;
 use nix::sys::signal::{SigSet, Signal};
 use nix::sys::signalfd::{SfdFlags, SignalFd};
+use nix::unistd::{setegid, seteuid, Gid, Uid};
 use std::path::PathBuf;
 
 /// Mounts a desk's tree for one user.
@@ -36,6 +37,9 @@ struct Words {
     /// Its group.
     #[clap(long)]
     gid: Option<u32>,
+    /// Its other groups, as the desk has them.
+    #[clap(long = "group")]
+    groups: Vec<u32>,
     /// Lets other users of this machine in, as the modes say.
     #[clap(long)]
     allow_other: bool,
@@ -49,12 +53,9 @@ fn signals() -> Result<SignalFd> {
     Ok(SignalFd::with_flags(&set, SfdFlags::SFD_CLOEXEC)?)
 }
 
-fn run(words: &Words, client: Client, desk: impl Desk) -> Result<()> {
-    let (uid, gid) = (client.uid, client.gid);
+/// Serves the kernel until it is told to stop.
+fn run(mut mounted: Mounted, mut ends: SignalFd, client: Client, desk: impl Desk) -> Result<()> {
     let mut volume = Volume::new(Session::new(desk, client, Options::default()));
-    let mut ends = signals()?;
-    let mut mounted = Mounted::new(&words.at, uid, gid, words.allow_other)
-        .with_context(|| format!("{} can't be mounted", words.at.display()))?;
     println!("mounted");
     let served = serve(&mut mounted.device, &mut ends, &mut volume);
     volume.close().context("the last log isn't kept")?;
@@ -67,16 +68,23 @@ fn main() -> Result<()> {
     let mut client = Client::of_process(words.client, [2, 65_536])?;
     client.uid = words.uid.unwrap_or(client.uid);
     client.gid = words.gid.unwrap_or(client.gid);
+    client.groups = words.groups.clone();
+    let ends = signals()?;
+    let mounted = Mounted::new(&words.at, client.uid, client.gid, words.allow_other)
+        .with_context(|| format!("{} can't be mounted", words.at.display()))?;
+    // kfsd asks the kernel who connects.
+    setegid(Gid::from_raw(client.gid))?;
+    seteuid(Uid::from_raw(client.uid))?;
     if let Some(path) = &words.socket {
         let desk = Connection::open(path, words.client)?;
         client.grant = desk.grant();
-        return run(&words, client, desk);
+        return run(mounted, ends, client, desk);
     }
     match &words.program {
         Some(path) => {
             let desk = Program::start(path, [65_536, 16, 16], std::slice::from_ref(&client))?;
-            run(&words, client, desk)
+            run(mounted, ends, client, desk)
         }
-        None => run(&words, client.clone(), Memory::new(client)),
+        None => run(mounted, ends, client.clone(), Memory::new(client)),
     }
 }

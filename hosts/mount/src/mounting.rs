@@ -1,6 +1,7 @@
 //! How the tree gets into the system's.
 
 use nix::mount::{mount, umount2, MntFlags, MsFlags};
+use nix::unistd::{seteuid, Uid};
 use std::fs::{File, OpenOptions};
 use std::io;
 use std::os::unix::io::AsRawFd;
@@ -29,7 +30,8 @@ impl Mounted {
 
 impl Drop for Mounted {
     fn drop(&mut self) {
-        // It may be gone by now.
+        // The superuser has mounted it, and alone may unmount it. It may be gone by now.
+        let _ = seteuid(Uid::from_raw(0));
         let _ = umount2(&self.at, MntFlags::MNT_DETACH);
     }
 }

@@ -3,6 +3,8 @@
 use crate::attributes::{attribute_reply, entry, now, type_bits, Shape};
 use crate::protocol::{init_reply, reply_bytes, Operation, Reply, Request, REQUEST};
 use crate::volume::{Attributes, Volume};
+use kfs_client::desk::Blocks;
+use kfs_client::node::GREATEST_NUMBER;
 use kfs_client::{Desk, Kind, Name};
 use nix::errno::Errno;
 use nix::poll::{poll, PollFd, PollFlags};
@@ -84,7 +86,7 @@ fn answer_of<D: Desk>(volume: &mut Volume<D>, request: &mut Request<'_>) -> Resu
             let shape = volume.set_attributes(node, &wanted)?;
             Ok(attribute_reply(node, &shape, &volume.clocks))
         }
-        Operation::StatFileSystem => Ok(file_system_reply()),
+        Operation::StatFileSystem => volume.blocks().map(file_system_reply),
         Operation::Sync => volume.sync().map(|()| Reply::default()),
         Operation::Flush => Ok(Reply::default()),
         Operation::Access => {
@@ -196,12 +198,11 @@ fn open_reply(handle: u64) -> Reply {
     reply
 }
 
-/// `fuse_kstatfs`. The desk tells nobody how much is free yet, so this is what it has at most.
-fn file_system_reply() -> Reply {
+/// `fuse_kstatfs`: blocks, and nodes, of which a desk has so many at most. How many of these are free nobody tells.
+fn file_system_reply(blocks: Blocks) -> Reply {
     let mut reply = Reply::default();
-    for _ in ["blocks", "free ones", "those for this user", "nodes", "free ones"] {
-        reply.long(65_536);
-    }
+    reply.long(blocks.all.into()).long(blocks.free.into()).long(blocks.free.into());
+    reply.long(GREATEST_NUMBER.into()).long(GREATEST_NUMBER.into());
     reply.word(4096).word(255).word(4096).word(0).zeros(24);
     reply
 }

@@ -4,6 +4,7 @@ use crate::attributes::{now, Clocks, Shape, Times};
 use crate::handles::{Handles, Leftover};
 use crate::links::{link_bytes, target_of, LENGTH};
 use kfs_client::client::Access;
+use kfs_client::desk::Blocks;
 use kfs_client::{Desk, Failure, HandInFault, Header, Kind, Name, Session};
 use nix::errno::Errno;
 
@@ -85,6 +86,12 @@ impl<D: Desk> Volume<D> {
     pub fn sync(&mut self) -> Result<(), Errno> {
         self.session.sync().map_err(|fault| errno(fault.into()))?;
         self.owed.take().map_or(Ok(()), Err)
+    }
+
+    /// How many blocks there are, and how many of them are free: where that isn't told, as many as a desk has at most.
+    pub fn blocks(&mut self) -> Result<Blocks, Errno> {
+        let blocks = self.session.desk().blocks().map_err(|fault| fault.errno())?;
+        Ok(blocks.unwrap_or(Blocks { all: 65_536, free: 65_536 }))
     }
 
     // ---- Reads

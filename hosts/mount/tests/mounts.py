@@ -9,6 +9,7 @@ import os
 import re
 import signal
 import stat
+import struct
 import subprocess
 import sys
 import tempfile
@@ -17,6 +18,7 @@ import traceback
 
 import beside
 from clients import kfs_program
+from running import Daemon, user
 
 HERE = os.path.dirname(os.path.realpath(__file__))
 TOP = os.path.dirname(os.path.dirname(os.path.dirname(HERE)))
@@ -46,13 +48,13 @@ def is_there(word):
 
 
 @contextlib.contextmanager
-def mounted(*words):
-    """A folder at which a new tree is mounted, for the user. It's empty, and each may write there."""
+def mounted(*words, uid=USER):
+    """A folder at which a tree is mounted, for a user. Others may come in, too, as its modes say."""
     with tempfile.TemporaryDirectory(prefix="kfs-mount-") as room:
         os.chmod(room, 0o755)
         folder = f"{room}/at"
         os.mkdir(folder)
-        process = subprocess.Popen([f"{OUT}/debug/kfs-mount", folder, "--uid", str(USER), "--gid", str(USER), "--allow-other", *words], stdout=subprocess.PIPE, text=True)
+        process = subprocess.Popen([f"{OUT}/debug/kfs-mount", folder, "--uid", str(uid), "--gid", str(uid), "--allow-other", *words], stdout=subprocess.PIPE, text=True)
         try:
             assert process.stdout.readline() == "mounted\n"
             yield folder
@@ -93,23 +95,33 @@ def snapshot(folder):
     return found
 
 
-def as_user(function, *words):
-    """Calls a function as the user, in a process of its own."""
+def in_child(function, *words, user=None):
+    """Calls a function in a process of its own, as a user if one is told. Returns its number."""
     child = os.fork()
-    if child == 0:
-        status = 1
-        try:
+    if child:
+        return child
+    status = 1
+    try:
+        if user is not None:
             os.setgroups([])
-            os.setgid(USER)
-            os.setuid(USER)
+            os.setgid(user)
+            os.setuid(user)
             os.umask(0o022)
-            function(*words)
-            status = 0
-        except BaseException:
-            traceback.print_exc(file=sys.stdout)
-        sys.stdout.flush()
-        os._exit(status)
-    assert os.waitstatus_to_exitcode(os.waitpid(child, 0)[1]) == 0
+        function(*words)
+        status = 0
+    except BaseException:
+        traceback.print_exc(file=sys.stdout)
+    sys.stdout.flush()
+    os._exit(status)
+
+
+def wait(child):
+    return os.waitstatus_to_exitcode(os.waitpid(child, 0)[1])
+
+
+def as_user(function, *words, user=USER):
+    """Calls a function as the user, in a process of its own, and waits for it."""
+    assert wait(in_child(function, *words, user=user)) == 0
 
 
 def can_mount():
@@ -145,11 +157,78 @@ def real_programs(_made):
         print(f"    {name}: {len(due[1])} paths alike ({time.monotonic() - began:.1f} s)")
 
 
-def run_as_owner(folder, script):
-    """A script in a folder that the user has made."""
-    ran = subprocess.run(["bash", "-ec", f"mkdir work && cd work && {{ {script}; }}"], cwd=folder, env={**os.environ, **GIT, "HOME": "/nonexistent"}, user=USER, group=USER, extra_groups=[], umask=0o022, capture_output=True, text=True, timeout=600)
+def run_as_owner(folder, script, user=USER):
+    """A script in a folder that the user has made: what it says and leaves."""
+    home = f"{folder}/work-{user}"
+    words = ["bash", "-ec", f"mkdir {home} && cd {home} && {{ {script}; }}"]
+    ran = subprocess.run(words, cwd="/", env={**os.environ, **GIT, "HOME": "/nonexistent"}, user=user, group=user, extra_groups=[], umask=0o022, capture_output=True, text=True, timeout=600)
     assert ran.returncode == 0, ran.stderr[-2000:] + ran.stdout[-2000:]
-    return ran.stdout.replace(folder, "."), snapshot(folder)
+    return ran.stdout.replace(home, "."), snapshot(home)
+
+
+def has_look_ups(daemon):
+    """Whether the server of this kfsd finds names."""
+    with contextlib.closing(daemon.connect(7)) as it:
+        it.send(1, b"\x43" + struct.pack(">I", 1) + b"a")
+        return it.next()[1][:1] == b"\x03"
+
+
+def share(folder, user, count):
+    """A user makes files in a folder of all, with bytes of its own."""
+    for index in range(count):
+        path = f"{folder}/shared/{user}-{index}"
+        with open(f"{path}.part", "w", encoding="ascii") as it:
+            it.write(f"{user} {index}\n" * index)
+            it.flush()
+            os.fsync(it.fileno())
+        os.rename(f"{path}.part", path)
+
+
+def as_programs(folder, user):
+    """What a user does: all programs, beside a tmpfs, and files in the folder of all."""
+    for name, script in PROGRAMS:
+        if subprocess.run(["which", name], check=False, capture_output=True).returncode:
+            continue
+        with tmpfs() as other:
+            due = run_as_owner(other, script, user)
+        found = run_as_owner(folder, script, user)
+        assert found == due, (name, found[0], due[0])
+        # The next one begins anew.
+        os.rename(f"{folder}/work-{user}", f"{folder}/done-{user}-{time.monotonic_ns()}")
+    as_user(share, folder, user, 20, user=user)
+
+
+def three_users(made):
+    """Three users at once, each with a mount through kfsd: each sees what all have made, and kfs_serve is killed meanwhile."""
+    if not can_mount():
+        return
+    users = [user(USER + at, 7 + at, (2 + at * 20_000, 1 + (at + 1) * 20_000)) for at in range(3)]
+    with Daemon(*made, users=users, tiers=(16_384, 16, 16)).start() as daemon, contextlib.ExitStack() as stack:
+        if not has_look_ups(daemon):
+            print("    kfs_serve has no look-ups: left out")
+            return
+        words = [("--socket", f"{daemon.room}/socket", "--client", str(it["client"])) for it in users]
+        folders = [stack.enter_context(mounted(*each, uid=it["uid"])) for each, it in zip(words, users)]
+        os.mkdir(f"{folders[0]}/shared")
+        os.chmod(f"{folders[0]}/shared", 0o777)
+        it = os.open(f"{folders[0]}/shared", os.O_RDONLY)
+        os.fsync(it)
+        os.close(it)
+        began = time.monotonic()
+        children = [in_child(as_programs, folder, it["uid"]) for folder, it in zip(folders, users)]
+        for _ in range(3):
+            time.sleep(1)
+            daemon.kill_desk()
+        assert [wait(child) for child in children] == [0, 0, 0]
+        due = {f"{it['uid']}-{index}": f"{it['uid']} {index}\n" * index for it in users for index in range(20)}
+        for folder in folders:
+            time.sleep(6)
+            found = {}
+            for name in os.listdir(f"{folder}/shared"):
+                with open(f"{folder}/shared/{name}", encoding="ascii") as it:
+                    found[name] = it.read()
+            assert found == due
+        print(f"    three users ({time.monotonic() - began:.1f} s)")
 
 
 def random_calls(_made):
@@ -164,4 +243,4 @@ def random_calls(_made):
             assert snapshot(folder) == snapshot(other)
 
 
-TESTS = [a_mount, real_programs, random_calls]
+TESTS = [a_mount, real_programs, random_calls, three_users]
