@@ -30,6 +30,8 @@ pub struct Draft {
     paths: Paths,
     /// The number that is tried first for the next new node.
     next: u32,
+    /// A number that was found to be free. Nobody else gives it to a node.
+    free: Option<u32>,
     /// The file of the last entry and the place behind its payload, where that is a Write.
     last_write: Option<(u32, u64)>,
 }
@@ -47,6 +49,7 @@ impl Draft {
             created: BTreeSet::new(),
             paths: Paths::default(),
             next,
+            free: None,
             last_write: None,
         }
     }
@@ -193,6 +196,7 @@ impl Draft {
         for number in (from..=last).chain(first..from) {
             if self.is_free(shown, number)? {
                 self.next = number;
+                self.free = Some(number);
                 return Ok(number);
             }
         }
@@ -201,8 +205,8 @@ impl Draft {
 
     /// Whether no node has this number, or had it before the log.
     pub(crate) fn is_free(&self, shown: &mut dyn Shown, number: u32) -> Result<bool, Unshown> {
-        if self.has_created(number) {
-            return Ok(false);
+        if self.has_created(number) || self.free == Some(number) {
+            return Ok(!self.has_created(number));
         }
         let before = match self.nodes.get(&number) {
             Some(change) => change.before,
