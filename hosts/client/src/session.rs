@@ -202,7 +202,7 @@ impl<D: Desk> Session<D> {
 
     /// Makes a file or a directory. Returns its number.
     pub fn create(&mut self, directory: u32, name: &Name, kind: Kind, mode: u16) -> Result<u32, Failure> {
-        self.call += 1;
+        self.begin_call()?;
         let Session { desk, cache, leases, draft, .. } = self;
         let number = draft.free_number(&mut Cached { shown: desk, cache, leases });
         let number = number.map_err(|fault| Failure::Entry { errno: fault.errno(), fault })?;
@@ -212,7 +212,7 @@ impl<D: Desk> Session<D> {
 
     /// Writes bytes at an offset. Returns how many were taken: fewer only where the others can't be.
     pub fn write(&mut self, number: u32, offset: u64, bytes: &[u8]) -> Result<usize, Failure> {
-        self.call += 1;
+        self.begin_call()?;
         let mut done = 0;
         while done < bytes.len() {
             let (at, rest) = (offset.saturating_add(done as u64), &bytes[done..]);
@@ -264,8 +264,17 @@ impl<D: Desk> Session<D> {
         self.change(&Entry::Regroup { number, group })
     }
 
-    fn change(&mut self, entry: &Entry) -> Result<(), Failure> {
+    /// The next call begins. A log of which nobody knows whether it was done takes no entry: that is found out before.
+    fn begin_call(&mut self) -> Result<(), Failure> {
         self.call += 1;
+        if self.is_uncertain {
+            self.sync()?;
+        }
+        Ok(())
+    }
+
+    fn change(&mut self, entry: &Entry) -> Result<(), Failure> {
+        self.begin_call()?;
         self.enter(entry)
     }
 

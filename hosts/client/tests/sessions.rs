@@ -269,6 +269,31 @@ fn a_lost_answer_is_found_out() {
 }
 
 #[test]
+fn a_log_that_may_be_done_takes_no_entry() {
+    for trouble in [Trouble::AnswerLost, Trouble::CallLost] {
+        let [mut mine, ..] = sessions(&quick());
+        let file = mine.open(b"/f", Some(0o644)).unwrap();
+        mine.write(file, 0, b"abc").unwrap();
+        mine.desk().trouble = trouble;
+        mine.sync().unwrap_err();
+        // It is found out first, so this is an entry of the next log.
+        mine.rename(ROOT, &name("f"), ROOT, &name("g")).unwrap();
+        assert_eq!(mine.draft().log().len(), 1);
+        mine.write(file, 3, b"d").unwrap();
+        mine.sync().unwrap();
+        assert_eq!(kept(&mut mine, "g").unwrap(), b"abcd");
+        assert_eq!(kept(&mut mine, "f"), None);
+        mine.write(file, 4, b"e").unwrap();
+        mine.desk().trouble = trouble;
+        mine.sync().unwrap_err();
+        // Nor is it added to the last one.
+        mine.write(file, 5, b"f").unwrap();
+        mine.sync().unwrap();
+        assert_eq!(kept(&mut mine, "g").unwrap(), b"abcdef");
+    }
+}
+
+#[test]
 fn a_lease_is_had_below_a_directory_that_the_log_has_moved() {
     let [mut mine, mut other, _] = sessions(&quick());
     let directory = other.create(ROOT, &name("d"), Kind::Directory, 0o777).unwrap();
