@@ -1,0 +1,130 @@
+//! What a server has shown of nodes on which a lease is held. Nobody else changes these, so it is shown still.
+
+use crate::draft::Draft;
+use crate::leases::Leases;
+use crate::name::Name;
+use crate::node::Header;
+use crate::shown::{Shown, Unshown};
+use std::collections::{BTreeMap, HashMap};
+
+/// Bytes are asked for and kept in blocks of so many.
+const BLOCK: u64 = 65_536;
+/// The most blocks that are kept. Where there would be more, all go.
+const BLOCKS: usize = 256;
+
+/// What was shown.
+#[derive(Debug, Default)]
+pub struct Cache {
+    headers: HashMap<u32, Option<Header>>,
+    names: HashMap<u32, HashMap<Name, Option<u32>>>,
+    blocks: HashMap<u32, BTreeMap<u64, Vec<u8>>>,
+    block_count: usize,
+}
+
+impl Cache {
+    /// What was shown of a node may be otherwise by now.
+    pub fn forget(&mut self, number: u32) {
+        self.headers.remove(&number);
+        self.names.remove(&number);
+        let blocks = self.blocks.remove(&number);
+        self.block_count -= blocks.map_or(0, |blocks| blocks.len());
+    }
+
+    /// All may be otherwise by now.
+    pub fn clear(&mut self) {
+        *self = Cache::default();
+    }
+
+    /// What a log has changed was done.
+    pub fn land(&mut self, draft: &Draft) {
+        for number in draft.changed() {
+            self.forget(number);
+        }
+    }
+
+    fn keep_block(&mut self, number: u32, index: u64, bytes: Vec<u8>) {
+        if self.block_count == BLOCKS {
+            self.blocks.clear();
+            self.block_count = 0;
+        }
+        let is_new = self.blocks.entry(number).or_default().insert(index, bytes).is_none();
+        self.block_count += usize::from(is_new);
+    }
+}
+
+/// A server behind a cache.
+pub struct Cached<'a> {
+    /// The server.
+    pub shown: &'a mut dyn Shown,
+    /// What it has shown.
+    pub cache: &'a mut Cache,
+    /// What may be kept.
+    pub leases: &'a Leases,
+}
+
+impl Cached<'_> {
+    /// A block of a file on which there is a lease.
+    fn block(&mut self, number: u32, index: u64) -> Result<&[u8], Unshown> {
+        let is_kept = self.cache.blocks.get(&number).map_or(false, |blocks| blocks.contains_key(&index));
+        if !is_kept {
+            let bytes = self.shown.read(number, index * BLOCK, BLOCK as usize)?;
+            self.cache.keep_block(number, index, bytes);
+        }
+        Ok(self.cache.blocks.get(&number).and_then(|blocks| blocks.get(&index)).map_or(&[], Vec::as_slice))
+    }
+}
+
+impl Shown for Cached<'_> {
+    fn header(&mut self, number: u32) -> Result<Option<Header>, Unshown> {
+        let may_keep = self.leases.reads(number);
+        if let Some(header) = self.cache.headers.get(&number).filter(|_| may_keep) {
+            return Ok(*header);
+        }
+        let header = self.shown.header(number)?;
+        if may_keep {
+            self.cache.headers.insert(number, header);
+        }
+        Ok(header)
+    }
+
+    fn find(&mut self, directory: u32, name: &Name) -> Result<Option<u32>, Unshown> {
+        let may_keep = self.leases.reads(directory);
+        let kept = self.cache.names.get(&directory).and_then(|names| names.get(name));
+        if let Some(found) = kept.filter(|_| may_keep) {
+            return Ok(*found);
+        }
+        let found = self.shown.find(directory, name)?;
+        if may_keep {
+            self.cache.names.entry(directory).or_default().insert(name.clone(), found);
+        }
+        Ok(found)
+    }
+
+    fn list(&mut self, directory: u32, behind: Option<&Name>, most: usize) -> Result<Vec<(Name, u32)>, Unshown> {
+        let found = self.shown.list(directory, behind, most)?;
+        if self.leases.reads(directory) {
+            let names = self.cache.names.entry(directory).or_default();
+            names.extend(found.iter().map(|(name, number)| (name.clone(), Some(*number))));
+        }
+        Ok(found)
+    }
+
+    fn read(&mut self, number: u32, start: u64, most: usize) -> Result<Vec<u8>, Unshown> {
+        if !self.leases.reads(number) {
+            return self.shown.read(number, start, most);
+        }
+        let mut bytes = Vec::new();
+        while bytes.len() < most {
+            let at = start + bytes.len() as u64;
+            let left = most - bytes.len();
+            let block = self.block(number, at / BLOCK)?;
+            let from = ((at % BLOCK) as usize).min(block.len());
+            let until = block.len().min(from.saturating_add(left));
+            bytes.extend_from_slice(&block[from..until]);
+            if until < BLOCK as usize {
+                break;
+            }
+        }
+        Ok(bytes)
+    }
+}

@@ -1,0 +1,627 @@
+//! A desk behind kfsd's Unix socket: frames out, replies in (docs/PROTOCOL.md, docs/KFSD.md).
+//!
+//! What kfsd tells besides is asked for at the connection: the moment, calls that are numbered, so that none is made twice, and
+//! which leases others want. An older one tells none of it, and an older server has no look-ups.
+
+use crate::desk::{Answer, Blocks, Desk, LeaseKind, LeaseRefusal, RowPart, Unanswered, Wanted, Wish, Wrong};
+use crate::entry::Kind;
+use crate::fault::Reason;
+use crate::name::Name;
+use crate::node::Header;
+use crate::shown::{Shown, Unshown};
+use crate::wants::Wants;
+use std::collections::hash_map::RandomState;
+use std::hash::{BuildHasher, Hasher};
+use std::io::{self, Read, Write};
+use std::os::unix::net::UnixStream;
+use std::path::{Path, PathBuf};
+use std::thread::sleep;
+use std::time::{Duration, Instant};
+use thiserror::Error;
+
+/// The most bytes of a reply behind its head.
+const REPLY_LIMIT: u32 = 1 << 24;
+/// The body that asks kfsd who the client is, and the tag of its answer.
+const HELLO: u8 = 0xf0;
+/// The same of the moment.
+const MOMENT: u8 = 0xf1;
+/// The tag before a number and a call that is made once under it.
+const NUMBERED: u8 = 0xf2;
+/// How long a submission of which nobody knows how it ended is handed in again, and after which pause.
+const AGAIN: Duration = Duration::from_secs(30);
+const PAUSE: Duration = Duration::from_millis(50);
+/// The look-ups of a node's header, of a name, of names, of bytes, and of the places of the tiers.
+const NODE: u8 = 0x40;
+const FIND: u8 = 0x43;
+const NAMES: u8 = 0x44;
+const READ: u8 = 0x45;
+const PLACES: u8 = 0x46;
+/// The first bytes of what they find: of a header, of why the client may not ask, of a name, of names, of bytes, and of places.
+const FOUND_NODE: u8 = 1;
+const FOUND_FAULT: u8 = 4;
+const FOUND_NAME: u8 = 5;
+const FOUND_NAMES: u8 = 6;
+const FOUND_BYTES: u8 = 7;
+const FOUND_PLACES: u8 = 8;
+/// The most bytes that a look-up finds, and how many a name takes at most.
+const FOUND_LIMIT: usize = 65_536;
+const NAME_ROOM: usize = 260;
+/// The tags of replies.
+const ANSWERED: u8 = 1;
+const REFUSED: u8 = 2;
+const FOUND: u8 = 3;
+
+/// Why there is no connection.
+#[derive(Debug, Error)]
+pub enum Unconnected {
+    /// The socket can't be reached.
+    #[error("the socket can't be reached: {0}")]
+    Socket(#[from] io::Error),
+    /// kfsd doesn't know this user.
+    #[error("this user isn't listed")]
+    Unlisted,
+    /// The user has as many connections as it may.
+    #[error("this user has too many connections")]
+    TooMany,
+    /// The user is another client, or has another grant by now.
+    #[error("this user is another client")]
+    Another,
+    /// What came is no answer.
+    #[error("no answer to a hello")]
+    Nonsense,
+}
+
+/// What a reply tells.
+#[derive(Clone, Debug, PartialEq, Eq)]
+enum Reply {
+    /// The bytes of an answer.
+    Answered(Vec<u8>),
+    /// What a look-up has found.
+    Found(Vec<u8>),
+    /// The code of a refusal.
+    Refused(u8),
+    /// The client, and its grant.
+    Welcome(u32, [u32; 2]),
+    /// The moment, and for how many moments a lease may live at most; 0 for ever.
+    Moment(u64, u64),
+}
+
+/// Fields of a reply, read one after another. None where they end early.
+struct Fields<'a>(&'a [u8]);
+
+impl Fields<'_> {
+    fn array<const N: usize>(&mut self) -> Option<[u8; N]> {
+        let taken = self.0.get(..N)?.try_into().ok()?;
+        self.0 = &self.0[N..];
+        Some(taken)
+    }
+
+    fn byte(&mut self) -> Option<u8> {
+        self.array::<1>().map(|[byte]| byte)
+    }
+
+    fn short(&mut self) -> Option<u16> {
+        self.array().map(u16::from_be_bytes)
+    }
+
+    fn word(&mut self) -> Option<u32> {
+        self.array().map(u32::from_be_bytes)
+    }
+
+    fn long(&mut self) -> Option<u64> {
+        self.array().map(u64::from_be_bytes)
+    }
+}
+
+fn reply_of(said: &[u8]) -> Option<Reply> {
+    let (tag, rest) = said.split_first()?;
+    let mut fields = Fields(rest);
+    let reply = match *tag {
+        ANSWERED => Reply::Answered(rest.to_vec()),
+        FOUND => Reply::Found(rest.to_vec()),
+        REFUSED => Reply::Refused(fields.byte()?),
+        HELLO => Reply::Welcome(fields.word()?, [fields.word()?, fields.word()?]),
+        MOMENT => Reply::Moment(fields.long()?, fields.long()?),
+        _ => return None,
+    };
+    Some(reply)
+}
+
+/// The moment that kfsd has told. It is a second of its clock.
+#[derive(Clone, Copy, Debug)]
+struct Clock {
+    moment: u64,
+    told_at: Instant,
+    /// For how long a lease may live at most.
+    longest: u64,
+}
+
+/// A connection to kfsd. Where it breaks, the next call connects anew.
+#[derive(Debug)]
+pub struct Connection {
+    path: PathBuf,
+    stream: Option<UnixStream>,
+    client: u32,
+    grant: [u32; 2],
+    number: u32,
+    /// None where kfsd tells no moment, and takes no numbered calls.
+    clock: Option<Clock>,
+    /// The number of the next numbered call. Its upper half is random, so that other processes of the user have others.
+    next_call: u64,
+    wants: Option<Wants>,
+}
+
+impl Connection {
+    /// Connects to the socket as the client of this number, and asks for its grant. kfsd says a word to no other number.
+    pub fn open(path: &Path, client: u32) -> Result<Connection, Unconnected> {
+        let random = RandomState::new().build_hasher().finish();
+        let mut connection = Connection {
+            path: path.into(),
+            stream: None,
+            client,
+            grant: [0, 0],
+            number: 0,
+            clock: None,
+            next_call: random & !u64::from(u32::MAX),
+            wants: None,
+        };
+        connection.grant = connection.hello()?;
+        Ok(connection)
+    }
+
+    /// The number by which the server knows the client.
+    pub fn client(&self) -> u32 {
+        self.client
+    }
+
+    /// The first and the last number that the client may give to new nodes.
+    pub fn grant(&self) -> [u32; 2] {
+        self.grant
+    }
+
+    /// Closes the connection. The next call connects anew.
+    pub fn break_off(&mut self) {
+        self.stream = None;
+    }
+
+    fn hello(&mut self) -> Result<[u32; 2], Unconnected> {
+        let mut stream = UnixStream::connect(&self.path)?;
+        let grant = match exchange(&mut stream, self.number, self.client, &[HELLO])? {
+            Some(Reply::Welcome(client, grant)) if client == self.client => grant,
+            Some(Reply::Refused(5)) => return Err(Unconnected::Another),
+            Some(Reply::Refused(130)) => return Err(Unconnected::Unlisted),
+            Some(Reply::Refused(131)) => return Err(Unconnected::TooMany),
+            _ => return Err(Unconnected::Nonsense),
+        };
+        self.clock = match exchange(&mut stream, self.number, self.client, &[MOMENT])? {
+            Some(Reply::Moment(moment, longest)) => Some(Clock { moment, told_at: Instant::now(), longest }),
+            _ => None,
+        };
+        self.wants = match self.clock {
+            Some(_) => Some(Wants::ask(&self.path, self.client)?),
+            None => None,
+        };
+        self.stream = Some(stream);
+        Ok(grant)
+    }
+
+    /// Connects anew, where the connection is gone.
+    fn stream(&mut self) -> io::Result<&mut UnixStream> {
+        if self.stream.is_none() {
+            let told = self.hello().map_err(|fault| io::Error::new(io::ErrorKind::NotConnected, fault))?;
+            if told != self.grant {
+                self.stream = None;
+                return Err(io::Error::new(io::ErrorKind::NotConnected, Unconnected::Another));
+            }
+        }
+        self.stream.as_mut().ok_or_else(|| io::ErrorKind::NotConnected.into())
+    }
+
+    /// Sends a frame, and waits for its reply.
+    fn ask(&mut self, body: &[u8]) -> Result<Reply, Unshown> {
+        self.number = self.number.wrapping_add(1);
+        let (number, client) = (self.number, self.client);
+        let told = self.stream().and_then(|stream| exchange(stream, number, client, body));
+        if told.is_err() {
+            self.stream = None;
+        }
+        told?.ok_or_else(|| nonsense(body))
+    }
+
+    /// The answer to a call.
+    fn call(&mut self, body: &[u8]) -> Result<Told, Unanswered> {
+        match self.ask(body)? {
+            Reply::Answered(bytes) => told_of(&bytes).ok_or_else(|| nonsense(body).into()),
+            Reply::Refused(1) => Err(Unanswered::TooLong),
+            Reply::Refused(5) => Err(Unanswered::NotYours),
+            Reply::Refused(6 | 7) => Err(Unanswered::NoMemory),
+            Reply::Refused(128) => Err(Unanswered::Unknown),
+            Reply::Refused(129) => Err(Unanswered::Stopping),
+            Reply::Refused(132) => Ok(Told::TooFar),
+            Reply::Refused(133) => Err(Unanswered::Unknown),
+            Reply::Refused(135) => Ok(Told::Wanted),
+            _ => Err(nonsense(body).into()),
+        }
+    }
+
+    /// Makes a call once, and hands it in again until it is known how it ended; where kfsd takes no numbered calls, at once.
+    fn call_once(&mut self, body: &[u8]) -> Result<Told, Unanswered> {
+        if self.clock.is_none() {
+            return self.call(body);
+        }
+        self.next_call = self.next_call.wrapping_add(1);
+        let mut numbered = vec![NUMBERED];
+        numbered.extend_from_slice(&self.next_call.to_be_bytes());
+        numbered.extend_from_slice(body);
+        let until = Instant::now() + AGAIN;
+        loop {
+            match self.call(&numbered) {
+                Err(Unanswered::Unknown | Unanswered::Gone(Unshown::Gone(_))) if Instant::now() < until => sleep(PAUSE),
+                told => return told,
+            }
+        }
+    }
+
+    fn call_for_lease(&mut self, body: &[u8], number: u32) -> Result<Result<(), LeaseRefusal>, Unanswered> {
+        match self.call(body)? {
+            Told::TooFar => Ok(Err(LeaseRefusal::TooFar)),
+            Told::Wanted => Ok(Err(LeaseRefusal::Wanted)),
+            Told::Leased(found) if found == number => Ok(Ok(())),
+            Told::Leased(found) => {
+                // The path leads to another node by now.
+                let _none_held = self.drop_lease(found)?;
+                Ok(Err(LeaseRefusal::NoSuchNode))
+            }
+            Told::Unleased(refusal) => Ok(Err(refusal)),
+            Told::Of(_) => Err(nonsense(body).into()),
+        }
+    }
+}
+
+fn nonsense(body: &[u8]) -> Unshown {
+    Unshown::Nonsense(format!("frame with tag {}", body.first().copied().unwrap_or(0)))
+}
+
+/// Sends a frame, and reads its reply. None where that is no reply.
+fn exchange(stream: &mut UnixStream, number: u32, client: u32, body: &[u8]) -> io::Result<Option<Reply>> {
+    let mut frame = Vec::with_capacity(12 + body.len());
+    // A body has at most 2 MiB: a log, and its plan.
+    for word in [body.len() as u32, number, client] {
+        frame.extend_from_slice(&word.to_be_bytes());
+    }
+    frame.extend_from_slice(body);
+    // Where kfsd refuses the connection it has said so before it closed: that can be read still.
+    let sent = stream.write_all(&frame);
+    let mut head = [0; 8];
+    stream.read_exact(&mut head)?;
+    let [l0, l1, l2, l3, n0, n1, n2, n3] = head;
+    let (length, replied) = (u32::from_be_bytes([l0, l1, l2, l3]), u32::from_be_bytes([n0, n1, n2, n3]));
+    if length == 0 || length > REPLY_LIMIT {
+        return Err(io::Error::new(io::ErrorKind::InvalidData, format!("a reply of {length} bytes")));
+    }
+    let mut said = vec![0; length as usize];
+    stream.read_exact(&mut said)?;
+    let reply = reply_of(&said);
+    if matches!(reply, Some(Reply::Refused(130 | 131))) {
+        return Ok(reply);
+    }
+    sent?;
+    if replied != number {
+        return Err(io::Error::new(io::ErrorKind::InvalidData, format!("the reply to frame {replied}, and not {number}")));
+    }
+    Ok(reply)
+}
+
+/// What an answer tells.
+#[derive(Clone, Copy, Debug, PartialEq, Eq)]
+enum Told {
+    /// Of a submission.
+    Of(Answer),
+    /// A lease is granted, or given up.
+    Leased(u32),
+    /// It isn't.
+    Unleased(LeaseRefusal),
+    /// Nor is it here: kfsd refuses an end that is too far away, and one that another client has wanted for long.
+    TooFar,
+    Wanted,
+}
+
+/// The bytes of an answer (docs/FORMATS.md, "Answers of a desk").
+fn told_of(bytes: &[u8]) -> Option<Told> {
+    let mut fields = Fields(bytes);
+    let _position = fields.word()?;
+    let told = match fields.byte()? {
+        1 => Told::Of(Answer::Yes),
+        2 => {
+            let _rejudged = fields.byte()?;
+            Told::Of(submission_fault(&mut fields)?)
+        }
+        3 => {
+            let _rejudged = fields.byte()?;
+            Told::Of(Answer::NoRoom { need: fields.long()?, free: fields.word()? })
+        }
+        4 | 5 => Told::Leased(fields.word()?),
+        8 => Told::Unleased(lease_fault(&mut fields)?),
+        _ => return None,
+    };
+    Some(told)
+}
+
+/// The numbers of a fault are those of include/kfs.h.
+fn submission_fault(fields: &mut Fields<'_>) -> Option<Answer> {
+    let (code, reason, index, detail) = (fields.byte()?, fields.byte()?, fields.long()? as usize, fields.word()?);
+    let answer = match (code, reason) {
+        (1, _) => Answer::Wrong(Wrong::UnknownClient),
+        (2, _) => Answer::Wrong(Wrong::Log),
+        (3, _) => Answer::Wrong(Wrong::Client),
+        (4, _) => Answer::Wrong(Wrong::Plan),
+        (5, _) => Answer::Entry(index, Reason::of_code(reason, detail)?),
+        (6, 1) => Answer::Row(RowPart::Names, index),
+        (6, 2) => Answer::Row(RowPart::Nodes, index),
+        (6, 3) => Answer::Row(RowPart::Pieces, index),
+        _ => return None,
+    };
+    Some(answer)
+}
+
+fn lease_fault(fields: &mut Fields<'_>) -> Option<LeaseRefusal> {
+    let (code, _reason, _index, detail) = (fields.byte()?, fields.byte()?, fields.long()?, fields.word()?);
+    let refusal = match code {
+        1 => LeaseRefusal::UnknownClient,
+        2 | 3 | 4 | 10 => LeaseRefusal::NoSuchNode,
+        5 | 11 => LeaseRefusal::NotAllowed,
+        6 => LeaseRefusal::Past,
+        7 => LeaseRefusal::Held(detail),
+        8 => LeaseRefusal::NoneHeld,
+        _ => return None,
+    };
+    Some(refusal)
+}
+
+/// The header that a look-up has found, or none where there is no such node. None at all where the bytes are no such answer.
+fn found_header(bytes: &[u8]) -> Option<Option<Header>> {
+    let mut fields = Fields(bytes);
+    let (found, state) = (fields.byte()?, fields.byte()?);
+    let kind = match (found, state) {
+        (FOUND_NODE, 0) => return Some(None),
+        (FOUND_NODE, 1) => Kind::File,
+        (FOUND_NODE, 2) => Kind::Directory,
+        _ => return None,
+    };
+    let (mode, uid, gid) = (fields.short()?, fields.word()?, fields.word()?);
+    Some(Some(Header { kind, mode, uid, gid, links: fields.short()?, size: fields.long()? }))
+}
+
+/// Where a name leads that was looked up.
+fn found_name(bytes: &[u8]) -> Option<Option<u32>> {
+    let mut fields = Fields(bytes);
+    match (fields.byte()?, fields.byte()?) {
+        (FOUND_NAME, 0) => Some(None),
+        (FOUND_NAME, 1) => Some(Some(fields.word()?)),
+        _ => None,
+    }
+}
+
+/// Names that were looked up, and whether there are more behind them.
+fn found_names(bytes: &[u8]) -> Option<(Vec<(Name, u32)>, bool)> {
+    let mut fields = Fields(bytes);
+    let (found, has_more) = (fields.byte()?, fields.byte()?);
+    if found != FOUND_NAMES || has_more > 1 {
+        return None;
+    }
+    let mut names = Vec::new();
+    while !fields.0.is_empty() {
+        let (number, length) = (fields.word()?, usize::from(fields.byte()?));
+        let name = Name::new(fields.0.get(..length)?).ok()?;
+        fields.0 = &fields.0[length..];
+        names.push((name, number));
+    }
+    // Who has more to tell has told something.
+    (has_more == 0 || !names.is_empty()).then_some((names, has_more == 1))
+}
+
+impl Connection {
+    /// What a look-up finds; none where there is no such node, or it is one of the other kind.
+    fn look_up(&mut self, body: &[u8]) -> Result<Option<Vec<u8>>, Unshown> {
+        let found = match self.ask(body)? {
+            Reply::Found(found) => found,
+            Reply::Refused(3) => return Err(Unshown::NoSuchLookUp),
+            Reply::Refused(1 | 5) => return Err(Unshown::NotAllowed),
+            _ => return Err(nonsense(body)),
+        };
+        match found[..] {
+            [FOUND_FAULT, 2..=4] => Ok(None),
+            [FOUND_FAULT, _] => Err(Unshown::NotAllowed),
+            _ => Ok(Some(found)),
+        }
+    }
+}
+
+/// The body of a look-up of a node.
+fn look_up_body(tag: u8, number: u32) -> Vec<u8> {
+    let mut body = vec![tag];
+    body.extend_from_slice(&number.to_be_bytes());
+    body
+}
+
+impl Shown for Connection {
+    fn header(&mut self, number: u32) -> Result<Option<Header>, Unshown> {
+        let body = look_up_body(NODE, number);
+        let found = self.look_up(&body)?.unwrap_or_default();
+        found_header(&found).ok_or_else(|| nonsense(&body))
+    }
+
+    fn find(&mut self, directory: u32, name: &Name) -> Result<Option<u32>, Unshown> {
+        let mut body = look_up_body(FIND, directory);
+        body.extend_from_slice(name.as_bytes());
+        match self.look_up(&body)? {
+            Some(found) => found_name(&found).ok_or_else(|| nonsense(&body)),
+            None => Ok(None),
+        }
+    }
+
+    fn list(&mut self, directory: u32, behind: Option<&Name>, most: usize) -> Result<Vec<(Name, u32)>, Unshown> {
+        let mut names: Vec<(Name, u32)> = Vec::new();
+        let mut has_more = true;
+        while has_more && names.len() < most {
+            let room = most.saturating_sub(names.len()).saturating_mul(NAME_ROOM).min(FOUND_LIMIT);
+            let mut body = look_up_body(NAMES, directory);
+            body.extend_from_slice(&(room as u32).to_be_bytes());
+            if let Some(last) = names.last().map(|(name, _)| name).or(behind) {
+                body.extend_from_slice(last.as_bytes());
+            }
+            let found = match self.look_up(&body)? {
+                Some(found) => found_names(&found).ok_or_else(|| nonsense(&body))?,
+                None => return Ok(Vec::new()),
+            };
+            names.extend(found.0);
+            has_more = found.1;
+        }
+        names.truncate(most);
+        Ok(names)
+    }
+
+    fn read(&mut self, number: u32, start: u64, most: usize) -> Result<Vec<u8>, Unshown> {
+        let mut bytes = Vec::new();
+        while bytes.len() < most {
+            let count = (most - bytes.len()).min(FOUND_LIMIT);
+            let mut body = look_up_body(READ, number);
+            body.extend_from_slice(&start.saturating_add(bytes.len() as u64).to_be_bytes());
+            body.extend_from_slice(&(count as u32).to_be_bytes());
+            let found = match self.look_up(&body)? {
+                Some(found) if found.first() == Some(&FOUND_BYTES) && found.len() <= count + 1 => found,
+                Some(_) => return Err(nonsense(&body)),
+                None => break,
+            };
+            bytes.extend_from_slice(&found[1..]);
+            if found.len() <= count {
+                break;
+            }
+        }
+        Ok(bytes)
+    }
+}
+
+impl Desk for Connection {
+    /// By number, and where that isn't permitted by path, which asks for no permission on the node itself.
+    fn lease(&mut self, wanted: &Wanted) -> Result<Result<(), LeaseRefusal>, Unanswered> {
+        let Wanted { number, path, kind, end } = wanted;
+        let head = |tag: u8, client: u32, kind: LeaseKind| {
+            let mut body = vec![tag];
+            body.extend_from_slice(&client.to_be_bytes());
+            body.push(kind as u8);
+            body.extend_from_slice(&end.to_be_bytes());
+            body
+        };
+        let mut body = head(6, self.client, *kind);
+        body.extend_from_slice(&number.to_be_bytes());
+        let answer = self.call_for_lease(&body, *number)?;
+        let path = match (answer, path) {
+            (Err(LeaseRefusal::NotAllowed), Some(path)) if path.len() <= usize::from(u16::MAX) => path,
+            _ => return Ok(answer),
+        };
+        let mut body = head(2, self.client, *kind);
+        body.extend_from_slice(&(path.len() as u16).to_be_bytes());
+        body.extend_from_slice(path);
+        self.call_for_lease(&body, *number)
+    }
+
+    fn drop_lease(&mut self, number: u32) -> Result<Result<(), LeaseRefusal>, Unanswered> {
+        let mut body = vec![3];
+        body.extend_from_slice(&self.client.to_be_bytes());
+        body.extend_from_slice(&number.to_be_bytes());
+        match self.call(&body)? {
+            Told::Leased(_) => Ok(Ok(())),
+            Told::Unleased(refusal) => Ok(Err(refusal)),
+            _ => Err(nonsense(&body).into()),
+        }
+    }
+
+    fn submit(&mut self, log: &[u8], plan: &[u8]) -> Result<Answer, Unanswered> {
+        let mut body = Vec::with_capacity(13 + log.len() + plan.len());
+        body.push(1);
+        body.extend_from_slice(&self.client.to_be_bytes());
+        for bytes in [log, plan] {
+            body.extend_from_slice(&(bytes.len() as u32).to_be_bytes());
+            body.extend_from_slice(bytes);
+        }
+        match self.call_once(&body)? {
+            Told::Of(answer) => Ok(answer),
+            _ => Err(nonsense(&body).into()),
+        }
+    }
+
+    /// A second of kfsd's clock, and at most two later than that; 0 where it tells none.
+    fn moment(&mut self) -> Result<u64, Unanswered> {
+        Ok(self.clock.map_or(0, |clock| clock.moment + clock.told_at.elapsed().as_secs() + 1))
+    }
+
+    /// Those of the first tier. Logs are written there alone.
+    fn blocks(&mut self) -> Result<Option<Blocks>, Unanswered> {
+        let found = match self.look_up(&[PLACES]) {
+            Ok(found) => found.unwrap_or_default(),
+            Err(Unshown::NoSuchLookUp) => return Ok(None),
+            Err(fault) => return Err(fault.into()),
+        };
+        let mut fields = Fields(&found);
+        let told = (fields.byte(), fields.word(), fields.word());
+        match told {
+            (Some(FOUND_PLACES), Some(all), Some(free)) => Ok(Some(Blocks { all, free })),
+            _ => Err(nonsense(&[PLACES]).into()),
+        }
+    }
+
+    fn longest_term(&self) -> u64 {
+        match self.clock {
+            // One moment less, since this client's may be ahead of kfsd's.
+            Some(clock) if clock.longest > 0 => clock.longest.saturating_sub(2).max(1),
+            _ => u64::MAX,
+        }
+    }
+
+    fn wanted_by_others(&mut self) -> Result<Vec<Wish>, Unanswered> {
+        match &mut self.wants {
+            Some(wants) => Ok(wants.told()?),
+            None => Ok(Vec::new()),
+        }
+    }
+}
+
+#[cfg(test)]
+mod tests {
+    use super::*;
+
+    #[test]
+    fn answers_are_those_of_the_formats() {
+        assert_eq!(told_of(&[0, 0, 0, 0, 4, 0, 0, 0, 1]), Some(Told::Leased(1)));
+        assert_eq!(told_of(&[0, 0, 0, 9, 1, 0, 0, 0, 0, 0, 0, 0, 0, 1]), Some(Told::Of(Answer::Yes)));
+        let no_lease = [0, 0, 0, 9, 2, 0, 5, 15, 0, 0, 0, 0, 0, 0, 0, 3, 0, 0, 0, 8];
+        assert_eq!(told_of(&no_lease), Some(Told::Of(Answer::Entry(3, Reason::NoLease(8)))));
+        assert_eq!(told_of(&no_lease[..19]), None);
+        let held = [0, 0, 0, 9, 8, 7, 0, 0, 0, 0, 0, 0, 0, 0, 0, 0, 0, 0, 8];
+        assert_eq!(told_of(&held), Some(Told::Unleased(LeaseRefusal::Held(8))));
+        assert_eq!(told_of(&[0, 0, 0, 1, 6, 0]), None);
+    }
+
+    #[test]
+    fn names_are_those_of_the_protocol() {
+        let name = |text: &str| Name::new(text.as_bytes()).unwrap();
+        assert_eq!(found_name(&[5, 0]), Some(None));
+        assert_eq!(found_name(&[5, 1, 0, 0, 1, 0]), Some(Some(256)));
+        assert_eq!(found_name(&[5, 1, 0]), None);
+        let two = [6, 1, 0, 0, 0, 5, 1, b'a', 0, 0, 0, 6, 2, b'b', b'c'];
+        assert_eq!(found_names(&two), Some((vec![(name("a"), 5), (name("bc"), 6)], true)));
+        assert_eq!(found_names(&[6, 0]), Some((vec![], false)));
+        assert_eq!(found_names(&[6, 1]), None);
+        assert_eq!(found_names(&two[..14]), None);
+    }
+
+    #[test]
+    fn headers_are_those_of_plans() {
+        let bytes = [1, 1, 1, 0xa4, 0, 0, 3, 0xe8, 0, 0, 3, 0xe9, 0, 2, 0, 0, 0, 1, 0, 0, 0, 0];
+        let header = Header { kind: Kind::File, mode: 0o644, uid: 1000, gid: 1001, links: 2, size: 1 << 32 };
+        assert_eq!(found_header(&bytes), Some(Some(header)));
+        assert_eq!(found_header(&[1, 0]), Some(None));
+        assert_eq!(found_header(&bytes[..21]), None);
+    }
+}

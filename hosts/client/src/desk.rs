@@ -1,0 +1,199 @@
+//! The calls of a desk, as a client makes them, and what they are answered.
+
+use crate::fault::Reason;
+use crate::shown::{Shown, Unshown};
+use nix::errno::Errno;
+use thiserror::Error;
+
+/// What a lease is for.
+#[derive(Clone, Copy, Debug, PartialEq, Eq, PartialOrd, Ord)]
+pub enum LeaseKind {
+    /// To read: it keeps others from writing.
+    Read = 0,
+    /// To write: it keeps others off.
+    Write = 1,
+}
+
+/// A lease that is asked for.
+#[derive(Clone, Debug, PartialEq, Eq)]
+pub struct Wanted {
+    /// The node.
+    pub number: u32,
+    /// A path to it, where one is known: by path no permission on the node itself is asked.
+    pub path: Option<Vec<u8>>,
+    /// What for.
+    pub kind: LeaseKind,
+    /// The moment at which it ends.
+    pub end: u64,
+}
+
+/// Why a lease wasn't granted.
+#[derive(Clone, Copy, Debug, PartialEq, Eq, Error)]
+pub enum LeaseRefusal {
+    /// The desk doesn't know the client.
+    #[error("the server doesn't know this client")]
+    UnknownClient,
+    /// Nothing is there, or the path leads to another node by now.
+    #[error("no such node")]
+    NoSuchNode,
+    /// The client has no permission on the node, and may not search its path.
+    #[error("no permission")]
+    NotAllowed,
+    /// The moment is past the end that was asked for.
+    #[error("the lease would be over")]
+    Past,
+    /// Another client has a lease that doesn't go with this one.
+    #[error("client {0} has a lease on it")]
+    Held(u32),
+    /// The end is further away than the server allows.
+    #[error("the lease would live too long")]
+    TooFar,
+    /// Another client has wanted the lease for long, so it isn't renewed.
+    #[error("another client wants it")]
+    Wanted,
+    /// No such lease is held.
+    #[error("no lease is held")]
+    NoneHeld,
+}
+
+impl LeaseRefusal {
+    /// The number that POSIX has for it.
+    pub fn errno(self) -> Errno {
+        match self {
+            LeaseRefusal::UnknownClient => Errno::EPERM,
+            LeaseRefusal::NoSuchNode => Errno::ENOENT,
+            LeaseRefusal::NotAllowed => Errno::EACCES,
+            LeaseRefusal::TooFar => Errno::EINVAL,
+            LeaseRefusal::Past | LeaseRefusal::Held(_) | LeaseRefusal::Wanted | LeaseRefusal::NoneHeld => Errno::EAGAIN,
+        }
+    }
+}
+
+/// A part of a plan.
+#[derive(Clone, Copy, Debug, PartialEq, Eq)]
+#[allow(missing_docs)]
+pub enum RowPart {
+    Names,
+    Nodes,
+    Pieces,
+}
+
+/// What a log that was handed in is answered.
+#[derive(Clone, Copy, Debug, PartialEq, Eq)]
+pub enum Answer {
+    /// All of it is done, and kept.
+    Yes,
+    /// Nothing is done: the log writes more blocks than are free.
+    NoRoom {
+        /// How many blocks it writes.
+        need: u64,
+        /// How many are free.
+        free: u32,
+    },
+    /// Nothing is done: the rules don't allow this entry.
+    Entry(usize, Reason),
+    /// Nothing is done: this row of the plan isn't the log's, in the tree as it is now.
+    Row(RowPart, usize),
+    /// Nothing is done: the bytes aren't a log and a plan of this client, or the desk doesn't know it.
+    Wrong(Wrong),
+}
+
+/// What is wrong with bytes that were handed in.
+#[derive(Clone, Copy, Debug, PartialEq, Eq)]
+pub enum Wrong {
+    /// The desk doesn't know the client.
+    UnknownClient,
+    /// The bytes are no log.
+    Log,
+    /// The log is another client's.
+    Client,
+    /// The bytes are no plan.
+    Plan,
+}
+
+/// Why a call wasn't answered.
+#[derive(Debug, Error)]
+pub enum Unanswered {
+    /// The server had no memory for it, or its docket is full. Nothing was done.
+    #[error("the server has no room for the call")]
+    NoMemory,
+    /// The call was made, or not: the server ended before it answered.
+    #[error("it isn't known whether the call was made")]
+    Unknown,
+    /// The server takes no call any more. Nothing was done.
+    #[error("the server is stopping")]
+    Stopping,
+    /// The call is too long for the server. Nothing was done.
+    #[error("the call is too long")]
+    TooLong,
+    /// The server says that the call is another client's.
+    #[error("the server takes this client for another one")]
+    NotYours,
+    /// The connection has failed, or what came is no answer. Whether the call was made isn't known.
+    #[error(transparent)]
+    Gone(#[from] Unshown),
+}
+
+impl Unanswered {
+    /// The number that POSIX has for it.
+    pub fn errno(&self) -> Errno {
+        match self {
+            Unanswered::NoMemory => Errno::ENOMEM,
+            Unanswered::Unknown | Unanswered::Stopping | Unanswered::TooLong => Errno::EIO,
+            Unanswered::NotYours => Errno::EPERM,
+            Unanswered::Gone(fault) => fault.errno(),
+        }
+    }
+}
+
+impl From<std::io::Error> for Unanswered {
+    fn from(fault: std::io::Error) -> Unanswered {
+        Unanswered::Gone(fault.into())
+    }
+}
+
+/// What another client asked for a lease on.
+#[derive(Clone, Debug, PartialEq, Eq)]
+pub enum Wish {
+    /// This node.
+    Node(u32),
+    /// What stands at this path.
+    Path(Vec<u8>),
+}
+
+/// How many blocks of 4,096 bytes there are where logs are written to.
+#[derive(Clone, Copy, Debug, PartialEq, Eq)]
+pub struct Blocks {
+    /// All of them.
+    pub all: u32,
+    /// Those that are free.
+    pub free: u32,
+}
+
+/// A desk, as one client comes to it.
+pub trait Desk: Shown {
+    /// Asks for a lease, or for a later end of one.
+    fn lease(&mut self, wanted: &Wanted) -> Result<Result<(), LeaseRefusal>, Unanswered>;
+
+    /// Gives a lease up.
+    fn drop_lease(&mut self, number: u32) -> Result<Result<(), LeaseRefusal>, Unanswered>;
+
+    /// Hands a log in, with its plan.
+    fn submit(&mut self, log: &[u8], plan: &[u8]) -> Result<Answer, Unanswered>;
+
+    /// The moment by which leases end, as far as the client knows it.
+    fn moment(&mut self) -> Result<u64, Unanswered>;
+
+    /// How many blocks there are, where that is told.
+    fn blocks(&mut self) -> Result<Option<Blocks>, Unanswered> {
+        Ok(None)
+    }
+
+    /// For how many moments a lease may live at most.
+    fn longest_term(&self) -> u64 {
+        u64::MAX
+    }
+
+    /// What others want of this client's leases, since this was asked last.
+    fn wanted_by_others(&mut self) -> Result<Vec<Wish>, Unanswered>;
+}

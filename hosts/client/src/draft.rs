@@ -1,0 +1,406 @@
+//! A client's log, and what it has changed so far, laid over what a server shows: so one reads one's own writes.
+
+use crate::bytes::{FileBytes, Origin, Part};
+use crate::change::Change;
+use crate::client::Client;
+use crate::entry::{Entry, Kind, GREATEST_MODE, PAYLOAD_LIMIT};
+use crate::fault::Fault;
+use crate::judge::{Effect, Found, Held, Judge};
+use crate::log::Log;
+use crate::name::Name;
+use crate::node::Header;
+use crate::paths::Paths;
+use crate::plan::{NameRow, NodeRow, Piece, Plan};
+use crate::shown::{Shown, Unshown};
+use std::collections::{BTreeMap, BTreeSet};
+use std::ops::Bound;
+
+/// How many names are asked for at a time.
+const PAGE: usize = 256;
+
+/// A log that is under way, with its changes.
+#[derive(Clone, Debug)]
+pub struct Draft {
+    client: Client,
+    log: Log,
+    nodes: BTreeMap<u32, Change<Option<Header>>>,
+    names: BTreeMap<u32, BTreeMap<Name, Change<Option<u32>>>>,
+    files: BTreeMap<u32, FileBytes>,
+    created: BTreeSet<u32>,
+    paths: Paths,
+    /// The number that is tried first for the next new node.
+    next: u32,
+    /// A number that was found to be free. Nobody else gives it to a node.
+    free: Option<u32>,
+    /// The file of the last entry and the place behind its payload, where that is a Write.
+    last_write: Option<(u32, u64)>,
+}
+
+impl Draft {
+    /// An empty log of a client.
+    pub fn new(client: Client) -> Draft {
+        let (log, next) = (Log::new(client.number), client.grant[0]);
+        Draft {
+            client,
+            log,
+            nodes: BTreeMap::new(),
+            names: BTreeMap::new(),
+            files: BTreeMap::new(),
+            created: BTreeSet::new(),
+            paths: Paths::default(),
+            next,
+            free: None,
+            last_write: None,
+        }
+    }
+
+    /// Begins the next log. Numbers go on behind those given so far.
+    pub fn clear(&mut self) {
+        let client = self.client.clone();
+        let (paths, next) = (std::mem::take(&mut self.paths), self.next);
+        *self = Draft { paths, next, ..Draft::new(client) };
+    }
+
+    /// Whose log it is.
+    pub fn client(&self) -> &Client {
+        &self.client
+    }
+
+    /// The log so far.
+    pub fn log(&self) -> &Log {
+        &self.log
+    }
+
+    /// Where nodes were last seen.
+    pub fn paths(&self) -> &Paths {
+        &self.paths
+    }
+
+    /// Where nodes stand is known by these from now on.
+    pub(crate) fn set_paths(&mut self, paths: Paths) {
+        self.paths = paths;
+    }
+
+    /// Whether this log has created the node.
+    pub fn has_created(&self, number: u32) -> bool {
+        self.created.contains(&number)
+    }
+
+    /// The nodes that this log has changed: their header, bytes, or a name in them.
+    pub fn changed(&self) -> BTreeSet<u32> {
+        self.nodes.keys().chain(self.files.keys()).chain(self.names.keys()).copied().collect()
+    }
+
+    // ---- What shows now
+
+    /// The header of a node.
+    pub fn header(&self, shown: &mut dyn Shown, number: u32) -> Result<Option<Header>, Unshown> {
+        match self.nodes.get(&number) {
+            Some(change) => Ok(change.now),
+            None => shown.header(number),
+        }
+    }
+
+    /// Where a name leads.
+    pub fn find(&mut self, shown: &mut dyn Shown, directory: u32, name: &Name) -> Result<Option<u32>, Unshown> {
+        let changed = self.names.get(&directory).and_then(|names| names.get(name));
+        let found = match changed {
+            Some(change) => change.now,
+            None if self.has_created(directory) => None,
+            None => shown.find(directory, name)?,
+        };
+        if let Some(number) = found {
+            self.paths.see(directory, name, number);
+        }
+        Ok(found)
+    }
+
+    /// The first names of a directory behind this one, at most so many; fewer only where no more follow.
+    pub fn list(
+        &mut self,
+        shown: &mut dyn Shown,
+        directory: u32,
+        behind: Option<&Name>,
+        most: usize,
+    ) -> Result<Vec<(Name, u32)>, Unshown> {
+        let mut found: Vec<(Name, u32)> = Vec::new();
+        let mut behind = behind.cloned();
+        while found.len() < most {
+            let page = match self.has_created(directory) {
+                true => Vec::new(),
+                false => shown.list(directory, behind.as_ref(), PAGE)?,
+            };
+            let is_last = page.len() < PAGE;
+            let last = page.last().map(|(name, _)| name.clone());
+            found.extend(self.laid_over(directory, behind.as_ref(), page, is_last));
+            if is_last {
+                break;
+            }
+            behind = last;
+        }
+        found.truncate(most);
+        for (name, number) in &found {
+            self.paths.see(directory, name, *number);
+        }
+        Ok(found)
+    }
+
+    /// A page of names with this log's changes of them. The last page has all new names that follow.
+    fn laid_over(&self, directory: u32, behind: Option<&Name>, page: Vec<(Name, u32)>, is_last: bool) -> Vec<(Name, u32)> {
+        let changes = match self.names.get(&directory) {
+            Some(changes) => changes,
+            None => return page,
+        };
+        let from = behind.map_or(Bound::Unbounded, Bound::Excluded);
+        let last = page.last().map(|(name, _)| name.clone()).filter(|_| !is_last);
+        let until = last.as_ref().map_or(Bound::Unbounded, Bound::Included);
+        let mut names: BTreeMap<Name, u32> = page.into_iter().collect();
+        for (name, change) in changes.range::<Name, _>((from, until)) {
+            match change.now {
+                Some(number) => names.insert(name.clone(), number),
+                None => names.remove(name),
+            };
+        }
+        names.into_iter().collect()
+    }
+
+    /// The bytes of a file from a place on, at most so many; fewer only where the file ends.
+    pub fn read(&self, shown: &mut dyn Shown, number: u32, start: u64, most: usize) -> Result<Vec<u8>, Unshown> {
+        let file = match self.files.get(&number) {
+            Some(file) => file,
+            None if self.has_created(number) => return Ok(Vec::new()),
+            None => return shown.read(number, start, most),
+        };
+        let mut bytes = Vec::new();
+        for part in file.parts(start..start.saturating_add(most as u64)) {
+            // A part is no longer than what was asked for.
+            let length = (part.end - part.start) as usize;
+            match part.origin {
+                Some(Origin::Zero) => bytes.resize(bytes.len() + length, 0),
+                Some(Origin::Payload { entry, place }) => {
+                    bytes.extend_from_slice(self.log.payload(entry, place, length));
+                }
+                None => bytes.extend(old_bytes(shown, number, part)?),
+            }
+        }
+        Ok(bytes)
+    }
+
+    // ---- New entries
+
+    /// The next number of the grant that no node has, or had before the log. They are given in order, and then from the front
+    /// again.
+    pub fn free_number(&mut self, shown: &mut dyn Shown) -> Result<u32, Fault> {
+        let [first, last] = self.client.grant;
+        let from = self.next.clamp(first, last.max(first));
+        for number in (from..=last).chain(first..from) {
+            if self.is_free(shown, number)? {
+                self.next = number;
+                self.free = Some(number);
+                return Ok(number);
+            }
+        }
+        Err(Fault::NoNumber)
+    }
+
+    /// Whether no node has this number, or had it before the log.
+    pub(crate) fn is_free(&self, shown: &mut dyn Shown, number: u32) -> Result<bool, Unshown> {
+        if self.has_created(number) || self.free == Some(number) {
+            return Ok(!self.has_created(number));
+        }
+        let before = match self.nodes.get(&number) {
+            Some(change) => change.before,
+            None => shown.header(number)?,
+        };
+        Ok(before.is_none())
+    }
+
+    /// Takes an entry into the log, where the rules allow it and there is room; else the log stays as it was.
+    pub fn enter(&mut self, shown: &mut dyn Shown, held: &dyn Held, entry: &Entry) -> Result<(), Fault> {
+        let is_spelled = match entry {
+            Entry::Write { payload, .. } => payload.len() <= PAYLOAD_LIMIT,
+            Entry::Create { mode, .. } | Entry::Chmod { mode, .. } => *mode <= GREATEST_MODE,
+            _ => true,
+        };
+        if !is_spelled {
+            return Err(Fault::Unspelled);
+        }
+        self.log.room_for(entry.length())?;
+        let effect = Judge { draft: self, shown, held }.judge(entry)?;
+        // A log has at most 4,096 entries.
+        let index = self.log.len() as u16;
+        self.log.push(entry)?;
+        self.make(index, entry, effect);
+        self.last_write = match entry {
+            Entry::Write { number, offset, payload } => Some((*number, offset + payload.len() as u64)),
+            _ => None,
+        };
+        Ok(())
+    }
+
+    /// Puts bytes behind those of the last entry, where that is a Write whose payload ends there and may grow. Returns how many
+    /// were put. No check is needed: none has changed since that entry.
+    pub fn write_on(&mut self, held: &dyn Held, number: u32, offset: u64, payload: &[u8]) -> usize {
+        let is_held = self.has_created(number) || held.holds(number);
+        let count = payload.len().min(self.log.room_in_last());
+        let end = offset.saturating_add(count as u64);
+        if self.last_write != Some((number, offset)) || !is_held || count == 0 || end > crate::node::SIZE_LIMIT {
+            return 0;
+        }
+        let (place, index) = (self.log.last_payload().unwrap_or(0), self.log.len() - 1);
+        self.log.extend_last(&payload[..count]);
+        if let Some(file) = self.files.get_mut(&number) {
+            file.write(offset, count, index as u16, place as u32);
+        }
+        if let Some(Change { now: Some(now), .. }) = self.nodes.get_mut(&number) {
+            now.size = now.size.max(end);
+        }
+        self.last_write = Some((number, end));
+        count
+    }
+
+    // ---- The changes
+
+    /// Makes the change of an entry that the judge has let pass. It answers no effects but these.
+    fn make(&mut self, index: u16, entry: &Entry, effect: Effect) {
+        match effect {
+            Effect::Nothing => {}
+            Effect::Created => self.create(entry),
+            Effect::Of(header) => self.change(index, entry, header),
+            Effect::Gone(found) => {
+                if let Entry::Unlink { directory, name, .. } = entry {
+                    self.set_name(*directory, name, Some(found.number), None);
+                    self.lose_name(found);
+                }
+            }
+            Effect::Moved(moved, there) => {
+                if let Entry::Rename { directory, name, new_directory, new_name } = entry {
+                    self.set_name(*directory, name, Some(moved.number), None);
+                    let replaced = there.map(|found| found.number);
+                    self.set_name(*new_directory, new_name, replaced, Some(moved.number));
+                    there.into_iter().for_each(|found| self.lose_name(found));
+                }
+            }
+        }
+    }
+
+    fn create(&mut self, entry: &Entry) {
+        if let Entry::Create { directory, name, number, kind, mode } = entry {
+            let (uid, gid) = (self.client.uid, self.client.gid);
+            let header = Header { kind: *kind, mode: *mode, uid, gid, links: 1, size: 0 };
+            self.nodes.insert(*number, Change { before: None, now: Some(header) });
+            self.created.insert(*number);
+            self.next = number.saturating_add(1);
+            self.set_name(*directory, name, None, Some(*number));
+        }
+    }
+
+    /// Changes a node that had this header before the entry.
+    fn change(&mut self, index: u16, entry: &Entry, header: Header) {
+        match entry {
+            Entry::Write { number, offset, payload } => {
+                self.file(*number, &header).write(*offset, payload.len(), index, 0);
+                self.set_size(*number, header);
+            }
+            Entry::Truncate { number, size } => {
+                self.file(*number, &header).resize(*size);
+                self.set_size(*number, header);
+            }
+            Entry::Link { number, directory, name } => {
+                self.set_header(*number, header, Some(Header { links: header.links + 1, ..header }));
+                self.set_name(*directory, name, None, Some(*number));
+            }
+            Entry::Chmod { number, mode } => self.set_header(*number, header, Some(Header { mode: *mode, ..header })),
+            Entry::Regroup { number, group } => self.set_header(*number, header, Some(Header { gid: *group, ..header })),
+            Entry::Create { .. } | Entry::Unlink { .. } | Entry::Rename { .. } => {}
+        }
+    }
+
+    fn file(&mut self, number: u32, header: &Header) -> &mut FileBytes {
+        self.files.entry(number).or_insert_with(|| FileBytes::new(header.size))
+    }
+
+    /// The node, which had this header, has another one now.
+    fn set_header(&mut self, number: u32, old: Header, now: Option<Header>) {
+        self.nodes.entry(number).or_insert(Change { before: Some(old), now }).now = now;
+    }
+
+    fn set_size(&mut self, number: u32, header: Header) {
+        let size = self.file(number, &header).size();
+        self.set_header(number, header, Some(Header { size, ..header }));
+    }
+
+    /// The name, which led to one node, leads to another now.
+    fn set_name(&mut self, directory: u32, name: &Name, old: Option<u32>, now: Option<u32>) {
+        let names = self.names.entry(directory).or_default();
+        names.entry(name.clone()).or_insert(Change { before: old, now }).now = now;
+        if let Some(number) = now {
+            self.paths.see(directory, name, number);
+        }
+    }
+
+    /// The node has a name less. It goes with its last one.
+    fn lose_name(&mut self, found: Found) {
+        let header = found.header;
+        let is_last = header.kind == Kind::Directory || header.links <= 1;
+        let now = if is_last { None } else { Some(Header { links: header.links - 1, ..header }) };
+        self.set_header(found.number, header, now);
+        if is_last {
+            self.files.remove(&found.number);
+        }
+    }
+
+    // ---- Whether it was done
+
+    /// Whether a server shows what a change of the log has made, or what stood there before. None where it shows neither, or
+    /// where no name and no header changes.
+    pub(crate) fn is_done(&self, shown: &mut dyn Shown) -> Result<Option<bool>, Unshown> {
+        let name = self.names.iter().find_map(|(directory, names)| {
+            let (name, change) = names.iter().find(|(_, change)| change.is_one())?;
+            Some((*directory, name, change))
+        });
+        if let Some((directory, name, change)) = name {
+            return Ok(change.side_of(&shown.find(directory, name)?));
+        }
+        match self.nodes.iter().find(|(_, change)| change.is_one()) {
+            Some((number, change)) => Ok(change.side_of(&shown.header(*number)?)),
+            None => Ok(None),
+        }
+    }
+
+    // ---- The plan
+
+    /// The plan of the log, made of its changes in one pass.
+    pub fn plan(&self) -> Plan {
+        let mut plan = Plan::default();
+        for (directory, names) in &self.names {
+            let changed = names.iter().filter(|(_, change)| change.is_one());
+            plan.names.extend(changed.map(|(name, change)| NameRow {
+                directory: *directory,
+                name: name.clone(),
+                number: change.now,
+            }));
+        }
+        let changed = self.nodes.iter().filter(|(_, change)| change.is_one());
+        plan.nodes.extend(changed.map(|(number, change)| NodeRow { number: *number, now: change.now }));
+        for (number, file) in &self.files {
+            plan.pieces.extend(file.made().map(|(range, origin)| Piece {
+                number: *number,
+                start: range.start,
+                length: range.end - range.start,
+                origin,
+            }));
+        }
+        plan
+    }
+}
+
+/// The bytes from before the log that a part stands for.
+fn old_bytes(shown: &mut dyn Shown, number: u32, part: Part) -> Result<Vec<u8>, Unshown> {
+    let length = (part.end - part.start) as usize;
+    let bytes = shown.read(number, part.start, length)?;
+    if bytes.len() != length {
+        return Err(Unshown::Nonsense(format!("{} bytes of {length} of file {number}", bytes.len())));
+    }
+    Ok(bytes)
+}

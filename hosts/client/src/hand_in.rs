@@ -1,0 +1,146 @@
+//! How a log is handed in, and what becomes of one that is refused.
+
+use crate::desk::{Answer, Desk, LeaseKind, LeaseRefusal, Unanswered};
+use crate::draft::Draft;
+use crate::entry::Entry;
+use crate::failure::{Failure, HandInFault, Lost};
+use crate::fault::{Fault, Reason};
+use crate::session::Session;
+use std::ops::RangeInclusive;
+
+/// How often a log is handed in, where it looks as if it could be done.
+const TIMES: u32 = 3;
+/// How many leases an entry may lack.
+const LEASES: usize = 8;
+
+impl<D: Desk> Session<D> {
+    /// Hands the log in. Behind `Ok` all calls before it are kept, and others see them.
+    ///
+    /// Where the tree or the leases have changed, the log is made anew over the tree of now, and handed in once more. What
+    /// can't be done then is told, and isn't in the log any more.
+    pub fn sync(&mut self) -> Result<(), HandInFault> {
+        if self.draft.log().is_empty() {
+            return Ok(());
+        }
+        if self.is_uncertain && self.was_done()? {
+            self.land();
+            return Ok(());
+        }
+        let mut times = 0;
+        loop {
+            let said = match self.hand_in()? {
+                Answer::Yes => {
+                    self.land();
+                    return Ok(());
+                }
+                Answer::NoRoom { need, free } => return Err(HandInFault::NoRoom { need, free }),
+                Answer::Wrong(wrong) => return Err(HandInFault::Wrong(wrong)),
+                said => said,
+            };
+            times += 1;
+            // An entry that is refused again, though it looks as if it could be done, is left out.
+            let lost = self.make_anew(said, times > 1)?;
+            if !lost.is_empty() || times == TIMES {
+                return Err(HandInFault::Refused { said, lost, stays: self.draft.log().len() });
+            }
+        }
+    }
+
+    /// Hands the log in once. A log that changes nothing needn't be.
+    fn hand_in(&mut self) -> Result<Answer, Unanswered> {
+        let plan = self.draft.plan();
+        if plan.is_empty() {
+            return Ok(Answer::Yes);
+        }
+        let said = self.desk.submit(self.draft.log().as_bytes(), &plan.to_bytes());
+        self.is_uncertain = matches!(said, Err(Unanswered::Unknown | Unanswered::Gone(_)));
+        said
+    }
+
+    /// Whether the log was done when it was last handed in. Where nobody can say, handing it in again does no harm: it changes
+    /// bytes alone, or is refused.
+    fn was_done(&mut self) -> Result<bool, HandInFault> {
+        let is_done = self.draft.is_done(&mut self.desk).map_err(Unanswered::Gone)?;
+        Ok(is_done == Some(true))
+    }
+
+    /// The log is done: the next one begins.
+    fn land(&mut self) {
+        self.cache.land(&self.draft);
+        self.draft.clear();
+        self.calls.clear();
+        self.began = None;
+        self.is_uncertain = false;
+    }
+
+    /// Makes the log anew of its entries, over the tree as it is now. Returns the calls that can't be done. No lease is waited
+    /// for: what is given up meanwhile would hand in a log that isn't whole.
+    fn make_anew(&mut self, said: Answer, is_again: bool) -> Result<Vec<Lost>, HandInFault> {
+        self.cache.clear();
+        if let Answer::Entry(_, Reason::NoLease(number)) = said {
+            self.leases.forget(number);
+        }
+        let (old, calls) = (self.draft.clone(), std::mem::take(&mut self.calls));
+        self.draft.clear();
+        let was_waiting = std::mem::replace(&mut self.is_waiting, true);
+        let left_out = match said {
+            Answer::Entry(index, reason) if is_again => Some((index, reason)),
+            _ => None,
+        };
+        let entered = self.enter_all_again(&old, &calls, left_out);
+        self.is_waiting = was_waiting;
+        match &entered {
+            Ok(_) if self.draft.log().is_empty() => self.began = None,
+            Ok(_) => {}
+            Err(_) => (self.draft, self.calls) = (old, calls),
+        }
+        entered
+    }
+
+    /// Takes the entries of a log into the one that is empty, but for the one that is left out.
+    fn enter_all_again(
+        &mut self,
+        old: &Draft,
+        calls: &[RangeInclusive<u64>],
+        left_out: Option<(usize, Reason)>,
+    ) -> Result<Vec<Lost>, HandInFault> {
+        let mut lost = Vec::new();
+        for (index, (entry, calls)) in old.log().entries().zip(calls).enumerate() {
+            let entered = match left_out {
+                Some((other, reason)) if other == index => Err(Fault::Refused(reason)),
+                _ => self.enter_again(&entry)?,
+            };
+            match entered {
+                Ok(()) => self.calls.push(calls.clone()),
+                Err(fault) => lost.push(lost_call(old, calls.clone(), entry, fault)),
+            }
+        }
+        Ok(lost)
+    }
+
+    /// Takes an entry into the log again, or tells why it can't be. Where a lease isn't to be had now, nothing is lost.
+    fn enter_again(&mut self, entry: &Entry) -> Result<Result<(), Fault>, HandInFault> {
+        for _ in 0..LEASES {
+            let number = match self.try_enter(entry) {
+                Err(Fault::Refused(Reason::NoLease(number))) => number,
+                Err(Fault::Unshown(fault)) => return Err(Unanswered::Gone(fault).into()),
+                entered => return Ok(entered),
+            };
+            match self.take_lease(number, LeaseKind::Write) {
+                Ok(()) => {}
+                Err(Failure::Lease(number, refusal @ LeaseRefusal::Held(_))) => {
+                    return Err(HandInFault::Lease(number, refusal));
+                }
+                Err(Failure::Unanswered(fault)) => return Err(fault.into()),
+                Err(_) => return Ok(Err(Fault::Refused(Reason::NoLease(number)))),
+            }
+        }
+        Ok(Err(Fault::Refused(Reason::NoLease(entry.number()))))
+    }
+}
+
+fn lost_call(old: &Draft, calls: RangeInclusive<u64>, entry: Entry, fault: Fault) -> Lost {
+    let path = old.paths().path(entry.number());
+    let path = path.map_or_else(|| format!("node {}", entry.number()), |path| String::from_utf8_lossy(&path).into());
+    Lost { calls, entry, path, fault }
+}

@@ -1,0 +1,110 @@
+//! The leases that a client has, as it was told.
+
+use crate::desk::LeaseKind;
+use crate::judge::Held;
+use std::cell::Cell;
+use std::collections::{BTreeMap, BTreeSet};
+
+/// A lease on a node.
+#[derive(Clone, Debug)]
+struct Lease {
+    kind: LeaseKind,
+    end: u64,
+    /// Whether it served something since it was granted.
+    is_used: Cell<bool>,
+}
+
+/// Leases by node, and the moment by which they end.
+#[derive(Clone, Debug, Default)]
+pub struct Leases {
+    rows: BTreeMap<u32, Lease>,
+    /// Their ends, least first.
+    ends: BTreeSet<(u64, u32)>,
+    moment: u64,
+}
+
+impl Leases {
+    /// It is this moment now, or a later one. Those that have ended are gone: their nodes are told.
+    pub fn set_moment(&mut self, moment: u64) -> Vec<u32> {
+        self.moment = self.moment.max(moment);
+        let now = self.moment;
+        let ended: Vec<u32> = self.ends.iter().take_while(|(end, _)| *end <= now).map(|(_, number)| *number).collect();
+        ended.iter().for_each(|number| self.forget(*number));
+        ended
+    }
+
+    /// A lease was granted. It takes the place of an earlier one.
+    pub fn grant(&mut self, number: u32, kind: LeaseKind, end: u64) {
+        self.forget(number);
+        self.rows.insert(number, Lease { kind, end, is_used: Cell::new(false) });
+        self.ends.insert((end, number));
+    }
+
+    /// A lease is gone.
+    pub fn forget(&mut self, number: u32) {
+        if let Some(lease) = self.rows.remove(&number) {
+            self.ends.remove(&(lease.end, number));
+        }
+    }
+
+    /// Whether a lease of any kind is live on the node: then nobody else changes it.
+    pub fn reads(&self, number: u32) -> bool {
+        self.live(number).is_some()
+    }
+
+    /// All nodes on which there is a lease.
+    pub fn numbers(&self) -> Vec<u32> {
+        self.rows.keys().copied().collect()
+    }
+
+    fn live(&self, number: u32) -> Option<&Lease> {
+        let lease = self.rows.get(&number).filter(|lease| lease.end > self.moment)?;
+        lease.is_used.set(true);
+        Some(lease)
+    }
+
+    /// The leases that end within so many moments and were used.
+    pub fn due(&self, within: u64) -> Vec<(u32, LeaseKind)> {
+        let until = self.moment.saturating_add(within);
+        let ends = self.ends.iter().take_while(|(end, _)| *end <= until);
+        let due = ends.filter_map(|(_, number)| Some((*number, self.rows.get(number)?)));
+        due.filter(|(_, lease)| lease.is_used.get()).map(|(number, lease)| (number, lease.kind)).collect()
+    }
+}
+
+impl Held for Leases {
+    fn holds(&self, number: u32) -> bool {
+        matches!(self.live(number), Some(lease) if lease.kind == LeaseKind::Write)
+    }
+}
+
+#[cfg(test)]
+mod tests {
+    use super::*;
+
+    #[test]
+    fn a_lease_ends_at_its_moment() {
+        let mut leases = Leases::default();
+        leases.grant(5, LeaseKind::Write, 10);
+        leases.grant(6, LeaseKind::Read, 20);
+        assert!(leases.holds(5) && !leases.holds(6) && leases.reads(6));
+        assert_eq!(leases.set_moment(9), []);
+        assert!(leases.holds(5));
+        assert_eq!(leases.set_moment(10), [5]);
+        assert!(!leases.reads(5) && leases.reads(6));
+    }
+
+    #[test]
+    fn what_nobody_used_is_not_renewed() {
+        let mut leases = Leases::default();
+        leases.grant(5, LeaseKind::Write, 10);
+        leases.grant(6, LeaseKind::Read, 10);
+        assert!(leases.holds(5));
+        assert_eq!(leases.due(10), [(5, LeaseKind::Write)]);
+        assert_eq!(leases.due(9), []);
+        leases.grant(5, LeaseKind::Write, 12);
+        assert_eq!(leases.due(10), []);
+        assert_eq!(leases.set_moment(11), [6]);
+        assert_eq!(leases.numbers(), [5]);
+    }
+}

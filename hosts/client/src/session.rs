@@ -1,0 +1,413 @@
+//! Calls as a file system has them. Changes go into the log, and reads see them at once.
+
+use crate::cache::{Cache, Cached};
+use crate::client::{Access, Client};
+use crate::desk::{Desk, LeaseKind, LeaseRefusal, Unanswered, Wanted, Wish};
+use crate::draft::Draft;
+use crate::entry::{Entry, Kind, PAYLOAD_LIMIT};
+use crate::failure::Failure;
+use crate::fault::{Fault, Reason};
+use crate::leases::Leases;
+use crate::name::Name;
+use crate::node::{Header, ROOT};
+use std::collections::HashMap;
+use std::ops::RangeInclusive;
+use std::thread::sleep;
+use std::time::{Duration, Instant};
+
+/// How often an entry is tried. Each time but the last one more lease was lacking, or the log was full.
+const ATTEMPTS: usize = 12;
+/// How long the first and each later pause is, where another client has the lease.
+const FIRST_PAUSE: Duration = Duration::from_millis(1);
+const LONGEST_PAUSE: Duration = Duration::from_millis(50);
+
+/// How a session behaves.
+#[derive(Clone, Debug, PartialEq, Eq)]
+pub struct Options {
+    /// How long a change waits in the log at most, where `poll` is called.
+    pub linger: Duration,
+    /// For how many moments a lease is asked for; kfsd's are seconds. Within the last half of them it is renewed, where it is
+    /// used.
+    pub term: u64,
+    /// How long a call waits for another client's lease.
+    pub patience: Duration,
+    /// After how many reads of a node a lease for reading is taken, so that later ones ask nobody; 0 for never.
+    pub reads_before_lease: u32,
+}
+
+impl Default for Options {
+    fn default() -> Options {
+        let (linger, patience) = (Duration::from_secs(5), Duration::from_secs(10));
+        Options { linger, term: 60, patience, reads_before_lease: 3 }
+    }
+}
+
+/// A client's log, its leases, and the desk to which it comes.
+#[derive(Debug)]
+pub struct Session<D> {
+    pub(crate) desk: D,
+    pub(crate) draft: Draft,
+    pub(crate) leases: Leases,
+    pub(crate) cache: Cache,
+    pub(crate) options: Options,
+    /// For each entry of the log the calls that made it.
+    pub(crate) calls: Vec<RangeInclusive<u64>>,
+    /// The call that is under way, or the last one. They count from 1.
+    call: u64,
+    /// When the first entry of the log came.
+    pub(crate) began: Option<Instant>,
+    /// Whether the log may have been done.
+    pub(crate) is_uncertain: bool,
+    /// Whether a call waits for a lease, so that what it causes doesn't.
+    pub(crate) is_waiting: bool,
+    /// How often each node was read without a lease.
+    reads: HashMap<u32, u32>,
+}
+
+impl<D: Desk> Session<D> {
+    /// The session of a client, with an empty log.
+    pub fn new(desk: D, client: Client, options: Options) -> Session<D> {
+        Session {
+            desk,
+            draft: Draft::new(client),
+            leases: Leases::default(),
+            cache: Cache::default(),
+            options,
+            calls: Vec::new(),
+            call: 0,
+            began: None,
+            is_uncertain: false,
+            is_waiting: false,
+            reads: HashMap::new(),
+        }
+    }
+
+    /// The log so far, with its changes.
+    pub fn draft(&self) -> &Draft {
+        &self.draft
+    }
+
+    /// The number of the last call that changes something, counted from 1. `Lost` tells of calls by it.
+    pub fn last_call(&self) -> u64 {
+        self.call
+    }
+
+    /// How it behaves from now on.
+    pub fn options_mut(&mut self) -> &mut Options {
+        &mut self.options
+    }
+
+    /// The desk itself.
+    pub fn desk(&mut self) -> &mut D {
+        &mut self.desk
+    }
+
+    // ---- Reads
+
+    /// What a node is.
+    pub fn header(&mut self, number: u32) -> Result<Header, Failure> {
+        self.pass_time()?;
+        self.note_read(number)?;
+        let Session { desk, cache, leases, draft, .. } = self;
+        let header = draft.header(&mut Cached { shown: desk, cache, leases }, number)?;
+        header.ok_or(Failure::Missing(Reason::NoSuchNode))
+    }
+
+    /// Whether the node's bits grant this.
+    pub fn access(&mut self, number: u32, access: Access) -> Result<(), Failure> {
+        let header = self.header(number)?;
+        self.may(&header, access)
+    }
+
+    fn may(&self, header: &Header, access: Access) -> Result<(), Failure> {
+        if self.draft.client().may(header, access) {
+            Ok(())
+        } else {
+            Err(Failure::NotAllowed(access))
+        }
+    }
+
+    fn directory(&mut self, number: u32, access: Access) -> Result<(), Failure> {
+        let header = self.header(number)?;
+        if !header.is_directory() {
+            return Err(Failure::Missing(Reason::NotDirectory));
+        }
+        self.may(&header, access)
+    }
+
+    /// Where a name leads, and what is there.
+    pub fn lookup(&mut self, directory: u32, name: &Name) -> Result<(u32, Header), Failure> {
+        self.directory(directory, Access::Search)?;
+        let Session { desk, cache, leases, draft, .. } = self;
+        let found = draft.find(&mut Cached { shown: desk, cache, leases }, directory, name)?;
+        let number = found.ok_or(Failure::Missing(Reason::NoSuchName))?;
+        Ok((number, self.header(number)?))
+    }
+
+    /// The first names of a directory behind this one, ascending, at most so many.
+    pub fn list(&mut self, directory: u32, behind: Option<&Name>, most: usize) -> Result<Vec<(Name, u32)>, Failure> {
+        self.directory(directory, Access::Read)?;
+        let Session { desk, cache, leases, draft, .. } = self;
+        Ok(draft.list(&mut Cached { shown: desk, cache, leases }, directory, behind, most)?)
+    }
+
+    /// The bytes of a file from a place on, at most so many. Its bits are for `access` to ask, when it is opened.
+    pub fn read(&mut self, number: u32, start: u64, most: usize) -> Result<Vec<u8>, Failure> {
+        if self.header(number)?.is_directory() {
+            return Err(Failure::Missing(Reason::IsDirectory));
+        }
+        let Session { desk, cache, leases, draft, .. } = self;
+        Ok(draft.read(&mut Cached { shown: desk, cache, leases }, number, start, most)?)
+    }
+
+    /// The node to which a path leads. `.` stands for where it is, and `..` for the directory above.
+    pub fn walk(&mut self, path: &[u8]) -> Result<u32, Failure> {
+        let mut at = ROOT;
+        for part in path.split(|byte| *byte == b'/') {
+            at = match part {
+                b"" | b"." => at,
+                b".." => self.draft.paths().parent(at).unwrap_or(ROOT),
+                _ => self.lookup(at, &Name::new(part)?)?.0,
+            };
+        }
+        Ok(at)
+    }
+
+    /// The file at a path. Where its last name isn't there, and a mode is given, it is made.
+    pub fn open(&mut self, path: &[u8], mode: Option<u16>) -> Result<u32, Failure> {
+        let cut = path.iter().rposition(|byte| *byte == b'/').map_or(0, |at| at + 1);
+        let (directory, name) = (self.walk(&path[..cut])?, Name::new(&path[cut..])?);
+        match (self.lookup(directory, &name), mode) {
+            (Err(Failure::Missing(Reason::NoSuchName)), Some(mode)) => self.create(directory, &name, Kind::File, mode),
+            (found, _) => Ok(found?.0),
+        }
+    }
+
+    /// Takes a lease for reading on a node that is read often. That it isn't to be had is no fault.
+    fn note_read(&mut self, number: u32) -> Result<(), Failure> {
+        let most = self.options.reads_before_lease;
+        if most == 0 || self.draft.has_created(number) || self.leases.reads(number) {
+            return Ok(());
+        }
+        let count = self.reads.entry(number).or_insert(0);
+        *count += 1;
+        if *count >= most {
+            self.reads.remove(&number);
+            let _refused = self.ask_lease(number, LeaseKind::Read)?;
+        }
+        Ok(())
+    }
+
+    // ---- Changes
+
+    /// Makes a file or a directory. Returns its number.
+    pub fn create(&mut self, directory: u32, name: &Name, kind: Kind, mode: u16) -> Result<u32, Failure> {
+        self.begin_call()?;
+        let Session { desk, cache, leases, draft, .. } = self;
+        let number = draft.free_number(&mut Cached { shown: desk, cache, leases });
+        let number = number.map_err(|fault| Failure::Entry { errno: fault.errno(), fault })?;
+        self.enter(&Entry::Create { directory, name: name.clone(), number, kind, mode })?;
+        Ok(number)
+    }
+
+    /// Writes bytes at an offset. Returns how many were taken: fewer only where the others can't be.
+    pub fn write(&mut self, number: u32, offset: u64, bytes: &[u8]) -> Result<usize, Failure> {
+        self.begin_call()?;
+        let mut done = 0;
+        while done < bytes.len() {
+            let (at, rest) = (offset.saturating_add(done as u64), &bytes[done..]);
+            let count = self.draft.write_on(&self.leases, number, at, rest);
+            if let Some(calls) = self.calls.last_mut().filter(|_| count > 0) {
+                *calls = *calls.start()..=self.call;
+                done += count;
+                continue;
+            }
+            let payload = rest[..rest.len().min(PAYLOAD_LIMIT)].to_vec();
+            let count = payload.len();
+            match self.enter(&Entry::Write { number, offset: at, payload }) {
+                Ok(()) => done += count,
+                Err(_) if done > 0 => break,
+                Err(failure) => return Err(failure),
+            }
+        }
+        Ok(done)
+    }
+
+    /// Gives a file another size.
+    pub fn truncate(&mut self, number: u32, size: u64) -> Result<(), Failure> {
+        self.change(&Entry::Truncate { number, size })
+    }
+
+    /// Gives a file one more name.
+    pub fn link(&mut self, number: u32, directory: u32, name: &Name) -> Result<(), Failure> {
+        self.change(&Entry::Link { number, directory, name: name.clone() })
+    }
+
+    /// Takes a name away, of a file or of an empty directory.
+    pub fn unlink(&mut self, directory: u32, name: &Name, kind: Kind) -> Result<(), Failure> {
+        self.change(&Entry::Unlink { directory, name: name.clone(), kind })
+    }
+
+    /// Gives a node another name. What had that name loses it.
+    pub fn rename(&mut self, from: u32, name: &Name, to: u32, new_name: &Name) -> Result<(), Failure> {
+        let (name, new_name) = (name.clone(), new_name.clone());
+        self.change(&Entry::Rename { directory: from, name, new_directory: to, new_name })
+    }
+
+    /// Gives a node another mode.
+    pub fn change_mode(&mut self, number: u32, mode: u16) -> Result<(), Failure> {
+        self.change(&Entry::Chmod { number, mode })
+    }
+
+    /// Gives a node another group.
+    pub fn change_group(&mut self, number: u32, group: u32) -> Result<(), Failure> {
+        self.change(&Entry::Regroup { number, group })
+    }
+
+    /// The next call begins. A log of which nobody knows whether it was done takes no entry: that is found out before.
+    fn begin_call(&mut self) -> Result<(), Failure> {
+        self.call += 1;
+        if self.is_uncertain {
+            self.sync()?;
+        }
+        Ok(())
+    }
+
+    fn change(&mut self, entry: &Entry) -> Result<(), Failure> {
+        self.begin_call()?;
+        self.enter(entry)
+    }
+
+    /// Takes an entry into the log. Leases that are lacking are taken, and a full log is handed in before.
+    fn enter(&mut self, entry: &Entry) -> Result<(), Failure> {
+        for _ in 0..ATTEMPTS {
+            match self.try_enter(entry) {
+                Ok(()) => {
+                    self.calls.push(self.call..=self.call);
+                    return Ok(());
+                }
+                Err(Fault::Refused(Reason::NoLease(number))) => self.take_lease(number, LeaseKind::Write)?,
+                Err(Fault::Full(_)) => self.sync()?,
+                Err(fault) => return Err(Failure::of(fault, entry)),
+            }
+        }
+        Err(Failure::Lease(entry.number(), LeaseRefusal::Past))
+    }
+
+    pub(crate) fn try_enter(&mut self, entry: &Entry) -> Result<(), Fault> {
+        let Session { desk, cache, leases, draft, .. } = self;
+        let leases = &*leases;
+        draft.enter(&mut Cached { shown: desk, cache, leases }, leases, entry)?;
+        self.began.get_or_insert_with(Instant::now);
+        Ok(())
+    }
+
+    // ---- Leases
+
+    /// Asks for a lease, and waits where another client has one. Meanwhile it gives up what others want.
+    pub(crate) fn take_lease(&mut self, number: u32, kind: LeaseKind) -> Result<(), Failure> {
+        let until = Instant::now() + self.options.patience;
+        let mut pause = FIRST_PAUSE;
+        loop {
+            let refusal = match self.ask_lease(number, kind)? {
+                Ok(()) => return Ok(()),
+                Err(refusal) => refusal,
+            };
+            // The server knows a path from before this log.
+            let is_moved = matches!(refusal, LeaseRefusal::NotAllowed | LeaseRefusal::NoSuchNode);
+            if is_moved && !self.is_waiting && !self.draft.log().is_empty() {
+                self.sync()?;
+                continue;
+            }
+            let may_wait = matches!(refusal, LeaseRefusal::Held(_)) && !self.is_waiting && Instant::now() < until;
+            if !may_wait {
+                return Err(Failure::Lease(number, refusal));
+            }
+            self.is_waiting = true;
+            let given = self.give_up_wanted();
+            self.is_waiting = false;
+            given?;
+            sleep(pause);
+            pause = (pause * 2).min(LONGEST_PAUSE);
+        }
+    }
+
+    fn ask_lease(&mut self, number: u32, kind: LeaseKind) -> Result<Result<(), LeaseRefusal>, Unanswered> {
+        let moment = self.pass_time()?;
+        let end = moment.saturating_add(self.options.term.min(self.desk.longest_term()));
+        let wanted = Wanted { number, path: self.draft.paths().path(number), kind, end };
+        let answer = self.desk.lease(&wanted)?;
+        if answer.is_ok() {
+            self.leases.grant(number, kind, end);
+        }
+        Ok(answer)
+    }
+
+    /// Looks which moment it is. What was shown under leases that have ended is forgotten.
+    fn pass_time(&mut self) -> Result<u64, Unanswered> {
+        let moment = self.desk.moment()?;
+        for number in self.leases.set_moment(moment) {
+            self.cache.forget(number);
+        }
+        Ok(moment)
+    }
+
+    /// Gives up the leases that others want.
+    fn give_up_wanted(&mut self) -> Result<(), Failure> {
+        for wish in self.desk.wanted_by_others()? {
+            let wanted = match wish {
+                Wish::Node(number) => Some(number),
+                Wish::Path(path) => self.node_at(&path)?,
+            };
+            if let Some(number) = wanted {
+                self.give_up(number)?;
+            }
+        }
+        Ok(())
+    }
+
+    /// The node to which a path leads that another client has gone, if this one may see it.
+    fn node_at(&mut self, path: &[u8]) -> Result<Option<u32>, Failure> {
+        match self.walk(path) {
+            Ok(number) => Ok(Some(number)),
+            Err(failure @ (Failure::Unanswered(_) | Failure::HandIn(_))) => Err(failure),
+            Err(_) => Ok(None),
+        }
+    }
+
+    /// Hands the log in, and gives a lease up. Where the log isn't kept, the lease goes all the same.
+    pub fn give_up(&mut self, number: u32) -> Result<(), Failure> {
+        if !self.leases.reads(number) {
+            return Ok(());
+        }
+        let handed_in = self.sync();
+        self.leases.forget(number);
+        self.cache.forget(number);
+        let _none_held = self.desk.drop_lease(number)?;
+        Ok(handed_in?)
+    }
+
+    /// Does what is due: leases that others want are given up, those that are used are renewed, and a log that has waited long
+    /// enough is handed in. Call it now and then, some times within `linger`.
+    pub fn poll(&mut self) -> Result<(), Failure> {
+        self.pass_time()?;
+        self.give_up_wanted()?;
+        for (number, kind) in self.leases.due(self.options.term / 2) {
+            // One that isn't renewed ends at its end.
+            let _refused = self.ask_lease(number, kind)?;
+        }
+        if self.began.map_or(false, |began| began.elapsed() >= self.options.linger) {
+            self.sync()?;
+        }
+        Ok(())
+    }
+
+    /// Hands the log in, and gives all leases up. Where that fails the session is as it was.
+    pub fn close(&mut self) -> Result<(), Failure> {
+        self.sync()?;
+        for number in self.leases.numbers() {
+            self.give_up(number)?;
+        }
+        Ok(())
+    }
+}

@@ -1,0 +1,120 @@
+//! Which of one's leases others want. kfsd answers that question when there is something to tell, or after a while, and all
+//! replies of a connection come in order. So it has a connection of its own, which nobody waits for.
+
+use crate::desk::Wish;
+use std::io::{self, ErrorKind, Read, Write};
+use std::os::unix::net::UnixStream;
+use std::path::Path;
+
+/// The tag of the question, before the serial of the last want that was told, and of the answer.
+const WANTED: u8 = 0xf3;
+/// How many bytes stand before the wants of an answer: its head, tag, serial and count.
+const HEAD: usize = 19;
+
+/// A question that is under way.
+#[derive(Debug)]
+pub(crate) struct Wants {
+    stream: UnixStream,
+    client: u32,
+    serial: u64,
+    left: Vec<u8>,
+    /// Whether kfsd has said that it knows no such question, or has closed the connection.
+    is_over: bool,
+}
+
+impl Wants {
+    /// Asks for the first time.
+    pub fn ask(path: &Path, client: u32) -> io::Result<Wants> {
+        let stream = UnixStream::connect(path)?;
+        stream.set_nonblocking(true)?;
+        let mut wants = Wants { stream, client, serial: 0, left: Vec::new(), is_over: false };
+        wants.send()?;
+        Ok(wants)
+    }
+
+    fn send(&mut self) -> io::Result<()> {
+        let mut frame = Vec::new();
+        for word in [9, 0, self.client] {
+            frame.extend_from_slice(&word.to_be_bytes());
+        }
+        frame.push(WANTED);
+        frame.extend_from_slice(&self.serial.to_be_bytes());
+        // There is one question at a time, so there is room for it.
+        self.stream.write_all(&frame)
+    }
+
+    /// What was told since this was asked last, without waiting.
+    pub fn told(&mut self) -> io::Result<Vec<Wish>> {
+        let mut wishes = Vec::new();
+        while !self.is_over && self.has_more()? {
+            while let Some(answer) = self.next_answer() {
+                match answer_of(&answer) {
+                    Some((serial, told)) => {
+                        self.serial = serial;
+                        wishes.extend(told);
+                        self.send()?;
+                    }
+                    None => self.is_over = true,
+                }
+            }
+        }
+        Ok(wishes)
+    }
+
+    /// Reads what has come. Whether there was something.
+    fn has_more(&mut self) -> io::Result<bool> {
+        let mut bytes = [0; 4096];
+        match self.stream.read(&mut bytes) {
+            Ok(0) => {
+                self.is_over = true;
+                Ok(false)
+            }
+            Ok(count) => {
+                self.left.extend_from_slice(&bytes[..count]);
+                Ok(true)
+            }
+            Err(fault) if matches!(fault.kind(), ErrorKind::WouldBlock | ErrorKind::Interrupted) => Ok(false),
+            Err(fault) => Err(fault),
+        }
+    }
+
+    /// The next whole reply, with its head.
+    fn next_answer(&mut self) -> Option<Vec<u8>> {
+        let length = u32::from_be_bytes(self.left.get(..4)?.try_into().ok()?) as usize;
+        if self.left.len() < 8 + length {
+            return None;
+        }
+        Some(self.left.drain(..8 + length).collect())
+    }
+}
+
+/// The serial of the last want of an answer, and what is wanted: a node, or a path of which kfsd doesn't know the node.
+fn answer_of(bytes: &[u8]) -> Option<(u64, Vec<Wish>)> {
+    let head = bytes.get(..HEAD).filter(|head| head[8] == WANTED)?;
+    let serial = u64::from_be_bytes(head[9..17].try_into().ok()?);
+    let count = u16::from_be_bytes([head[17], head[18]]);
+    let (mut at, mut wishes) = (HEAD, Vec::new());
+    for _ in 0..count {
+        let node = u32::from_be_bytes(bytes.get(at + 4..at + 8)?.try_into().ok()?);
+        let length = usize::from(u16::from_be_bytes(bytes.get(at + 8..at + 10)?.try_into().ok()?));
+        let path = bytes.get(at + 10..at + 10 + length)?;
+        wishes.push(if length == 0 { Wish::Node(node) } else { Wish::Path(path.to_vec()) });
+        at += 10 + length;
+    }
+    Some((serial, wishes))
+}
+
+#[cfg(test)]
+mod tests {
+    use super::*;
+
+    #[test]
+    fn wants_are_read_from_an_answer() {
+        let mut bytes = vec![0, 0, 0, 0, 0, 0, 0, 0, WANTED, 0, 0, 0, 0, 0, 0, 1, 2, 0, 2];
+        bytes.extend([0, 0, 0, 8, 0, 0, 0, 0, 0, 2, b'/', b'a']);
+        bytes.extend([0, 0, 0, 8, 0, 0, 1, 1, 0, 0]);
+        assert_eq!(answer_of(&bytes), Some((258, vec![Wish::Path(b"/a".to_vec()), Wish::Node(257)])));
+        assert_eq!(answer_of(&bytes[..40]), None);
+        assert_eq!(answer_of(&[0, 0, 0, 6, 0, 0, 0, 0, 2, 3, 0, 0, 0, 0]), None);
+    }
+}

@@ -1,0 +1,145 @@
+//! What a node is, as the kernel has it. Times are this mount's own, since the desk has none.
+
+use crate::protocol::Reply;
+use kfs_client::Header;
+use std::collections::HashMap;
+use std::time::{Duration, SystemTime, UNIX_EPOCH};
+
+/// How long the kernel may keep what it was told, in seconds.
+const KEPT: u64 = 1;
+const DIRECTORY: u32 = 0o040_000;
+const FILE: u32 = 0o100_000;
+const LINK: u32 = 0o120_000;
+
+/// A node as it is shown to the kernel. Of a link the size is that of its target.
+#[derive(Clone, Copy, Debug, PartialEq, Eq)]
+pub struct Shape {
+    pub header: Header,
+    pub is_link: bool,
+}
+
+/// The times of a node, since the beginning of 1970.
+#[derive(Clone, Copy, Debug, PartialEq, Eq)]
+pub struct Times {
+    pub read: Duration,
+    pub written: Duration,
+    pub changed: Duration,
+}
+
+impl Times {
+    fn all(time: Duration) -> Times {
+        Times { read: time, written: time, changed: time }
+    }
+}
+
+/// It is now.
+pub fn now() -> Duration {
+    SystemTime::now().duration_since(UNIX_EPOCH).unwrap_or_default()
+}
+
+/// The times of all nodes that were changed since the mount, and that of the mount for the others. And how often the number of a
+/// node was given to a new one.
+#[derive(Debug)]
+pub struct Clocks {
+    of: HashMap<u32, Times>,
+    begun: Duration,
+    generations: HashMap<u32, u64>,
+}
+
+impl Default for Clocks {
+    fn default() -> Clocks {
+        Clocks { of: HashMap::new(), begun: now(), generations: HashMap::new() }
+    }
+}
+
+impl Clocks {
+    pub fn of(&self, number: u32) -> Times {
+        self.of.get(&number).copied().unwrap_or_else(|| Times::all(self.begun))
+    }
+
+    pub fn set(&mut self, number: u32, times: Times) {
+        self.of.insert(number, times);
+    }
+
+    /// A node is new.
+    pub fn create(&mut self, number: u32) {
+        *self.generations.entry(number).or_insert(0) += 1;
+        self.set(number, Times::all(now()));
+    }
+
+    /// The bytes of a file, or the names of a directory, have changed.
+    pub fn write(&mut self, number: u32) {
+        let time = now();
+        self.set(number, Times { written: time, changed: time, ..self.of(number) });
+    }
+
+    /// A header has changed.
+    pub fn change(&mut self, number: u32) {
+        self.set(number, Times { changed: now(), ..self.of(number) });
+    }
+
+    pub fn generation(&self, number: u32) -> u64 {
+        self.generations.get(&number).copied().unwrap_or(0)
+    }
+}
+
+/// The bits of a mode that say what a node is.
+pub fn type_bits(shape: &Shape) -> u32 {
+    if shape.is_link {
+        LINK
+    } else if shape.header.is_directory() {
+        DIRECTORY
+    } else {
+        FILE
+    }
+}
+
+/// The 88 bytes of `fuse_attr`.
+pub fn attributes(number: u32, shape: &Shape, times: Times, reply: &mut Reply) {
+    let header = &shape.header;
+    let [read, written, changed] = [times.read, times.written, times.changed];
+    reply.long(number.into()).long(header.size).long((header.size + 511) / 512);
+    for time in [read, written, changed] {
+        reply.long(time.as_secs());
+    }
+    for time in [read, written, changed] {
+        reply.word(time.subsec_nanos());
+    }
+    reply.word(type_bits(shape) | u32::from(header.mode)).word(header.links.into());
+    reply.word(header.uid).word(header.gid).word(0).word(4096).word(0);
+}
+
+/// `fuse_attr_out`.
+pub fn attribute_reply(number: u32, shape: &Shape, clocks: &Clocks) -> Reply {
+    let mut reply = Reply::default();
+    reply.long(KEPT).word(0).word(0);
+    attributes(number, shape, clocks.of(number), &mut reply);
+    reply
+}
+
+/// `fuse_entry_out`.
+pub fn entry(number: u32, shape: &Shape, clocks: &Clocks, reply: &mut Reply) {
+    reply.long(number.into()).long(clocks.generation(number)).long(KEPT).long(KEPT).word(0).word(0);
+    attributes(number, shape, clocks.of(number), reply);
+}
+
+#[cfg(test)]
+mod tests {
+    use super::*;
+    use kfs_client::Kind;
+
+    #[test]
+    fn sizes_are_those_of_the_kernel() {
+        let header = Header { kind: Kind::File, mode: 0o644, uid: 1, gid: 2, links: 1, size: 513 };
+        let shape = Shape { header, is_link: false };
+        let mut clocks = Clocks::default();
+        assert_eq!(attribute_reply(5, &shape, &clocks).0.len(), 16 + 88);
+        let mut reply = Reply::default();
+        entry(5, &shape, &clocks, &mut reply);
+        assert_eq!(reply.0.len(), 128);
+        assert_eq!(reply.0[8..16], [0; 8]);
+        clocks.create(5);
+        clocks.create(5);
+        assert_eq!(clocks.generation(5), 2);
+    }
+}

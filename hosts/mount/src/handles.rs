@@ -1,0 +1,113 @@
+//! What is open: files, and lists of names that are being read.
+
+use kfs_client::Name;
+use std::collections::HashMap;
+
+/// A file that is open.
+#[derive(Debug, Default)]
+struct OpenFile {
+    /// How often.
+    count: u32,
+    /// The mode that it gets with its last close. Until then its owner may write it, so that what is open for writing stays so.
+    late_mode: Option<u16>,
+    /// The name that it has got in place of its last one. It goes with the last close.
+    hidden: Option<(u32, Name)>,
+}
+
+/// What is to be done when a file was closed for the last time.
+#[derive(Debug, Default, PartialEq, Eq)]
+pub struct Leftover {
+    pub late_mode: Option<u16>,
+    pub hidden: Option<(u32, Name)>,
+}
+
+/// All that is open.
+#[derive(Debug, Default)]
+pub struct Handles {
+    files: HashMap<u32, OpenFile>,
+    lists: HashMap<u64, Vec<(Name, u32)>>,
+    next: u64,
+    hidden_count: u64,
+}
+
+impl Handles {
+    pub fn open(&mut self, number: u32) {
+        self.files.entry(number).or_default().count += 1;
+    }
+
+    /// A file is closed once. What is left to do, where that was the last time.
+    pub fn close(&mut self, number: u32) -> Leftover {
+        match self.files.get_mut(&number) {
+            Some(file) if file.count > 1 => {
+                file.count -= 1;
+                Leftover::default()
+            }
+            _ => {
+                let file = self.files.remove(&number).unwrap_or_default();
+                Leftover { late_mode: file.late_mode, hidden: file.hidden }
+            }
+        }
+    }
+
+    pub fn is_open(&self, number: u32) -> bool {
+        self.files.contains_key(&number)
+    }
+
+    pub fn is_hidden(&self, number: u32) -> bool {
+        self.files.get(&number).map_or(false, |file| file.hidden.is_some())
+    }
+
+    /// The mode that an open file gets later, if it has another one now.
+    pub fn late_mode(&self, number: u32) -> Option<u16> {
+        self.files.get(&number)?.late_mode
+    }
+
+    pub fn set_late_mode(&mut self, number: u32, mode: Option<u16>) {
+        if let Some(file) = self.files.get_mut(&number) {
+            file.late_mode = mode;
+        }
+    }
+
+    pub fn hide(&mut self, number: u32, directory: u32, name: Name) {
+        if let Some(file) = self.files.get_mut(&number) {
+            file.hidden = Some((directory, name));
+        }
+    }
+
+    /// The next text of a name for a file that is hidden.
+    pub fn hidden_name(&mut self, number: u32) -> String {
+        self.hidden_count += 1;
+        format!(".kfs-hidden-{number}-{}-{}", std::process::id(), self.hidden_count)
+    }
+
+    /// Keeps a list of names while it is read. Returns its handle.
+    pub fn open_list(&mut self, names: Vec<(Name, u32)>) -> u64 {
+        self.next += 1;
+        self.lists.insert(self.next, names);
+        self.next
+    }
+
+    pub fn list(&self, handle: u64) -> &[(Name, u32)] {
+        self.lists.get(&handle).map_or(&[], Vec::as_slice)
+    }
+
+    pub fn close_list(&mut self, handle: u64) {
+        self.lists.remove(&handle);
+    }
+}
+
+#[cfg(test)]
+mod tests {
+    use super::*;
+
+    #[test]
+    fn what_is_left_comes_with_the_last_close() {
+        let mut handles = Handles::default();
+        handles.open(5);
+        handles.open(5);
+        handles.set_late_mode(5, Some(0o400));
+        assert_eq!(handles.close(5), Leftover::default());
+        assert_eq!(handles.close(5).late_mode, Some(0o400));
+        assert!(!handles.is_open(5));
+    }
+}

@@ -1,0 +1,241 @@
+//! Requests of the kernel and replies to it, as bytes of /dev/fuse (include/uapi/linux/fuse.h, version 7.31). Numbers are in the
+//! machine's own order.
+
+use nix::errno::Errno;
+
+/// The version that is spoken.
+pub const MAJOR: u32 = 7;
+pub const MINOR: u32 = 31;
+/// The most bytes of a Write, and of what a Read asks for.
+pub const MOST_BYTES: u32 = 1 << 20;
+/// How many bytes a request has at most.
+pub const REQUEST: usize = (MOST_BYTES as usize) + 65_536;
+/// How many bytes stand before what a request says.
+const HEAD: usize = 40;
+
+/// What a reply to the first request says that is wanted: a Truncate with an open, long writes, names with what they lead to.
+pub const WANTED: u32 = 1 << 3 | 1 << 5 | 1 << 13 | 1 << 14 | 1 << 22;
+
+/// What the kernel asks for.
+#[derive(Clone, Copy, Debug, PartialEq, Eq)]
+pub enum Operation {
+    Lookup,
+    Forget,
+    GetAttributes,
+    SetAttributes,
+    ReadLink,
+    SymbolicLink,
+    MakeNode,
+    MakeDirectory,
+    Unlink,
+    RemoveDirectory,
+    Rename,
+    RenameWithFlags,
+    Link,
+    Open,
+    Read,
+    Write,
+    StatFileSystem,
+    Release,
+    Sync,
+    Flush,
+    Init,
+    OpenDirectory,
+    ReadDirectory,
+    ReadDirectoryPlus,
+    ReleaseDirectory,
+    Access,
+    Create,
+    Interrupt,
+    Destroy,
+    /// Something that isn't there.
+    Other(u32),
+}
+
+impl Operation {
+    fn of(code: u32) -> Operation {
+        match code {
+            1 => Operation::Lookup,
+            2 | 42 => Operation::Forget,
+            3 => Operation::GetAttributes,
+            4 => Operation::SetAttributes,
+            5 => Operation::ReadLink,
+            6 => Operation::SymbolicLink,
+            8 => Operation::MakeNode,
+            9 => Operation::MakeDirectory,
+            10 => Operation::Unlink,
+            11 => Operation::RemoveDirectory,
+            12 => Operation::Rename,
+            13 => Operation::Link,
+            14 => Operation::Open,
+            15 => Operation::Read,
+            16 => Operation::Write,
+            17 => Operation::StatFileSystem,
+            18 => Operation::Release,
+            // of a file, of a directory, of all
+            20 | 30 | 50 => Operation::Sync,
+            25 => Operation::Flush,
+            26 => Operation::Init,
+            27 => Operation::OpenDirectory,
+            28 => Operation::ReadDirectory,
+            29 => Operation::ReleaseDirectory,
+            34 => Operation::Access,
+            35 => Operation::Create,
+            36 => Operation::Interrupt,
+            38 => Operation::Destroy,
+            44 => Operation::ReadDirectoryPlus,
+            45 => Operation::RenameWithFlags,
+            other => Operation::Other(other),
+        }
+    }
+}
+
+/// A request, whose fields are read one after another.
+#[derive(Debug)]
+pub struct Request<'a> {
+    pub operation: Operation,
+    /// The kernel's number for it.
+    pub unique: u64,
+    /// The node that it is about.
+    pub node: u32,
+    rest: &'a [u8],
+}
+
+impl<'a> Request<'a> {
+    /// The request that these bytes are.
+    pub fn of(bytes: &'a [u8]) -> Result<Request<'a>, Errno> {
+        let mut head = Request { operation: Operation::Other(0), unique: 0, node: 0, rest: bytes };
+        let _length = head.word()?;
+        let operation = Operation::of(head.word()?);
+        let (unique, node) = (head.long()?, head.long()?);
+        // Numbers of nodes are those of the desk, and the root is 1 for both.
+        let node = u32::try_from(node).map_err(|_| Errno::ESTALE)?;
+        Ok(Request { operation, unique, node, rest: bytes.get(HEAD..).ok_or(Errno::EIO)? })
+    }
+
+    fn array<const N: usize>(&mut self) -> Result<[u8; N], Errno> {
+        let taken = self.rest.get(..N).and_then(|bytes| bytes.try_into().ok()).ok_or(Errno::EIO)?;
+        self.rest = &self.rest[N..];
+        Ok(taken)
+    }
+
+    pub fn word(&mut self) -> Result<u32, Errno> {
+        Ok(u32::from_ne_bytes(self.array()?))
+    }
+
+    pub fn long(&mut self) -> Result<u64, Errno> {
+        Ok(u64::from_ne_bytes(self.array()?))
+    }
+
+    /// Passes so many bytes over.
+    pub fn skip(&mut self, count: usize) -> Result<(), Errno> {
+        self.rest = self.rest.get(count..).ok_or(Errno::EIO)?;
+        Ok(())
+    }
+
+    /// The bytes up to the next zero byte.
+    pub fn text(&mut self) -> Result<&'a [u8], Errno> {
+        let end = self.rest.iter().position(|byte| *byte == 0).ok_or(Errno::EIO)?;
+        let text = &self.rest[..end];
+        self.rest = &self.rest[end + 1..];
+        Ok(text)
+    }
+
+    /// So many bytes.
+    pub fn bytes(&mut self, count: usize) -> Result<&'a [u8], Errno> {
+        let taken = self.rest.get(..count).ok_or(Errno::EIO)?;
+        self.rest = &self.rest[count..];
+        Ok(taken)
+    }
+}
+
+/// Bytes that are put one behind another.
+#[derive(Debug, Default)]
+pub struct Reply(pub Vec<u8>);
+
+impl Reply {
+    pub fn short(&mut self, number: u16) -> &mut Reply {
+        self.0.extend_from_slice(&number.to_ne_bytes());
+        self
+    }
+
+    pub fn word(&mut self, number: u32) -> &mut Reply {
+        self.0.extend_from_slice(&number.to_ne_bytes());
+        self
+    }
+
+    pub fn long(&mut self, number: u64) -> &mut Reply {
+        self.0.extend_from_slice(&number.to_ne_bytes());
+        self
+    }
+
+    pub fn bytes(&mut self, bytes: &[u8]) -> &mut Reply {
+        self.0.extend_from_slice(bytes);
+        self
+    }
+
+    pub fn zeros(&mut self, count: usize) -> &mut Reply {
+        self.0.resize(self.0.len() + count, 0);
+        self
+    }
+}
+
+/// The whole reply to a request.
+pub fn reply_bytes(unique: u64, answer: Result<Reply, Errno>) -> Vec<u8> {
+    let (error, said) = match answer {
+        Ok(reply) => (0, reply.0),
+        Err(errno) => (-(errno as i32), Vec::new()),
+    };
+    let mut whole = Reply::default();
+    whole.word(16 + said.len() as u32).word(error as u32).long(unique).bytes(&said);
+    whole.0
+}
+
+/// The answer to the first request.
+pub fn init_reply(request: &mut Request<'_>) -> Result<Reply, Errno> {
+    let (major, _minor) = (request.word()?, request.word()?);
+    let (read_ahead, flags) = (request.word()?, request.word()?);
+    let mut reply = Reply::default();
+    if major != MAJOR {
+        return Err(Errno::EPROTO);
+    }
+    reply.word(MAJOR).word(MINOR).word(read_ahead).word(flags & WANTED);
+    // how much may be under way in the background, the longest write, the grain of times, the most pages of a request
+    reply.short(64).short(48).word(MOST_BYTES).word(1).short((MOST_BYTES / 4096) as u16).short(0);
+    reply.zeros(32);
+    Ok(reply)
+}
+
+#[cfg(test)]
+mod tests {
+    use super::*;
+
+    #[test]
+    fn a_request_is_read_field_by_field() {
+        let mut bytes = Reply::default();
+        bytes.word(48).word(1).long(9).long(1).zeros(16).bytes(b"name\0");
+        let mut request = Request::of(&bytes.0).unwrap();
+        assert_eq!((request.operation, request.unique, request.node), (Operation::Lookup, 9, 1));
+        assert_eq!(request.text().unwrap(), b"name");
+        assert_eq!(request.word(), Err(Errno::EIO));
+        assert!(Request::of(&bytes.0[..39]).is_err());
+    }
+
+    #[test]
+    fn a_refusal_is_a_negative_number() {
+        let bytes = reply_bytes(9, Err(Errno::ENOENT));
+        assert_eq!(bytes.len(), 16);
+        assert_eq!(i32::from_ne_bytes(bytes[4..8].try_into().unwrap()), -2);
+        assert_eq!(reply_bytes(9, Ok(Reply(vec![7; 3]))).len(), 19);
+    }
+
+    #[test]
+    fn the_first_answer_has_64_bytes() {
+        let mut bytes = Reply::default();
+        bytes.word(104).word(26).long(2).zeros(24).word(7).word(45).word(131_072).word(u32::MAX);
+        let mut request = Request::of(&bytes.0).unwrap();
+        let reply = init_reply(&mut request).unwrap();
+        assert_eq!(reply.0.len(), 64);
+        assert_eq!(reply.0[12..16], WANTED.to_ne_bytes());
+    }
+}

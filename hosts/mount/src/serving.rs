@@ -1,0 +1,272 @@
+//! Requests of the kernel, one after another.
+
+use crate::attributes::{attribute_reply, entry, now, type_bits, Shape};
+use crate::protocol::{init_reply, reply_bytes, Operation, Reply, Request, REQUEST};
+use crate::volume::{Attributes, Volume};
+use kfs_client::desk::Blocks;
+use kfs_client::node::GREATEST_NUMBER;
+use kfs_client::{Desk, Kind, Name};
+use nix::errno::Errno;
+use nix::poll::{poll, PollFd, PollFlags};
+use nix::sys::signalfd::SignalFd;
+use std::fs::File;
+use std::io::{self, Read, Write};
+use std::os::unix::io::AsRawFd;
+use std::time::Duration;
+
+/// How long a request is waited for, until what is due is done, in milliseconds.
+const PAUSE: i32 = 200;
+/// The bits of a mode that say what a node is, and those of a file.
+const TYPE: u32 = 0o170_000;
+const FILE: u32 = 0o100_000;
+/// The flag of a Rename that replaces nothing.
+const REPLACES_NOTHING: u32 = 1;
+
+/// Answers the kernel until the tree is unmounted, or a signal comes.
+pub fn serve<D: Desk>(device: &mut File, signals: &mut SignalFd, volume: &mut Volume<D>) -> io::Result<()> {
+    let mut bytes = vec![0; REQUEST];
+    loop {
+        let mut waits =
+            [PollFd::new(device.as_raw_fd(), PollFlags::POLLIN), PollFd::new(signals.as_raw_fd(), PollFlags::POLLIN)];
+        match poll(&mut waits, PAUSE) {
+            Ok(0) | Err(Errno::EINTR) => {
+                volume.poll();
+                continue;
+            }
+            Ok(_) => {}
+            Err(errno) => return Err(errno.into()),
+        }
+        if waits[1].revents().map_or(false, |events| !events.is_empty()) {
+            return Ok(());
+        }
+        match device.read(&mut bytes) {
+            Ok(count) => answer(device, volume, &bytes[..count])?,
+            Err(fault) => match fault.raw_os_error().map(Errno::from_i32) {
+                Some(Errno::ENODEV) => return Ok(()),
+                // The caller has given up meanwhile.
+                Some(Errno::ENOENT | Errno::EINTR | Errno::EAGAIN) => {}
+                _ => return Err(fault),
+            },
+        }
+    }
+}
+
+/// Answers a request, where it has an answer.
+fn answer<D: Desk>(device: &mut File, volume: &mut Volume<D>, bytes: &[u8]) -> io::Result<()> {
+    let mut request = match Request::of(bytes) {
+        Ok(request) => request,
+        Err(_) => return Ok(()),
+    };
+    if matches!(request.operation, Operation::Forget | Operation::Interrupt | Operation::Destroy) {
+        return Ok(());
+    }
+    let unique = request.unique;
+    let said = reply_bytes(unique, answer_of(volume, &mut request));
+    match device.write_all(&said) {
+        // The caller has given up meanwhile.
+        Err(fault) if fault.raw_os_error() == Some(Errno::ENOENT as i32) => Ok(()),
+        written => written,
+    }
+}
+
+fn answer_of<D: Desk>(volume: &mut Volume<D>, request: &mut Request<'_>) -> Result<Reply, Errno> {
+    let node = request.node;
+    match request.operation {
+        Operation::Init => init_reply(request),
+        Operation::Lookup => {
+            let found = volume.lookup(node, request.text()?)?;
+            Ok(entry_reply(volume, found))
+        }
+        Operation::GetAttributes => {
+            let shape = volume.shape(node)?;
+            Ok(attribute_reply(node, &shape, &volume.clocks))
+        }
+        Operation::SetAttributes => {
+            let wanted = wanted_attributes(request)?;
+            let shape = volume.set_attributes(node, &wanted)?;
+            Ok(attribute_reply(node, &shape, &volume.clocks))
+        }
+        Operation::StatFileSystem => volume.blocks().map(file_system_reply),
+        Operation::Sync => volume.sync().map(|()| Reply::default()),
+        Operation::Flush => Ok(Reply::default()),
+        Operation::Access => {
+            let mask = request.word()?;
+            volume.access(node, mask).map(|()| Reply::default())
+        }
+        Operation::OpenDirectory | Operation::ReleaseDirectory => open_directory(volume, request),
+        Operation::ReadDirectory => read_directory(volume, request, false),
+        Operation::ReadDirectoryPlus => read_directory(volume, request, true),
+        Operation::Open | Operation::Create | Operation::Read | Operation::Write | Operation::Release => {
+            answer_of_file(volume, request)
+        }
+        Operation::ReadLink => volume.read_link(node).map(Reply),
+        Operation::Forget | Operation::Interrupt | Operation::Destroy | Operation::Other(_) => Err(Errno::ENOSYS),
+        _ => answer_of_names(volume, request),
+    }
+}
+
+/// The answer to a request that changes names.
+fn answer_of_names<D: Desk>(volume: &mut Volume<D>, request: &mut Request<'_>) -> Result<Reply, Errno> {
+    let node = request.node;
+    match request.operation {
+        Operation::MakeNode => {
+            let mode = request.word()?;
+            request.skip(12)?;
+            if mode & TYPE != FILE {
+                return Err(Errno::EPERM);
+            }
+            let found = volume.make(node, request.text()?, Kind::File, (mode & 0o1777) as u16)?;
+            Ok(entry_reply(volume, found))
+        }
+        Operation::MakeDirectory => {
+            let (mode, _umask) = (request.word()?, request.word()?);
+            let found = volume.make_directory(node, request.text()?, mode)?;
+            Ok(entry_reply(volume, found))
+        }
+        Operation::SymbolicLink => {
+            let (name, target) = (request.text()?, request.text()?);
+            let found = volume.make_link(node, name, target)?;
+            Ok(entry_reply(volume, found))
+        }
+        Operation::Unlink => volume.unlink(node, request.text()?, Kind::File).map(|()| Reply::default()),
+        Operation::RemoveDirectory => volume.unlink(node, request.text()?, Kind::Directory).map(|()| Reply::default()),
+        Operation::Rename | Operation::RenameWithFlags => {
+            let to = node_of(request.long()?)?;
+            let has_flags = request.operation == Operation::RenameWithFlags;
+            let flags = if has_flags { request.long()? as u32 } else { 0 };
+            if flags & !REPLACES_NOTHING != 0 {
+                return Err(Errno::EINVAL);
+            }
+            let (name, new_name) = (request.text()?, request.text()?);
+            volume.rename(node, name, to, new_name, flags == 0).map(|()| Reply::default())
+        }
+        Operation::Link => {
+            let number = node_of(request.long()?)?;
+            let shape = volume.link(number, node, request.text()?)?;
+            Ok(entry_reply(volume, (number, shape)))
+        }
+        _ => Err(Errno::ENOSYS),
+    }
+}
+
+/// The answer to a request of a file that is open, or is to be.
+fn answer_of_file<D: Desk>(volume: &mut Volume<D>, request: &mut Request<'_>) -> Result<Reply, Errno> {
+    let node = request.node;
+    match request.operation {
+        Operation::Open => {
+            volume.open(node, request.word()?)?;
+            Ok(open_reply(0))
+        }
+        Operation::Create => {
+            let (flags, mode) = (request.word()?, request.word()?);
+            request.skip(8)?;
+            let found = volume.create(node, request.text()?, mode, flags)?;
+            let mut reply = entry_reply(volume, found);
+            reply.bytes(&open_reply(0).0);
+            Ok(reply)
+        }
+        Operation::Read => {
+            let (_handle, start, most) = (request.long()?, request.long()?, request.word()?);
+            volume.read(node, start, most as usize).map(Reply)
+        }
+        Operation::Write => {
+            let (_handle, start, count) = (request.long()?, request.long()?, request.word()?);
+            request.skip(20)?;
+            let count = volume.write(node, start, request.bytes(count as usize)?)?;
+            let mut reply = Reply::default();
+            reply.word(count as u32).word(0);
+            Ok(reply)
+        }
+        _ => volume.close_file(node).map(|()| Reply::default()),
+    }
+}
+
+fn node_of(number: u64) -> Result<u32, Errno> {
+    u32::try_from(number).map_err(|_| Errno::ESTALE)
+}
+
+fn entry_reply<D>(volume: &Volume<D>, (number, shape): (u32, Shape)) -> Reply {
+    let mut reply = Reply::default();
+    entry(number, &shape, &volume.clocks, &mut reply);
+    reply
+}
+
+/// `fuse_open_out`: a handle, and no flag: the kernel forgets the bytes that it has of a file when it is opened.
+fn open_reply(handle: u64) -> Reply {
+    let mut reply = Reply::default();
+    reply.long(handle).word(0).word(0);
+    reply
+}
+
+/// `fuse_kstatfs`: blocks, and nodes, of which a desk has so many at most. How many of these are free nobody tells.
+fn file_system_reply(blocks: Blocks) -> Reply {
+    let mut reply = Reply::default();
+    reply.long(blocks.all.into()).long(blocks.free.into()).long(blocks.free.into());
+    reply.long(GREATEST_NUMBER.into()).long(GREATEST_NUMBER.into());
+    reply.word(4096).word(255).word(4096).word(0).zeros(24);
+    reply
+}
+
+/// `fuse_setattr_in`.
+fn wanted_attributes(request: &mut Request<'_>) -> Result<Attributes, Errno> {
+    let valid = request.word()?;
+    request.skip(12)?;
+    let size = request.long()?;
+    request.skip(8)?;
+    let (read, written, _changed) = (request.long()?, request.long()?, request.long()?);
+    let (read_rest, written_rest, _changed_rest) = (request.word()?, request.word()?, request.word()?);
+    let mode = request.word()?;
+    request.skip(4)?;
+    let (uid, gid) = (request.word()?, request.word()?);
+    let time = |seconds, rest, given: u32, is_now: u32| match valid & (given | is_now) {
+        0 => None,
+        bits if bits & is_now != 0 => Some(now()),
+        _ => Some(Duration::new(seconds, rest)),
+    };
+    Ok(Attributes {
+        mode: Some(mode).filter(|_| valid & 1 != 0),
+        uid: Some(uid).filter(|_| valid & 2 != 0),
+        gid: Some(gid).filter(|_| valid & 4 != 0),
+        size: Some(size).filter(|_| valid & 8 != 0),
+        read: time(read, read_rest, 16, 128),
+        written: time(written, written_rest, 32, 256),
+    })
+}
+
+fn open_directory<D: Desk>(volume: &mut Volume<D>, request: &mut Request<'_>) -> Result<Reply, Errno> {
+    if request.operation == Operation::OpenDirectory {
+        return volume.open_list(request.node).map(open_reply);
+    }
+    volume.handles.close_list(request.long()?);
+    Ok(Reply::default())
+}
+
+/// Names of a directory from an offset on, as many as fit; with what they lead to, where that is asked for.
+fn read_directory<D: Desk>(volume: &mut Volume<D>, request: &mut Request<'_>, is_plus: bool) -> Result<Reply, Errno> {
+    let (handle, offset, most) = (request.long()?, request.long()?, request.word()? as usize);
+    let mut reply = Reply::default();
+    let dots: [(&[u8], u32); 2] = [(b".", request.node), (b"..", volume.parent(request.node))];
+    let names: Vec<(Name, u32)> =
+        volume.handles.list(handle).iter().skip((offset as usize).saturating_sub(2)).cloned().collect();
+    let dots = dots.into_iter().map(|(text, number)| (text.to_vec(), number)).skip(offset as usize);
+    let names = names.into_iter().map(|(name, number)| (name.as_bytes().to_vec(), number));
+    for (at, (text, number)) in (offset + 1..).zip(dots.chain(names)) {
+        let length = (24 + text.len() + 7) / 8 * 8 + if is_plus { 128 } else { 0 };
+        if reply.0.len() + length > most {
+            break;
+        }
+        // A name that went since the list was made leads nowhere.
+        let shape = match volume.shape(number) {
+            Ok(shape) => shape,
+            Err(_) => continue,
+        };
+        if is_plus && matches!(text.as_slice(), b"." | b"..") {
+            reply.zeros(128);
+        } else if is_plus {
+            entry(number, &shape, &volume.clocks, &mut reply);
+        }
+        reply.long(number.into()).long(at).word(text.len() as u32).word(type_bits(&shape) >> 12).bytes(&text);
+        reply.zeros((8 - text.len() % 8) % 8);
+    }
+    Ok(reply)
+}
