@@ -5,7 +5,7 @@
 //! `serving` has a server in thirty lines, and an example of each public type of `kfs_judge`, `kfs_plan` and `kfs_desk`.
 //! `plans` has the maker of plans, and `spelled` calls, answers and states as bytes.
 //!
-//! It stands on `kfs_workers_script`, `kfs_desk`, `kfs_plan_maker`, `kfs_call_desk` and `kfs_test_support`. Begin with
+//! It stands on `kfs_workers`, `kfs_desk`, `kfs_plan_maker`, `kfs_call_desk` and `kfs_test_support`. Begin with
 //! `desks.rt`, which has the calls.
 //!
 //! A test is proved too, and would have to carry the clauses of each call that it makes. So each call

@@ -11,7 +11,7 @@ use kfs_lease::LeaseKind;
 use kfs_plan::{Fault, Submission};
 use kfs_test_support::refusing::Refusing;
 use kfs_test_support::vectors::{CREATE_LOG, CREATE_PLAN};
-use kfs_workers_script::{ScriptBack, ScriptEnd, Step, run_script};
+use kfs_workers::{ScriptBack, ScriptEnd, Step, run_script};
 use std::alloc::{Allocator, Global};
 
 /// A step of a script.

@@ -1,5 +1,0 @@
-use Rattle.kfs_workers_script.proofs.BetweenLandings.{steps_leave_verdicts}
-use Rattle.kfs_workers_script.proofs.laws.moves_leave_verdicts.Goals as goal
-
-pub returns : goal.returns
-returns c = steps_leave_verdicts
