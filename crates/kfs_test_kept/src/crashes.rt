@@ -1,9 +1,10 @@
 //! A crash at each moment of a run, torn in five ways, and the desk that is opened then.
-use crate::keeping::{AMPLE, Found, Heap, Keeper};
+use crate::keeping::{AMPLE, Heap, Keeper};
 use crate::run::{
     BAD, LEASE_FILE, LEASE_ROOT, MANY_STEPS, MIGRATE, Step, TICK, run, states, submit,
 };
 use kfs_journal::{MemoryDisk, Tear};
+use kfs_kept::OpenFault;
 use kfs_test_support::refusing::Refusing;
 use kfs_test_support::vectors::{CREATE_LOG, CREATE_PLAN, LETTERS_LOG, LETTERS_PLAN};
 use std::process::Abort;
@@ -23,10 +24,10 @@ fn found_after<'a>(
     moment: usize,
     tear: Tear,
 ) -> Option<Vec<u8, Heap<'a>>> {
-    match Keeper::after_crash(rt, heap, disk, moment, tear)? {
-        Found::Nothing => Some(Vec::new(heap)),
-        Found::Kept(keeper) => keeper.saved(),
-        Found::Refused(_) => None,
+    match Keeper::after_crash(rt, heap, disk, moment, tear) {
+        Ok(keeper) => keeper.saved(),
+        Err(Some(OpenFault::Empty | OpenFault::NotAJournal)) => Some(Vec::new(heap)),
+        Err(_) => None,
     }
 }
 

@@ -1,4 +1,7 @@
 //! Calls that make no call of the disk, and when a checkpoint is due.
+ghost use Rattle.kfs_journal.specs.Memory.{memory_may_leave, memory_seen};
+ghost use Rattle.kfs_kept.specs.Keeping.{IsKept};
+
 use crate::keeping::{AMPLE, Heap, Keeper};
 use crate::run::{BAD, submit};
 use kfs_test_support::refusing::Refusing;
@@ -7,14 +10,20 @@ use std::alloc::Global;
 use std::process::Abort;
 
 /// How many answers the calls have, and how many calls of the disk they make.
-fn cost(keeper: &mut Keeper<'_>, calls: &[&[u8]]) -> Option<(usize, usize)> {
+fn cost(keeper: &mut Keeper<'_>, calls: &[&[u8]]) -> Option<(usize, usize)>
+    requires { IsKept memory_seen memory_may_leave keeper.old.kept }
+    ensures { IsKept memory_seen memory_may_leave keeper.new.kept }
+{
     let before = keeper.moment();
     let count = keeper.call(calls).ok()?;
     Some((count.answers, keeper.moment().saturating_sub(before)))
 }
 
 /// Whether a checkpoint was due and is made, and how many calls of the disk it makes.
-fn made(keeper: &mut Keeper<'_>) -> Option<(bool, usize)> {
+fn made(keeper: &mut Keeper<'_>) -> Option<(bool, usize)>
+    requires { IsKept memory_seen memory_may_leave keeper.old.kept }
+    ensures { IsKept memory_seen memory_may_leave keeper.new.kept }
+{
     let before = keeper.moment();
     let is_made = keeper.save_if_due().ok()?;
     Some((is_made, keeper.moment().saturating_sub(before)))

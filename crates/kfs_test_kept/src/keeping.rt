@@ -1,5 +1,5 @@
 //! A kept desk on a disk in memory.
-ghost use Rattle.std.specs.Prelude.{◌≡◌, IfErr, IfSome, None};
+ghost use Rattle.std.specs.Prelude.{◌≡◌, IfErr, IfOk, IfSome, None};
 ghost use Rattle.kfs_desk.specs.Opening.{begin_fault};
 ghost use Rattle.kfs_journal.specs.Memory.{memory_may_leave, memory_seen};
 ghost use Rattle.kfs_kept.specs.Keeping.{IsKept};
@@ -75,21 +75,11 @@ fn count_of(answers: &[Result<Called, CallFault>]) -> Count {
     count
 }
 
-/// A kept desk. That it is kept goes with it, so no test has to carry the clauses of the calls that it makes.
+/// A kept desk. Each call says no more of it than that it is kept: the next one asks for that alone.
 #[derive(Drop)]
 pub struct Keeper<'a> {
     heap: Heap<'a>,
-    kept: Kept<Heap<'a>, MemoryDisk>,
-    ghost is_kept: { IsKept memory_seen memory_may_leave kept },
-}
-
-/// What files are opened as.
-#[derive(Drop)]
-pub enum Found<'a> {
-    /// No journal was made on them.
-    Nothing,
-    Kept(Keeper<'a>),
-    Refused(OpenFault),
+    pub kept: Kept<Heap<'a>, MemoryDisk>,
 }
 
 impl<'a> Keeper<'a> {
@@ -100,7 +90,8 @@ impl<'a> Keeper<'a> {
         desk: Desk<Heap<'a>>,
     ) -> Result<Keeper<'a>, CreateBack<Heap<'a>, MemoryDisk>>
         requires { begin_fault desk.state.clients ≡ None }
-        ensures { IfErr result (λ back. begin_fault back.desk.state.clients ≡ None) }
+        ensures kept { IfOk result (λ keeper. IsKept memory_seen memory_may_leave keeper.kept) }
+        ensures back { IfErr result (λ back. begin_fault back.desk.state.clients ≡ None) }
     {
         let disk = MemoryDisk::new(alloc, Vec::new(alloc), Vec::new(alloc));
         match Kept::create(heap, desk, disk) {
@@ -110,47 +101,64 @@ impl<'a> Keeper<'a> {
     }
 
     /// A new desk, kept.
-    pub fn begin(alloc: Global, heap: Heap<'a>) -> Option<Keeper<'a>> {
+    pub fn begin(alloc: Global, heap: Heap<'a>) -> Option<Keeper<'a>>
+        ensures { IfSome result (λ keeper. IsKept memory_seen memory_may_leave keeper.kept) }
+    {
         match Keeper::keep(alloc, heap, opened(heap)?) {
             Ok(keeper) => Some(keeper),
             Err(_) => None,
         }
     }
 
-    /// What the files are opened as that a crash leaves at that moment.
+    /// What the files are opened as that a crash leaves at that moment. `Err(None)` where a copy of them finds no memory.
     pub fn after_crash(
         rt: &(impl Threads + Sync),
         heap: Heap<'a>,
         disk: &MemoryDisk,
         moment: usize,
         tear: Tear,
-    ) -> Option<Found<'a>> {
-        let left = disk.crashed(moment, tear).ok()?;
-        let (first, second) = left.contents().ok()?;
+    ) -> Result<Keeper<'a>, Option<OpenFault>>
+        ensures { IfOk result (λ keeper. IsKept memory_seen memory_may_leave keeper.kept) }
+    {
+        let Ok(left) = disk.crashed(moment, tear) else {
+            return Err(None);
+        };
+        let Ok((first, second)) = left.contents() else {
+            return Err(None);
+        };
         match Kept::open(rt, heap, left, &first, &second, LIMIT) {
-            Ok(kept) => Some(Found::Kept(Keeper { heap, kept })),
-            Err(back) => match back.why {
-                OpenFault::Empty | OpenFault::NotAJournal => Some(Found::Nothing),
-                why => Some(Found::Refused(why)),
-            },
+            Ok(kept) => Ok(Keeper { heap, kept }),
+            Err(back) => Err(Some(back.why)),
         }
     }
 
-    pub fn call(&mut self, calls: &[&[u8]]) -> Result<Count, CallsFault> {
+    pub fn call(&mut self, calls: &[&[u8]]) -> Result<Count, CallsFault>
+        requires { IsKept memory_seen memory_may_leave self.old.kept }
+        ensures { IsKept memory_seen memory_may_leave self.new.kept }
+    {
         let answers = self.kept.call_all(self.heap, calls)?;
         Ok(count_of(&answers))
     }
 
-    fn checkpoint(&mut self) -> Result<(), SaveFault> {
+    fn checkpoint(&mut self) -> Result<(), SaveFault>
+        requires { IsKept memory_seen memory_may_leave self.old.kept }
+        ensures { IsKept memory_seen memory_may_leave self.new.kept }
+    {
         self.kept.checkpoint(self.heap)
     }
 
-    fn begin_checkpoint(&mut self) -> Result<(), SaveFault> {
+    fn begin_checkpoint(&mut self) -> Result<(), SaveFault>
+        requires { IsKept memory_seen memory_may_leave self.old.kept }
+        ensures { IsKept memory_seen memory_may_leave self.new.kept }
+    {
         self.kept.begin_checkpoint(self.heap)
     }
 
     /// Makes a checkpoint, or begins one in steps.
-    pub fn save(&mut self, in_steps: bool) -> Result<(), SaveFault> {
+    pub fn save(&mut self, in_steps: bool) -> Result<(), SaveFault>
+        requires { IsKept memory_seen memory_may_leave self.old.kept }
+        ensures { IsKept memory_seen memory_may_leave self.new.kept }
+    {
         if in_steps {
             self.begin_checkpoint()
         } else {
@@ -159,17 +167,26 @@ impl<'a> Keeper<'a> {
     }
 
     /// Makes a checkpoint where one is due.
-    pub fn save_if_due(&mut self) -> Result<bool, SaveFault> {
+    pub fn save_if_due(&mut self) -> Result<bool, SaveFault>
+        requires { IsKept memory_seen memory_may_leave self.old.kept }
+        ensures { IsKept memory_seen memory_may_leave self.new.kept }
+    {
         self.kept.checkpoint_if_due(self.heap)
     }
 
-    fn step(&mut self) -> Result<bool, SaveFault> {
+    fn step(&mut self) -> Result<bool, SaveFault>
+        requires { IsKept memory_seen memory_may_leave self.old.kept }
+        ensures { IsKept memory_seen memory_may_leave self.new.kept }
+    {
         self.kept.step_checkpoint(MOST)
     }
 
     /// Makes up to so many steps of a checkpoint, and says whether it is finished then. None where one isn't made.
-    pub fn make_steps(&mut self, count: usize) -> Option<bool> {
-        for _ in 0..count {
+    pub fn make_steps(&mut self, count: usize) -> Option<bool>
+        requires { IsKept memory_seen memory_may_leave self.old.kept }
+        ensures { IsKept memory_seen memory_may_leave self.new.kept }
+    {
+        'steps: for _ in 0..count {
             if self.step().ok()? {
                 return Some(true);
             }
@@ -177,7 +194,9 @@ impl<'a> Keeper<'a> {
         Some(false)
     }
 
-    pub fn is_due(&self) -> bool {
+    pub fn is_due(&self) -> bool
+        requires { IsKept memory_seen memory_may_leave self.now.kept }
+    {
         self.kept.is_checkpoint_due()
     }
 
@@ -191,7 +210,9 @@ impl<'a> Keeper<'a> {
     }
 
     /// The state as bytes that an open desk shows.
-    pub fn saved(&self) -> Option<Vec<u8, Heap<'a>>> {
+    pub fn saved(&self) -> Option<Vec<u8, Heap<'a>>>
+        requires { IsKept memory_seen memory_may_leave self.now.kept }
+    {
         saved(self.heap, self.kept.desk()?)
     }
 

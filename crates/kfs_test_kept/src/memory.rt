@@ -1,9 +1,11 @@
 //! Kept desks with one allocation refused: what is answered, and what is left standing.
 ghost use Rattle.std.specs.Prelude.{◌≡◌, None};
 ghost use Rattle.kfs_desk.specs.Opening.{begin_fault};
+ghost use Rattle.kfs_journal.specs.Memory.{memory_may_leave, memory_seen};
+ghost use Rattle.kfs_kept.specs.Keeping.{IsKept};
 
 use crate::crashes::is_left;
-use crate::keeping::{AMPLE, Count, Found, Heap, Keeper, opened, saved};
+use crate::keeping::{AMPLE, Count, Heap, Keeper, opened, saved};
 use crate::run::{LEASE_FILE, LEASE_ROOT, MANY_STEPS, MIGRATE, make_plain, submit};
 use kfs_desk::Desk;
 use kfs_journal::{MemoryDisk, Tear};
@@ -39,7 +41,9 @@ type Calls<'a> = [&'a [u8]; 5];
 
 /// Whether the desk is open and shows this state, and its files are opened as it after a crash that loses all that isn't
 /// synced.
-fn stands(rt: &(impl Threads + Sync), heap: Heap<'_>, keeper: &Keeper<'_>, state: &[u8]) -> bool {
+fn stands(rt: &(impl Threads + Sync), heap: Heap<'_>, keeper: &Keeper<'_>, state: &[u8]) -> bool
+    requires { IsKept memory_seen memory_may_leave keeper.now.kept }
+{
     keeper.saved().is_some_and(|it| it.as_slice() == state)
         && is_left(rt, heap, keeper.disk(), state)
 }
@@ -50,7 +54,9 @@ fn stands_on(
     heap: Heap<'_>,
     keeper: &mut Keeper<'_>,
     state: &[u8],
-) -> bool {
+) -> bool
+    requires { IsKept memory_seen memory_may_leave keeper.old.kept }
+{
     let is_right = stands(rt, heap, keeper, state);
     let is_finished = keeper.make_steps(MANY_STEPS) == Some(true);
     is_right && is_finished && stands(rt, heap, keeper, state)
@@ -76,7 +82,9 @@ fn are_answered(
     keeper: &mut Keeper<'_>,
     calls: &Calls<'_>,
     count: Count,
-) -> bool {
+) -> bool
+    requires { IsKept memory_seen memory_may_leave keeper.old.kept }
+{
     let is_whole = count.answers == calls.len()
         && count.made.saturating_add(count.without_memory) == calls.len();
     let state = state_after(heap, calls, count.left_out);
@@ -92,7 +100,9 @@ fn is_closed(
     keeper: &mut Keeper<'_>,
     calls: &Calls<'_>,
     state: &[u8],
-) -> bool {
+) -> bool
+    requires { IsKept memory_seen memory_may_leave keeper.old.kept }
+{
     let is_lost = is_left(rt, heap, keeper.disk(), state);
     is_lost && !keeper.is_open() && keeper.call(calls) == Err(CallsFault::Closed)
 }
@@ -221,7 +231,7 @@ struct Left<'a> {
 }
 
 /// One with two groups.
-fn left<'a>(alloc: Global, heap: Heap<'a>, calls: &Calls<'_>) -> Option<Left<'a>> {
+fn kept_through<'a>(alloc: Global, heap: Heap<'a>, calls: &Calls<'_>) -> Option<Left<'a>> {
     let mut keeper = Keeper::begin(alloc, heap)?;
     keeper.call(&calls[..2]).ok()?;
     keeper.call(&calls[2..]).ok()?;
@@ -236,19 +246,18 @@ fn open_end(rt: &(impl Threads + AllocGlobal + Sync), left: &Left<'_>, growth: u
     let found = Keeper::after_crash(rt, &heap, disk, disk.moment(), Tear::Lost);
     let has_refused = heap.has_refused();
     heap.refuse_after(AMPLE);
-    let (end, is_right) = match found? {
-        Found::Kept(keeper) => (
+    let (end, is_right) = match found {
+        Ok(keeper) => (
             End::Ample,
             !has_refused && stands(rt, &heap, &keeper, &left.state),
         ),
-        Found::Refused(why) => {
-            let is_told = has_refused && why == OpenFault::OutOfMemory;
+        Err(why) => {
+            let is_told = has_refused && why == Some(OpenFault::OutOfMemory);
             (
                 End::Unchanged,
                 is_told && is_left(rt, &heap, disk, &left.state),
             )
         }
-        Found::Nothing => return None,
     };
     is_right.then_some(end)
 }
@@ -337,7 +346,7 @@ fn refused_memory_is_told(rt: HostRuntime) {
         assert!(&rt; are_calls_told(ends, under_way), "calls: {ends:?}");
     }
     let heap = Refusing::new(rt.alloc(), AMPLE);
-    let left = left(rt.alloc(), &heap, &calls).expect(&rt, "memory");
+    let left = kept_through(rt.alloc(), &heap, &calls).expect(&rt, "memory");
     for (done, least) in [
         (Done::Create, 3),
         (Done::Checkpoint { in_steps: false }, 5),

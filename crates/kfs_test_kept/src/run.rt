@@ -1,4 +1,7 @@
 //! A run of a kept desk, and what a desk that isn't kept shows after each of its steps.
+ghost use Rattle.kfs_journal.specs.Memory.{memory_may_leave, memory_seen};
+ghost use Rattle.kfs_kept.specs.Keeping.{IsKept};
+
 use crate::keeping::{Heap, Keeper, opened, saved};
 use kfs_call_desk::call;
 use kfs_desk::Desk;
@@ -48,7 +51,10 @@ pub enum Step<'a> {
 }
 
 /// Whether a step ends as it is to.
-fn makes(keeper: &mut Keeper<'_>, step: Step<'_>) -> bool {
+fn makes(keeper: &mut Keeper<'_>, step: Step<'_>) -> bool
+    requires { IsKept memory_seen memory_may_leave keeper.old.kept }
+    ensures { IsKept memory_seen memory_may_leave keeper.new.kept }
+{
     match step {
         Step::Calls(calls, made) => keeper.call(calls).is_ok_and(|count| count.made == made),
         Step::Begin => keeper.save(true).is_ok(),
@@ -57,10 +63,12 @@ fn makes(keeper: &mut Keeper<'_>, step: Step<'_>) -> bool {
 }
 
 /// Makes the steps, and tells how many calls of the disk were made before them and by the end of each.
-pub fn run(alloc: Global, keeper: &mut Keeper<'_>, steps: &[Step<'_>]) -> Option<Vec<usize>> {
+pub fn run(alloc: Global, keeper: &mut Keeper<'_>, steps: &[Step<'_>]) -> Option<Vec<usize>>
+    requires { IsKept memory_seen memory_may_leave keeper.old.kept }
+{
     let mut moments = Vec::new(alloc);
     moments.push(keeper.moment()).ok()?;
-    for step in steps {
+    'steps: for step in steps {
         if !makes(keeper, *step) {
             return None;
         }
