@@ -7,6 +7,7 @@ use kfs_journal::{MemoryDisk, Tear};
 use kfs_kept::OpenFault;
 use kfs_test_support::refusing::Refusing;
 use kfs_test_support::vectors::{CREATE_LOG, CREATE_PLAN, LETTERS_LOG, LETTERS_PLAN};
+use std::alloc::Global;
 use std::process::Abort;
 use std::thread::Threads;
 
@@ -60,19 +61,33 @@ fn is_due(states: &[Vec<u8, Heap<'_>>], moments: &[usize], moment: usize, found:
     is_state(states, ended, found) || is_state(states, ended.saturating_add(1), found)
 }
 
+/// Two groups, a checkpoint in steps with a group of a tick between two of them, and a group.
+fn steps<'a>(
+    alloc: Global,
+    create: &'a [u8],
+    tick: &'a [u8],
+    letters: &'a [u8],
+) -> Option<Vec<Step<'a>>> {
+    let first = Vec::from_slice(alloc, &[LEASE_ROOT, BAD, create]).ok()?;
+    let second = Vec::from_slice(alloc, &[create, LEASE_FILE]).ok()?;
+    let within = Vec::from_slice(alloc, &[tick]).ok()?;
+    let last = Vec::from_slice(alloc, &[letters, MIGRATE]).ok()?;
+    let mut steps = Vec::new(alloc);
+    steps.push(Step::Calls(first, 2)).ok()?;
+    steps.push(Step::Calls(second, 2)).ok()?;
+    steps.push(Step::Begin).ok()?;
+    steps.push(Step::Next(FIRST_STEPS, false)).ok()?;
+    steps.push(Step::Calls(within, 1)).ok()?;
+    steps.push(Step::Next(MANY_STEPS, true)).ok()?;
+    steps.push(Step::Calls(last, 2)).ok()?;
+    Some(steps)
+}
+
 #[test]
 fn each_moment_leaves_what_was_answered(rt: HostRuntime) {
     let create = submit(rt.alloc(), CREATE_LOG, CREATE_PLAN).expect(&rt, "memory");
     let letters = submit(rt.alloc(), LETTERS_LOG, LETTERS_PLAN).expect(&rt, "memory");
-    let steps = [
-        Step::Calls(&[LEASE_ROOT, BAD, &create], 2),
-        Step::Calls(&[&create, LEASE_FILE], 2),
-        Step::Begin,
-        Step::Next(FIRST_STEPS, false),
-        Step::Calls(&[TICK], 1),
-        Step::Next(MANY_STEPS, true),
-        Step::Calls(&[&letters, MIGRATE], 2),
-    ];
+    let steps = steps(rt.alloc(), &create, TICK, &letters).expect(&rt, "memory");
     let heap = Refusing::new(rt.alloc(), AMPLE);
     let states = states(&heap, &steps).expect(&rt, "memory");
     let mut keeper = Keeper::begin(rt.alloc(), &heap).expect(&rt, "memory");

@@ -26,14 +26,23 @@ const MOST: usize = 32;
 /// Where a kept desk has its memory. An allocation of it may be refused.
 pub type Heap<'a> = &'a Refusing<Global>;
 
-/// A desk with client 7 on a new image.
+/// Client 7, which may create files 2 to 99.
+fn new_client() -> Option<Client> {
+    Client::new(7, 1_000, 1_000, &[], false, 2, 99).ok()
+}
+
+fn new_image<'a>(heap: Heap<'a>) -> Option<Image<Heap<'a>>> {
+    Image::fresh(heap, TierSizes::new(8, 8, 8)?).ok()
+}
+
+/// A desk with client 7 on a new image. Image and client come from functions that say nothing of them, so that the proof doesn't
+/// compute with them.
 pub fn opened<'a>(heap: Heap<'a>) -> Option<Desk<Heap<'a>>>
     ensures { IfSome result (λ desk. begin_fault desk.state.clients ≡ None) }
 {
-    let image = Image::fresh(heap, TierSizes::new(8, 8, 8)?).ok()?;
-    let client = Client::new(7, 1_000, 1_000, &[], false, 2, 99).ok()?;
+    let image = new_image(heap)?;
     let mut clients = Vec::new(heap);
-    clients.push(client).ok()?;
+    clients.push(new_client()?).ok()?;
     match Desk::begin(heap, image, clients, LIMIT) {
         Ok(desk) => Some(desk),
         Err(_) => None,

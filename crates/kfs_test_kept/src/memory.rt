@@ -34,9 +34,6 @@ enum End {
     GivenUp,
 }
 
-/// Client 7 asks for the root, creates file 5, asks for it and writes to it, and a block moves.
-type Calls<'a> = [&'a [u8]; 5];
-
 // ---- what is shown and found
 
 /// Whether the desk is open and shows this state, and its files are opened as it after a crash that loses all that isn't
@@ -65,7 +62,7 @@ fn stands_on(
 /// The state as bytes after the calls but for one, of a desk that isn't kept.
 fn state_after<'a>(
     heap: Heap<'a>,
-    calls: &Calls<'_>,
+    calls: &[&[u8]],
     left_out: Option<usize>,
 ) -> Option<Vec<u8, Heap<'a>>> {
     let mut desk = opened(heap)?;
@@ -80,17 +77,17 @@ fn are_answered(
     rt: &(impl Threads + Sync),
     heap: Heap<'_>,
     keeper: &mut Keeper<'_>,
-    calls: &Calls<'_>,
+    calls: &[&[u8]],
     count: Count,
 ) -> bool
     requires { IsKept memory_seen memory_may_leave keeper.old.kept }
 {
     let is_whole = count.answers == calls.len()
         && count.made.saturating_add(count.without_memory) == calls.len();
-    let state = state_after(heap, calls, count.left_out);
-    is_whole
-        && count.without_memory <= 1
-        && state.is_some_and(|it| stands_on(rt, heap, keeper, &it))
+    let Some(state) = state_after(heap, calls, count.left_out) else {
+        return false;
+    };
+    is_whole && count.without_memory <= 1 && stands_on(rt, heap, keeper, &state)
 }
 
 /// Whether the desk is closed, its files are as they were, and it answers nothing more.
@@ -98,20 +95,20 @@ fn is_closed(
     rt: &(impl Threads + Sync),
     heap: Heap<'_>,
     keeper: &mut Keeper<'_>,
-    calls: &Calls<'_>,
+    calls: &[&[u8]],
     state: &[u8],
 ) -> bool
     requires { IsKept memory_seen memory_may_leave keeper.old.kept }
 {
     let is_lost = is_left(rt, heap, keeper.disk(), state);
-    is_lost && !keeper.is_open() && keeper.call(calls) == Err(CallsFault::Closed)
+    is_lost && !keeper.is_open() && matches!(keeper.call(calls), Err(CallsFault::Closed))
 }
 
 /// How the calls end, made at a new desk with the allocation of this index refused, and with a checkpoint under way, where that
 /// is asked for. None where it isn't as it is due.
 fn calls_end(
     rt: &(impl Threads + AllocGlobal + Sync),
-    calls: &Calls<'_>,
+    calls: &[&[u8]],
     growth: u64,
     under_way: bool,
 ) -> Option<End> {
@@ -161,13 +158,13 @@ fn calls_end(
 /// then. None where it isn't as it is due.
 fn checkpoint_end(
     rt: &(impl Threads + AllocGlobal + Sync),
-    calls: &Calls<'_>,
+    calls: &[&[u8]],
     growth: u64,
     in_steps: bool,
 ) -> Option<End> {
     let heap = Refusing::new(rt.alloc(), AMPLE);
     let mut keeper = Keeper::begin(rt.alloc(), &heap)?;
-    keeper.call(&calls[..2]).ok()?;
+    keeper.call(calls.get(..2)?).ok()?;
     let state = keeper.saved()?;
     let before = keeper.moment();
     heap.refuse_after(growth);
@@ -231,10 +228,10 @@ struct Left<'a> {
 }
 
 /// One with two groups.
-fn kept_through<'a>(alloc: Global, heap: Heap<'a>, calls: &Calls<'_>) -> Option<Left<'a>> {
+fn kept_through<'a>(alloc: Global, heap: Heap<'a>, calls: &[&[u8]]) -> Option<Left<'a>> {
     let mut keeper = Keeper::begin(alloc, heap)?;
-    keeper.call(&calls[..2]).ok()?;
-    keeper.call(&calls[2..]).ok()?;
+    keeper.call(calls.get(..2)?).ok()?;
+    keeper.call(calls.get(2..)?).ok()?;
     let state = keeper.saved()?;
     Some(Left { keeper, state })
 }
@@ -277,7 +274,7 @@ enum Done<'a, 'b> {
 fn end_of(
     rt: &(impl Threads + AllocGlobal + Sync),
     done: Done<'_, '_>,
-    calls: &Calls<'_>,
+    calls: &[&[u8]],
     growth: u64,
 ) -> Option<End> {
     match done {
@@ -301,7 +298,7 @@ struct Ends {
 fn ends_of(
     rt: &(impl Threads + AllocGlobal + Sync),
     done: Done<'_, '_>,
-    calls: &Calls<'_>,
+    calls: &[&[u8]],
 ) -> Result<Ends, u64> {
     let mut ends = Ends {
         unchanged: 0,
@@ -340,7 +337,9 @@ fn are_unchanged(ends: Ends, least: u64) -> bool {
 fn refused_memory_is_told(rt: HostRuntime) {
     let create = submit(rt.alloc(), CREATE_LOG, CREATE_PLAN).expect(&rt, "memory");
     let letters = submit(rt.alloc(), LETTERS_LOG, LETTERS_PLAN).expect(&rt, "memory");
-    let calls: Calls<'_> = [LEASE_ROOT, &create, LEASE_FILE, &letters, MIGRATE];
+    // Client 7 asks for the root, creates file 5, asks for it and writes to it, and a block moves.
+    let calls = [LEASE_ROOT, &create, LEASE_FILE, &letters, MIGRATE];
+    let calls = Vec::from_slice(rt.alloc(), &calls).expect(&rt, "memory");
     for under_way in [false, true] {
         let ends = ends_of(&rt, Done::Calls { under_way }, &calls).expect(&rt, "calls");
         assert!(&rt; are_calls_told(ends, under_way), "calls: {ends:?}");

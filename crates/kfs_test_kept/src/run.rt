@@ -40,10 +40,10 @@ pub fn submit(alloc: Global, log: &[u8], plan: &[u8]) -> Result<Vec<u8>, AllocEr
 }
 
 /// What a run does next, and how that is to end.
-#[derive(Clone, Copy)]
+#[derive(Drop)]
 pub enum Step<'a> {
     /// Calls as one group, and how many of them are made.
-    Calls(&'a [&'a [u8]], usize),
+    Calls(Vec<&'a [u8]>, usize),
     /// A checkpoint in steps is begun.
     Begin,
     /// At most so many steps of it, and whether it is finished then.
@@ -51,14 +51,14 @@ pub enum Step<'a> {
 }
 
 /// Whether a step ends as it is to.
-fn makes(keeper: &mut Keeper<'_>, step: Step<'_>) -> bool
+fn makes(keeper: &mut Keeper<'_>, step: &Step<'_>) -> bool
     requires { IsKept memory_seen memory_may_leave keeper.old.kept }
     ensures { IsKept memory_seen memory_may_leave keeper.new.kept }
 {
     match step {
-        Step::Calls(calls, made) => keeper.call(calls).is_ok_and(|count| count.made == made),
+        Step::Calls(calls, made) => keeper.call(calls).is_ok_and(|count| count.made == *made),
         Step::Begin => keeper.save(true).is_ok(),
-        Step::Next(count, finishes) => keeper.make_steps(count) == Some(finishes),
+        Step::Next(count, finishes) => keeper.make_steps(*count) == Some(*finishes),
     }
 }
 
@@ -69,7 +69,7 @@ pub fn run(alloc: Global, keeper: &mut Keeper<'_>, steps: &[Step<'_>]) -> Option
     let mut moments = Vec::new(alloc);
     moments.push(keeper.moment()).ok()?;
     'steps: for step in steps {
-        if !makes(keeper, *step) {
+        if !makes(keeper, step) {
             return None;
         }
         moments.push(keeper.moment()).ok()?;

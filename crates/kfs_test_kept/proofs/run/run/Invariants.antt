@@ -4,4 +4,4 @@ use Rattle.kfs_kept.specs.Keeping.{IsKept}
 use Rattle.kfs_test_kept.proofs.run.run.Given as goal
 
 abbrev pub invariant-steps : goal.invariant-steps
-invariant-steps g l = IsKept memory_seen memory_may_leave l.keeper.kept
+invariant-steps l = IsKept memory_seen memory_may_leave l.keeper.kept
