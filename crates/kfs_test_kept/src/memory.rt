@@ -1,5 +1,5 @@
 //! Kept desks with one allocation refused: what is answered, and what is left standing.
-ghost use Rattle.std.specs.Prelude.{◌≡◌, None};
+ghost use Rattle.std.specs.Prelude.{◌≡◌, IfSome, None};
 ghost use Rattle.kfs_desk.specs.Opening.{begin_fault};
 ghost use Rattle.kfs_journal.specs.Memory.{memory_may_leave, memory_seen};
 ghost use Rattle.kfs_kept.specs.Keeping.{IsKept};
@@ -104,6 +104,18 @@ fn is_closed(
     is_lost && !keeper.is_open() && matches!(keeper.call(calls), Err(CallsFault::Closed))
 }
 
+/// A new desk, kept; with a checkpoint under way, where that is asked for.
+fn kept_with<'a>(alloc: Global, heap: Heap<'a>, under_way: bool) -> Option<Keeper<'a>>
+    ensures { IfSome result (λ keeper. IsKept memory_seen memory_may_leave keeper.kept) }
+{
+    let mut keeper = Keeper::begin(alloc, heap)?;
+    if !under_way {
+        return Some(keeper);
+    }
+    keeper.save(true).ok()?;
+    Some(keeper)
+}
+
 /// How the calls end, made at a new desk with the allocation of this index refused, and with a checkpoint under way, where that
 /// is asked for. None where it isn't as it is due.
 fn calls_end(
@@ -113,10 +125,7 @@ fn calls_end(
     under_way: bool,
 ) -> Option<End> {
     let heap = Refusing::new(rt.alloc(), AMPLE);
-    let mut keeper = Keeper::begin(rt.alloc(), &heap)?;
-    if under_way {
-        keeper.save(true).ok()?;
-    }
+    let mut keeper = kept_with(rt.alloc(), &heap, under_way)?;
     let state = keeper.saved()?;
     let before = keeper.moment();
     heap.refuse_after(growth);
