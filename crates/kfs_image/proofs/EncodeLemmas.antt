@@ -3,4 +3,5 @@ pub mod Walks
 pub mod NodeWalks
 pub mod Spelled
 pub mod Sizes
+pub mod Zeros
 pub mod RunExtents

@@ -1,70 +1,104 @@
-//! A crash at each moment of the run, torn in five ways, and the desk that is opened then.
-use crate::files::{Outcome, found_after, is_found};
-use crate::journal::run::TEARS;
-use crate::run::{STEPS, run, states};
-use kfs_journal::Tear;
-use std::alloc::AllocGlobal;
+//! A crash at each moment of a run, torn in five ways, and the desk that is opened then.
+use crate::keeping::{AMPLE, Heap, Keeper};
+use crate::run::{
+    BAD, LEASE_FILE, LEASE_ROOT, MANY_STEPS, MIGRATE, Step, TICK, run, states, submit,
+};
+use kfs_journal::{MemoryDisk, Tear};
+use kfs_kept::OpenFault;
+use kfs_test_support::refusing::Refusing;
+use kfs_test_support::vectors::{CREATE_LOG, CREATE_PLAN, LETTERS_LOG, LETTERS_PLAN};
+use std::alloc::Global;
 use std::process::Abort;
 use std::thread::Threads;
 
-/// Whether a crash at each moment of the opening leaves what it has found.
-fn is_found_again(rt: &(impl Threads + AllocGlobal + Sync), found: &Outcome) -> bool {
-    for moment in 0..=found.disk.moment() {
-        for tear in [Tear::Lost, Tear::Half] {
-            if !is_found(rt, &found.disk, moment, tear, &found.state) {
-                return false;
-            }
-        }
+/// The ways in which a crash tears.
+const TEARS: [Tear; 5] = [Tear::Lost, Tear::Whole, Tear::Half, Tear::Ones, Tear::Zeros];
+
+/// How many steps a checkpoint goes on before the group within it: its state isn't whole in the next file by then.
+const FIRST_STEPS: usize = 3;
+
+/// The state as bytes that the files are opened as after a crash, none where nothing is kept. None where they aren't opened.
+fn found_after<'a>(
+    rt: &(impl Threads + Sync),
+    heap: Heap<'a>,
+    disk: &MemoryDisk,
+    moment: usize,
+    tear: Tear,
+) -> Option<Vec<u8, Heap<'a>>> {
+    match Keeper::after_crash(rt, heap, disk, moment, tear) {
+        Ok(keeper) => keeper.saved(),
+        Err(Some(OpenFault::Empty | OpenFault::NotAJournal)) => Some(Vec::new(heap)),
+        Err(_) => None,
     }
-    true
 }
 
-/// Whether the opening of what such a crash leaves is crashed, too. That of each would take long.
-fn is_crashed_twice(tear: Tear) -> bool {
-    matches!(tear, Tear::Lost | Tear::Half)
+/// Whether the files are opened as this state after a crash that loses all that isn't synced.
+pub fn is_left(
+    rt: &(impl Threads + Sync),
+    heap: Heap<'_>,
+    disk: &MemoryDisk,
+    state: &[u8],
+) -> bool {
+    found_after(rt, heap, disk, disk.moment(), Tear::Lost).is_some_and(|it| it.as_slice() == state)
 }
 
-/// How many steps were done by that moment.
-fn done_by(moments: &[usize; STEPS], moment: usize) -> usize {
-    let mut count = 0usize;
+/// Whether that is the state of this index, counted from 1; no bytes are that before the first.
+fn is_state(states: &[Vec<u8, Heap<'_>>], index: usize, found: &[u8]) -> bool {
+    match index.checked_sub(1) {
+        Some(place) => states.get(place).is_some_and(|it| it.as_slice() == found),
+        None => found.is_empty(),
+    }
+}
+
+/// Whether that is what the files may stand for by that moment, where at most one step more was begun than was ended.
+fn is_due(states: &[Vec<u8, Heap<'_>>], moments: &[usize], moment: usize, found: &[u8]) -> bool {
+    let mut ended = 0usize;
     for end in moments {
         if *end <= moment {
-            count = count.saturating_add(1);
+            ended = ended.saturating_add(1);
         }
     }
-    count
+    is_state(states, ended, found) || is_state(states, ended.saturating_add(1), found)
 }
 
-/// Whether that is what the files may stand for after so many steps, where at most one more was begun.
-fn is_due(found: &[u8], states: &[Vec<u8>; STEPS], done: usize) -> bool {
-    let before = match done.checked_sub(1) {
-        Some(last) => states
-            .get(last)
-            .is_some_and(|state| state.as_slice() == found),
-        None => found.is_empty(),
-    };
-    before
-        || states
-            .get(done)
-            .is_some_and(|state| state.as_slice() == found)
+/// Two groups, a checkpoint in steps with a group of a tick between two of them, and a group.
+fn steps<'a>(
+    alloc: Global,
+    create: &'a [u8],
+    tick: &'a [u8],
+    letters: &'a [u8],
+) -> Option<Vec<Step<'a>>> {
+    let first = Vec::from_slice(alloc, &[LEASE_ROOT, BAD, create]).ok()?;
+    let second = Vec::from_slice(alloc, &[create, LEASE_FILE]).ok()?;
+    let within = Vec::from_slice(alloc, &[tick]).ok()?;
+    let last = Vec::from_slice(alloc, &[letters, MIGRATE]).ok()?;
+    let mut steps = Vec::new(alloc);
+    steps.push(Step::Calls(first, 2)).ok()?;
+    steps.push(Step::Calls(second, 2)).ok()?;
+    steps.push(Step::Begin).ok()?;
+    steps.push(Step::Next(FIRST_STEPS, false)).ok()?;
+    steps.push(Step::Calls(within, 1)).ok()?;
+    steps.push(Step::Next(MANY_STEPS, true)).ok()?;
+    steps.push(Step::Calls(last, 2)).ok()?;
+    Some(steps)
 }
 
 #[test]
 fn each_moment_leaves_what_was_answered(rt: HostRuntime) {
-    let ran = run(rt.alloc()).expect(&rt, "the run");
-    let states = states(rt.alloc()).expect(&rt, "memory");
-    for moment in 0..=ran.kept.disk().moment() {
+    let create = submit(rt.alloc(), CREATE_LOG, CREATE_PLAN).expect(&rt, "memory");
+    let letters = submit(rt.alloc(), LETTERS_LOG, LETTERS_PLAN).expect(&rt, "memory");
+    let steps = steps(rt.alloc(), &create, TICK, &letters).expect(&rt, "memory");
+    let heap = Refusing::new(rt.alloc(), AMPLE);
+    let states = states(&heap, &steps).expect(&rt, "memory");
+    let mut keeper = Keeper::begin(rt.alloc(), &heap).expect(&rt, "memory");
+    let moments = run(rt.alloc(), &mut keeper, &steps).expect(&rt, "the run");
+    for moment in 0..=keeper.moment() {
         for tear in TEARS {
-            let found = found_after(&rt, ran.kept.disk(), moment, tear);
-            assert!(&rt; found.is_some(), "moment {moment}");
-            if let Some(found) = found {
-                assert!(&rt;
-                    is_due(&found.state, &states, done_by(&ran.moments, moment)),
-                    "moment {moment}"
-                );
-                let is_right = !is_crashed_twice(tear) || is_found_again(&rt, &found);
-                assert!(&rt; is_right, "moment {moment}");
-            }
+            let found = found_after(&rt, &heap, keeper.disk(), moment, tear).expect(&rt, "opened");
+            assert!(&rt;
+                is_due(&states, &moments, moment, &found),
+                "moment {moment}"
+            );
         }
     }
 }

@@ -1,11 +1,9 @@
-//! Tests of the journal: crashes at each moment over a disk in memory, its bytes, files that are no journal, and disks of real
-//! files. The expected values come from the format that the head of `kfs_journal` has, never from the program's own output.
+//! Tests of the journal: its bytes, files that are no journal, files that fail, and disks of real files. The expected values come
+//! from the format that the head of `kfs_journal` has, never from the program's own output. `tools/journal-crashes` crashes a
+//! journal at each moment.
 //!
-//! Begin with `crashes.rt`.
+//! Begin with `bytes.rt`.
 mod bytes;
-mod crashes;
 mod failing;
 mod files;
 mod foreign;
-pub mod run;
-mod short;

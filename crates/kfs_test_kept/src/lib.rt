@@ -1,18 +1,15 @@
-//! Tests of kept desks: four groups of calls and a checkpoint in steps, with a crash at each moment of them and of the opening
-//! after; each call with one allocation refused; and when a checkpoint is due. Those of the journal, and of its files, are in
-//! `journal`.
+//! Tests of kept desks: four groups of calls and a checkpoint in steps, with a crash at each moment of them; each call with one
+//! allocation refused; and when a checkpoint is due. Those of the journal, and of its files, are in `journal`.
 //!
 //! It stands on `kfs_kept`, `kfs_journal`, `kfs_journal_files`, `kfs_call_desk` and `kfs_test_support`. A test is proved too, and
-//! would have to carry the clauses of each call that it makes. So the calls of `kfs_kept` are in small functions, which say no
-//! more than that the desk is kept. Begin with `keeping.rt`.
+//! would have to carry the clauses of each call that it makes. So the calls of `kfs_kept` are methods of `Keeper`, whose invariant
+//! says that the desk is kept. Begin with `keeping.rt`.
 #![tactic(auto)]
 
 #[cfg(test)]
 mod crashes;
 #[cfg(test)]
 mod due;
-#[cfg(test)]
-mod files;
 #[cfg(test)]
 mod journal;
 #[cfg(test)]

@@ -123,9 +123,16 @@ fn write_block<A: Allocator, B: Allocator>(
     ensures { OnOk result (out.new.items ≡ out.old.items ++ block_of (content_of (get (shown_tree image.now).nodes number)) block) }
 {
     let len = out.len();
-    out.resize(len + BLOCK_LEN, 0)?;
+    push_zeros(out)?;
     read_block(image, number, block, &mut out[len..]);
     Ok(())
+}
+
+/// Appends a block of zero bytes, in one piece: `resize` writes one byte after another.
+fn push_zeros<B: Allocator>(out: &mut Vec<u8, B>) -> Result<(), AllocError>
+    ensures { OnOk result (out.new.items ≡ out.old.items ++ replicate block_size 0) }
+{
+    out.extend_from_slice(&[0u8; BLOCK_LEN])
 }
 
 /// Reads a block over zero bytes.

@@ -1,9 +1,9 @@
 //! The bytes of both files after a short run, and what bytes by the format stand for.
+ghost use Rattle.std.specs.Prelude.{◌≡◌, IfSome, OnOk};
 ghost use Rattle.kfs_journal.specs.Disk.{Only};
-ghost use Rattle.kfs_journal.specs.Journal.{AreEmpty};
+ghost use Rattle.kfs_journal.specs.Journal.{AreEmpty, IsSettled};
 ghost use Rattle.kfs_journal.specs.Memory.{memory_seen, memory_may_leave};
 
-use crate::journal::run::{are_groups, change, disk_of, put as put_group};
 use kfs_journal::{Journal, JournalFault, MemoryDisk, Opened};
 use std::alloc::Global;
 use std::process::Abort;
@@ -25,15 +25,43 @@ static LAST: [u8; 23] = [
     b'z', 0,
 ];
 
+/// A disk of two files with these bytes, all on the disk.
+pub fn disk_of(alloc: Global, first: &[u8], second: &[u8]) -> Option<MemoryDisk>
+    ensures seen { IfSome result (λ disk. memory_seen disk ≡ (first.now, second.now)) }
+    ensures durable { IfSome result (λ disk. Only (memory_seen disk) (memory_may_leave disk)) }
+{
+    let first = first.to_vec(alloc).ok()?;
+    let second = second.to_vec(alloc).ok()?;
+    Some(MemoryDisk::new(alloc, first, second))
+}
+
+/// Whether there are so many groups, each with these bytes.
+pub fn are_groups(groups: &[Vec<u8>], count: usize, bytes: &[u8]) -> bool {
+    for group in groups {
+        if group.as_slice() != bytes {
+            return false;
+        }
+    }
+    groups.len() == count
+}
+
+/// `Journal::put`, with the clause that the next call asks for alone.
+fn put_group(disk: &mut MemoryDisk, journal: &mut Journal, group: &[u8]) -> Result<(), JournalFault>
+    requires { IsSettled (memory_seen disk.old) (memory_may_leave disk.old) journal.old }
+    ensures { OnOk result (IsSettled (memory_seen disk.new) (memory_may_leave disk.new) journal.new) }
+{
+    journal.put(disk, group)
+}
+
 /// Puts a group behind a state, and then changes to an empty one if that is asked for.
 fn put(alloc: Global, disk: &mut MemoryDisk, changes: bool) -> Result<(), JournalFault>
     requires empty { AreEmpty (memory_seen disk.old) }
     requires durable { Only (memory_seen disk.old) (memory_may_leave disk.old) }
 {
     let mut journal = Journal::create(alloc, disk, b"ab")?;
-    put_group(alloc, disk, &mut journal, b"c")?;
+    put_group(disk, &mut journal, b"c")?;
     if changes {
-        change(alloc, disk, &mut journal, b"")?;
+        journal.change(alloc, disk, b"")?;
     }
     Ok(())
 }

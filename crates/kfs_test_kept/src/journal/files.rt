@@ -5,7 +5,7 @@ ghost use Rattle.kfs_journal.specs.Disk.{Only};
 ghost use Rattle.kfs_journal.specs.Journal.{AreEmpty};
 ghost use Rattle.kfs_journal_files.specs.Events.{seen_after, Leaves};
 
-use crate::journal::run::are_groups;
+use crate::journal::bytes::are_groups;
 use kfs_journal::{Journal, JournalFault};
 use kfs_journal_files::{
     FIRST_NAME, FilesFault, OpenedFiles, Pair, RawDisk, SECOND_NAME, create_files, open_files,

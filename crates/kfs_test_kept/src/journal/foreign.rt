@@ -1,6 +1,6 @@
 //! Files that are no journal: they are told apart from empty ones, and stay as they are.
 
-use crate::journal::run::disk_of;
+use crate::journal::bytes::disk_of;
 use kfs_journal::{Journal, OpenFault};
 use std::alloc::Global;
 use std::process::Abort;
