@@ -1,7 +1,8 @@
 //! Tests of kept desks: four groups of calls and a checkpoint in steps, with a crash at each moment of them; each call with one
-//! allocation refused; and when a checkpoint is due. Those of the journal, and of its files, are in `journal`.
+//! allocation refused; and when a checkpoint is due. Those of the journal, and of its files, are in `journal`. In
+//! `surface` are those of the public surface of all crates.
 //!
-//! It stands on `kfs_kept`, `kfs_journal`, `kfs_journal_files`, `kfs_call_desk` and `kfs_test_support`. A test is proved too, and
+//! It stands on `kfs_kept`, `kfs_journal`, `kfs_journal_files`, `kfs_call_desk` and `kfs_test_support`, and `surface` on the public crates. A test is proved too, and
 //! would have to carry the clauses of each call that it makes. So the calls of `kfs_kept` are methods of `Keeper`, whose invariant
 //! says that the desk is kept. Begin with `keeping.rt`.
 #![tactic(auto)]
@@ -18,3 +19,5 @@ mod keeping;
 mod memory;
 #[cfg(test)]
 mod run;
+#[cfg(test)]
+mod surface;
