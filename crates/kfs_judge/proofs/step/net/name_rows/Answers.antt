@@ -1,5 +1,5 @@
 -- The only name makes the only row.
-use Rattle.std.proofs.Common.{◌≡◌, ◌∙◌, ◌∷◌, [], None, ap, nat_eq, subst, sym}
+use Rattle.std.proofs.Common.{◌≡◌, ◌∙◌, ◌∷◌, [], ℕ, List, Option, None, ap, nat_eq, subst, sym}
 use Rattle.kfs_model.specs.Sight.{NameIn}
 use Rattle.kfs_model.specs.Tree.{name_order}
 use Rattle.kfs_model.specs.Plan.{number_now}
@@ -27,7 +27,7 @@ returns-in-Some g c =
     record {
       goes = c.in_ok-row.ensures.goes;
       known = λ state agrees.
-          let was = λ key. state.sight.name key.0 key.1 in
+          let was : (ℕ × List ℕ) → Option ℕ = λ key. state.sight.name key.0 key.1 in
           names-differ draft state.sight (sorted_alone name_order.compare (entries_of draft.names) (key, now) alone) c.in_ok-rows.rows.items
           (rows_of_one nat_eq numbers-exact number_now was keyed_name_row c.in_ok-row.row c.in_ok-rows.rows.items (key, now) c.in_ok-rows.ensures (c.in_ok-row.ensures.known state agrees)
           ∙ ap (changed_rows nat_eq number_now was) (sym alone));
