@@ -1,3 +1,4 @@
 pub mod Created
+pub mod Few
 pub mod Overlay
 pub mod Shifts

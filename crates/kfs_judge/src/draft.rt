@@ -2,9 +2,11 @@
 //! with. Begin with `draft.rt`.
 mod created;
 mod draft;
+mod few;
 mod key;
 mod parents;
 mod shifts;
 
 pub use self::draft::{Draft, linked, unlinked};
+pub use self::few::Few;
 pub use self::key::NameKey;

@@ -3,7 +3,7 @@ use Rattle.std.specs.Prelude.{◌≡◌, ℕ, ◌+◌, ◌≤◌, ◌==◌, Bool
 use Rattle.std.specs.Option.{option_map, is_some}
 use Rattle.std.specs.Ordering.{nat_cmp, eq_by_cmp}
 use Rattle.std.specs.Cmp.{unsigned_tied, nat_eq_equiv}
-use Rattle.std.specs.BTreeMap.{BTreeMap, get}
+use Rattle.std.specs.BTreeMap.{get}
 use Rattle.std.proofs.Common.{ap, sym, subst, ◌∙◌, arith}
 use Rattle.std.proofs.lemmas.Bool.{eq-eqb, eqb-true}
 use Rattle.std.proofs.lemmas.Int.{ints}
@@ -18,8 +18,10 @@ use Rattle.kfs_model.proofs.Overlay as laid
 use Rattle.kfs_types.specs.Views.{header_of}
 use Rattle.kfs_types.specs.declared.entry.Header.{Header as CodeHeader}
 use Rattle.kfs_judge.specs.declared.draft.draft.Draft.{Draft}
+use Rattle.kfs_judge.specs.declared.draft.few.Few.{Few}
 use Rattle.kfs_judge.specs.declared.draft.parents.Parents.{Parents}
 use Rattle.kfs_judge.specs.declared.draft.shifts.Shifts.{Shifts}
+use Rattle.kfs_judge.specs.Draft.Few.{at_key, entries_of, found_in, PutsIn}
 use Rattle.kfs_judge.specs.Draft.Shifts.{IsShifted}
 use Rattle.kfs_judge.specs.Draft.Overlay.{over, has_header, KeepsHeaders, shift_of, with_header, with_target, with_more_names, with_parent, PutsAt, ShiftsBy}
 
@@ -40,8 +42,8 @@ counted count shift by = omega (arith, ints)
 -- what the draft has put into cells
 abbrev pub overlay_of : {A : Type 0} → Draft A → laid.Overlay
 overlay_of draft = record {
-  heads = λ n. option_map (option_map header_of) (get nat_cmp draft.heads n);
-  names = λ d m. get name_order.compare draft.names (d, m);
+  heads = λ n. option_map (option_map header_of) (found_in nat_cmp draft.heads n);
+  names = λ d m. found_in name_order.compare draft.names (d, m);
   shift = shift_of draft;
   parents = get nat_cmp draft.parents.map;
 }
@@ -52,10 +54,10 @@ over_is_laid draft s = refl
 
 -- ---- the draft with another map
 
-abbrev pub with_heads : {A : Type 0} → Draft A → BTreeMap ℕ (Option CodeHeader) → Draft A
+abbrev pub with_heads : {A : Type 0} → Draft A → Few ℕ (Option CodeHeader) A → Draft A
 with_heads draft heads = record draft { heads = heads }
 
-abbrev pub with_names : {A : Type 0} → Draft A → BTreeMap (ℕ × List ℕ) (Option ℕ) → Draft A
+abbrev pub with_names : {A : Type 0} → Draft A → Few (ℕ × List ℕ) (Option ℕ) A → Draft A
 with_names draft names = record draft { names = names }
 
 abbrev pub with_parents : {A : Type 0} → Draft A → Parents A → Draft A
@@ -65,7 +67,7 @@ abbrev pub with_shifts : {A : Type 0} → Draft A → Shifts A → Draft A
 with_shifts draft shifts = record draft { shifts = shifts }
 
 module _ {A : Type 0} (old : Draft A) where
-  pub header_shown : (heads : BTreeMap ℕ (Option CodeHeader)) (n : ℕ) (header : Option CodeHeader) → PutsAt nat_cmp old.heads heads n header
+  pub header_shown : (heads : Few ℕ (Option CodeHeader) A) (n : ℕ) (header : Option CodeHeader) → PutsIn nat_cmp (entries_of old.heads) (entries_of heads) n header
       → (s : Sight) → over (with_heads old heads) s ≡ with_header n (option_map header_of header) (over old s)
   header_shown heads n header puts s = λ i. record {
     head = λ k. head_at k i;
@@ -78,18 +80,18 @@ module _ {A : Type 0} (old : Draft A) where
       head_at k = put_read (λ h. unwrap_or (option_map (option_map header_of) h) (s.head k)) _ _ _ (k == n) header (puts k) (number_tie n k)
 
   -- what is put is there
-  pub header_put : (heads : BTreeMap ℕ (Option CodeHeader)) (n : ℕ) (header : Option CodeHeader) → PutsAt nat_cmp old.heads heads n header → IsTrue (has_header (with_heads old heads) n)
+  pub header_put : (heads : Few ℕ (Option CodeHeader) A) (n : ℕ) (header : Option CodeHeader) → PutsIn nat_cmp (entries_of old.heads) (entries_of heads) n header → IsTrue (has_header (with_heads old heads) n)
   header_put heads n header puts = put_read is_some _ _ _ true header (puts n) (number_tie n n ∙ eq-eqb n n refl)
 
   -- and so is what was there
-  pub headers_kept : (heads : BTreeMap ℕ (Option CodeHeader)) (n : ℕ) (header : Option CodeHeader) → PutsAt nat_cmp old.heads heads n header → KeepsHeaders old (with_heads old heads)
+  pub headers_kept : (heads : Few ℕ (Option CodeHeader) A) (n : ℕ) (header : Option CodeHeader) → PutsIn nat_cmp (entries_of old.heads) (entries_of heads) n header → KeepsHeaders old (with_heads old heads)
   headers_kept heads n header puts k is = put_read is_some _ _ _ (k == n) header (puts k) (number_tie n k) ∙ at (k == n)
     where
       at : (b : Bool) → (if b then true else has_header old k) ≡ true
       at true = refl
       at false = is
 
-  pub target_shown : (names : BTreeMap (ℕ × List ℕ) (Option ℕ)) (d : ℕ) (m : List ℕ) (target : Option ℕ) → PutsAt name_order.compare old.names names (d, m) target
+  pub target_shown : (names : Few (ℕ × List ℕ) (Option ℕ) A) (d : ℕ) (m : List ℕ) (target : Option ℕ) → PutsIn name_order.compare (entries_of old.names) (entries_of names) (d, m) target
       → (s : Sight) → over (with_names old names) s ≡ with_target d m target (over old s)
   target_shown names d m target puts s = λ i. record {
     head = (over old s).head;
@@ -152,10 +154,10 @@ shifts_wider draft few most fewer bound = record {
 }
 
 -- what holds at each key that the map has, and at the one that is put, holds at each that it has then
-pub put_among : {K X : Type 0} (R : Order K) (old new : BTreeMap K X) (key : K) (value : X) → PutsAt R.compare old new key value
-    → (P : K → Type 0) → ((k : K) (v : X) → get R.compare old k ≡ Some v → P k) → P key → (k : K) (v : X) → get R.compare new k ≡ Some v → P k
+pub put_among : {K X : Type 0} (R : Order K) (old new : List (K × X)) (key : K) (value : X) → PutsIn R.compare old new key value
+    → (P : K → Type 0) → ((k : K) (v : X) → at_key R.compare old k ≡ Some v → P k) → P key → (k : K) (v : X) → at_key R.compare new k ≡ Some v → P k
 put_among {K} {X} R old new key value puts P before here k v is = at (eq_by_cmp R.compare key k) refl
   where
     at : (tie : Bool) → eq_by_cmp R.compare key k ≡ tie → P k
     at true same = subst P (tells_apart R.exact key k same) here
-    at false other = before k v (sym (puts k ∙ ap (λ b. cond b (Some value) (get R.compare old k)) other) ∙ is)
+    at false other = before k v (sym (puts k ∙ ap (λ b. cond b (Some value) (at_key R.compare old k)) other) ∙ is)

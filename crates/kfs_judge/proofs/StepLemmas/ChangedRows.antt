@@ -15,10 +15,11 @@ use Rattle.kfs_model.specs.FirstWrong.{same_option, same_header}
 use Rattle.kfs_model.specs.Plan.{AreDifferences, number_now, header_now}
 use Rattle.kfs_model.proofs.Exact.{IsExact, options-exact, numbers-exact, headers-exact}
 use Rattle.kfs_model.proofs.Tables.{left_part, right_part, find_tie, find_below}
-use Rattle.kfs_judge.specs.Step.Rows.{keyed_name_row, keyed_node_row}
+use Rattle.kfs_judge.specs.Step.Rows.{IsRow, keyed_name_row, keyed_node_row}
 use Rattle.kfs_judge.specs.Step.Nets.{AreNamesOf, AreNodesOf}
 use Rattle.kfs_judge.specs.Draft.Overlay.{over}
 use Rattle.kfs_judge.specs.declared.draft.draft.Draft.{Draft}
+use Rattle.kfs_judge.specs.Draft.Few.{entries_of, list_of}
 use Rattle.kfs_types.specs.Views.{header_of}
 use Rattle.kfs_types.specs.declared.entry.Header.{Header as CodeHeader}
 use Rattle.kfs_types.specs.declared.plan.NameRow.{NameRow as CodeNameRow}
@@ -158,6 +159,11 @@ module _ {K X Y : Type 0} (same : X → X → Bool) (exact : IsExact same) (now 
     pub rows_all : (rows : List Z) (left : List (K × Option X)) (all : List (K × Y)) → left ≡ [] → map shown rows ++ changed_rows same now before left ≡ all → map shown rows ≡ all
     rows_all rows left all none so_far = sym (append-nil (map shown rows)) ∙ ap (λ xs. map shown rows ++ xs) (sym (ap (changed_rows same now before) none ∙ changed-none)) ∙ so_far
 
+    -- the rows of a single entry
+    pub rows_of_one : (row : Option Z) (rows : List Z) (e : K × Option X) → rows ≡ list_of row → IsRow now shown e.0 (before e.0) e.1 row → map shown rows ≡ changed_rows same now before (e ∷ [])
+    rows_of_one None rows e is equal = rows_all rows [] _ refl (rows_same rows e (e ∷ []) [] _ refl equal (ap (λ xs. map shown xs ++ changed_rows same now before (e ∷ [])) is))
+    rows_of_one (Some row) rows e is differs = rows_all rows [] _ refl (rows_more [] rows row e (e ∷ []) [] _ is refl differs refl)
+
 -- ---- entries of the code's maps
 
 module _ {K X : Type 0} (R : Order K) where
@@ -182,12 +188,12 @@ module _ {K X : Type 0} (R : Order K) where
 -- ---- what a draft's maps show
 
 module _ {A : Type 0} (draft : Draft A) (s : Sight) where
-  pub names-differ : IsStrictlySortedBy name_order.compare (map (λ e. e.0) draft.names.entries) → (rows : List CodeNameRow) → map keyed_name_row rows ≡ changed_rows nat_eq number_now (λ key. s.name key.0 key.1) draft.names.entries → AreNamesOf s (over draft s) rows
+  pub names-differ : IsStrictlySortedBy name_order.compare (map (λ e. e.0) (entries_of draft.names)) → (rows : List CodeNameRow) → map keyed_name_row rows ≡ changed_rows nat_eq number_now (λ key. s.name key.0 key.1) (entries_of draft.names) → AreNamesOf s (over draft s) rows
   names-differ ordered rows is =
-      let differ = changed-differences nat_eq numbers-exact number_now (λ key. s.name key.0 key.1) name_order draft.names.entries (sorted-entries name_order draft.names.entries ordered) in
-      let shown : (key : ℕ × List ℕ) → unwrap_or (find name_order.compare key draft.names.entries) (s.name key.0 key.1) ≡ (over draft s).name key.0 key.1 = λ key. ap (λ f. unwrap_or f (s.name key.0 key.1)) (sym (find-lookup name_order key draft.names.entries)) in
+      let differ = changed-differences nat_eq numbers-exact number_now (λ key. s.name key.0 key.1) name_order (entries_of draft.names) (sorted-entries name_order (entries_of draft.names) ordered) in
+      let shown : (key : ℕ × List ℕ) → unwrap_or (find name_order.compare key (entries_of draft.names)) (s.name key.0 key.1) ≡ (over draft s).name key.0 key.1 = λ key. ap (λ f. unwrap_or f (s.name key.0 key.1)) (sym (find-lookup name_order key (entries_of draft.names))) in
       subst (λ rs. AreDifferences name_order number_now (λ key. s.name key.0 key.1) (λ key. (over draft s).name key.0 key.1) rs) (sym is)
-      (subst (λ after. AreDifferences name_order number_now (λ key. s.name key.0 key.1) after (changed_rows nat_eq number_now (λ key. s.name key.0 key.1) draft.names.entries)) (λ i key. shown key i) differ)
+      (subst (λ after. AreDifferences name_order number_now (λ key. s.name key.0 key.1) after (changed_rows nat_eq number_now (λ key. s.name key.0 key.1) (entries_of draft.names))) (λ i key. shown key i) differ)
 
   keys-shown_heads : (es : List (ℕ × Option CodeHeader)) → map (λ e. e.0) (shown_heads es) ≡ map (λ e. e.0) es
   keys-shown_heads [] = refl
@@ -201,11 +207,11 @@ module _ {A : Type 0} (draft : Draft A) (s : Sight) where
       at true rest = refl
       at false rest = rest
 
-  pub heads-differ : IsStrictlySortedBy numbers.compare (map (λ e. e.0) draft.heads.entries) → (rows : List CodeNodeRow) → map keyed_node_row rows ≡ changed_rows same_header header_now s.head (shown_heads draft.heads.entries) → AreNodesOf s (over draft s) rows
+  pub heads-differ : IsStrictlySortedBy numbers.compare (map (λ e. e.0) (entries_of draft.heads)) → (rows : List CodeNodeRow) → map keyed_node_row rows ≡ changed_rows same_header header_now s.head (shown_heads (entries_of draft.heads)) → AreNodesOf s (over draft s) rows
   heads-differ ordered rows is =
-      let keys = sym (keys-shown_heads draft.heads.entries) in
-      let sorted = sorted-entries numbers (shown_heads draft.heads.entries) (subst (IsStrictlySortedBy numbers.compare) keys ordered) in
-      let differ = changed-differences same_header headers-exact header_now s.head numbers (shown_heads draft.heads.entries) sorted in
-      let shown : (n : ℕ) → unwrap_or (find numbers.compare n (shown_heads draft.heads.entries)) (s.head n) ≡ (over draft s).head n = λ n. ap (λ f. unwrap_or f (s.head n)) (find-shown_heads n draft.heads.entries ∙ ap (option_map (option_map header_of)) (sym (find-lookup numbers n draft.heads.entries))) in
+      let keys = sym (keys-shown_heads (entries_of draft.heads)) in
+      let sorted = sorted-entries numbers (shown_heads (entries_of draft.heads)) (subst (IsStrictlySortedBy numbers.compare) keys ordered) in
+      let differ = changed-differences same_header headers-exact header_now s.head numbers (shown_heads (entries_of draft.heads)) sorted in
+      let shown : (n : ℕ) → unwrap_or (find numbers.compare n (shown_heads (entries_of draft.heads))) (s.head n) ≡ (over draft s).head n = λ n. ap (λ f. unwrap_or f (s.head n)) (find-shown_heads n (entries_of draft.heads) ∙ ap (option_map (option_map header_of)) (sym (find-lookup numbers n (entries_of draft.heads)))) in
       subst (λ rs. AreDifferences numbers header_now s.head (over draft s).head rs) (sym is)
-      (subst (λ after. AreDifferences numbers header_now s.head after (changed_rows same_header header_now s.head (shown_heads draft.heads.entries))) (λ i n. shown n i) differ)
+      (subst (λ after. AreDifferences numbers header_now s.head after (changed_rows same_header header_now s.head (shown_heads (entries_of draft.heads)))) (λ i n. shown n i) differ)

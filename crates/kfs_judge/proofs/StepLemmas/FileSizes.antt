@@ -16,6 +16,7 @@ use Rattle.kfs_model.specs.Sight.{Sight}
 use Rattle.kfs_types.specs.Views.{header_of}
 use Rattle.kfs_types.specs.declared.entry.Header.{Header as CodeHeader}
 use Rattle.kfs_judge.specs.declared.draft.draft.Draft.{Draft}
+use Rattle.kfs_judge.specs.Draft.Few.{entries_of, found_in}
 use Rattle.kfs_judge.specs.Draft.Overlay.{over, has_header}
 use Rattle.kfs_judge.specs.Step.FileSizes.{AreSizesOver}
 use Rattle.kfs_pieces.specs.declared.log.FileSize.{FileSize}
@@ -73,26 +74,29 @@ module _ {A : Type 0} (draft : Draft A) (s : Sight) where
   abbrev pub IsOwnSize : FileSize → Type 0
   IsOwnSize size = (size.before ≡ size_in s size.number) × (size.after ≡ min (size_in (over draft s) size.number) size_limit)
 
+  pub own_size : (size : FileSize) (n : ℕ) → size.number ≡ n → size_in s n ≡ size.before → min (size_in (over draft s) n) size_limit ≡ size.after → IsOwnSize size
+  own_size size n number before after = (sym before ∙ ap (size_in s) (sym number), sym after ∙ ap (λ k. min (size_in (over draft s) k) size_limit) (sym number))
+
   -- a header that the draft has is what it shows
-  pub shows_header : (n : ℕ) (now : Option CodeHeader) → get nat_cmp draft.heads n ≡ Some now → (over draft s).head n ≡ option_map header_of now
+  pub shows_header : (n : ℕ) (now : Option CodeHeader) → found_in nat_cmp draft.heads n ≡ Some now → (over draft s).head n ≡ option_map header_of now
   shows_header n now is = ap (λ h. unwrap_or (option_map (option_map header_of) h) (s.head n)) is
 
   -- ---- all headers
 
-  has_key : (n : ℕ) → IsTrue (has_header draft n) → IsTrue (list_any (λ k. n == k) (keys_left draft.heads.entries))
-  has_key n has = (λ i. list_any (λ k. sym (unsigned_tied n k) i) (keys_left draft.heads.entries)) ∙ sym (is_some-lookup (is_at (nat_cmp n)) draft.heads.entries) ∙ has
+  has_key : (n : ℕ) → IsTrue (has_header draft n) → IsTrue (list_any (λ k. n == k) (keys_left (entries_of draft.heads)))
+  has_key n has = (λ i. list_any (λ k. sym (unsigned_tied n k) i) (keys_left (entries_of draft.heads))) ∙ sym (is_some-lookup (is_at (nat_cmp n)) (entries_of draft.heads)) ∙ has
 
   -- a number whose size differs has a header in the draft
   has_grown : (n : ℕ) → size_in s n < size_in (over draft s) n → IsTrue (has_header draft n)
-  has_grown n grew = at (get nat_cmp draft.heads n) refl
+  has_grown n grew = at (found_in nat_cmp draft.heads n) refl
     where
-      at : (there : Option (Option CodeHeader)) → get nat_cmp draft.heads n ≡ there → is_some (get nat_cmp draft.heads n) ≡ true
+      at : (there : Option (Option CodeHeader)) → found_in nat_cmp draft.heads n ≡ there → is_some (found_in nat_cmp draft.heads n) ≡ true
       at (Some now) is = ap is_some is
       at None is =
           let same : size_in (over draft s) n ≡ size_in s n = ap (λ h. size_in (record s { head = λ k. unwrap_or (option_map (option_map header_of) h) (s.head n) }) n) is in
           absurd (omega (arith, same, grew))
 
-  pub sizes_are_over : (sizes : List FileSize) → map (λ (s : FileSize). s.number) sizes ≡ keys_left draft.heads.entries → AllByRecursion IsOwnSize sizes → AreSizesOver draft s sizes
+  pub sizes_are_over : (sizes : List FileSize) → map (λ (s : FileSize). s.number) sizes ≡ keys_left (entries_of draft.heads) → AllByRecursion IsOwnSize sizes → AreSizesOver draft s sizes
   sizes_are_over sizes are own entries has =
       let listed : (n : ℕ) → IsTrue (has_header draft n) → IsTrue (list_any (λ k. n == k) (map (λ (s : FileSize). s.number) sizes)) = λ n header. ap (list_any (λ k. n == k)) are ∙ has_key n header in
       record {

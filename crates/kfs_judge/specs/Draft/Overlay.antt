@@ -17,6 +17,7 @@ use Rattle.kfs_types.specs.Views.{header_of}
 use Rattle.kfs_types.specs.declared.entry.Header.{Header as CodeHeader}
 use Rattle.kfs_judge.specs.declared.draft.draft.Draft.{Draft}
 use Rattle.kfs_judge.specs.Draft.Created.{is_created}
+use Rattle.kfs_judge.specs.Draft.Few.{found_in, PutsIn}
 use Rattle.kfs_judge.specs.Draft.Shifts.{shift_in}
 
 module _ {A : Type 0} where
@@ -27,8 +28,8 @@ module _ {A : Type 0} where
   -- the cells over a state: what the draft has written, and elsewhere what the state has
   abbrev pub over : Draft A → Sight → Sight
   over draft s = record {
-    head = λ n. unwrap_or (option_map (option_map header_of) (get nat_cmp draft.heads n)) (s.head n);
-    name = λ d m. unwrap_or (get name_order.compare draft.names (d, m)) (s.name d m);
+    head = λ n. unwrap_or (option_map (option_map header_of) (found_in nat_cmp draft.heads n)) (s.head n);
+    name = λ d m. unwrap_or (found_in name_order.compare draft.names (d, m)) (s.name d m);
     count = λ d. s.count d +ℤ shift_of draft d;
     parent = λ n. unwrap_or (get nat_cmp draft.parents.map n) (s.parent n);
   }
@@ -38,7 +39,7 @@ module _ {A : Type 0} where
 
   -- whether an entry has written the header of the number
   abbrev pub has_header : Draft A → ℕ → Bool
-  has_header draft n = is_some (get nat_cmp draft.heads n)
+  has_header draft n = is_some (found_in nat_cmp draft.heads n)
 
   -- each header that was written before is written now
   abbrev pub KeepsHeaders : (old new : Draft A) → Type 0
@@ -63,7 +64,7 @@ module _ {A : Type 0} where
 
 -- the new map has this value at the key, and elsewhere what the old one has
 abbrev pub PutsAt : {K X : Type 0} → (K → K → Ordering) → BTreeMap K X → BTreeMap K X → K → X → Type 0
-PutsAt {K} cmp old new key value = (q : K) → get cmp new q ≡ cond (eq_by_cmp cmp key q) (Some value) (get cmp old q)
+PutsAt {K} cmp old new key value = PutsIn cmp old.entries new.entries key value
 
 -- ---- the cells with one changed
 
@@ -146,8 +147,8 @@ module _ {A : Type 0} where
 
   -- each name and header that the draft has written is among these cells
   pub record ChangesAreAmong (draft : Draft A) (among : List Cell) : Type 0 where
-    pub names : (key : ℕ × List ℕ) (value : Option ℕ) → get name_order.compare draft.names key ≡ Some value → Contains among (NameIn key.0 key.1)
-    pub heads : (n : ℕ) (value : Option CodeHeader) → get nat_cmp draft.heads n ≡ Some value → Contains among (HeaderOf n)
+    pub names : (key : ℕ × List ℕ) (value : Option ℕ) → found_in name_order.compare draft.names key ≡ Some value → Contains among (NameIn key.0 key.1)
+    pub heads : (n : ℕ) (value : Option CodeHeader) → found_in nat_cmp draft.heads n ≡ Some value → Contains among (HeaderOf n)
 
   -- each name and header in the new draft was in the old one, or is this name or this header
   abbrev pub WritesNameAndHeader : (old new : Draft A) (directory : ℕ) (name : List ℕ) (number : ℕ) → Type 0

@@ -7,28 +7,29 @@ ghost use Rattle.std.specs.Int.{w32};
 ghost use Rattle.kfs_types.specs.Views.{header_of, kind_of};
 ghost use Rattle.kfs_model.specs.Sight.{Sight, Cell, HeaderOf, NameIn};
 ghost use Rattle.std.specs.Ordering.{nat_cmp};
-ghost use Rattle.std.specs.BTreeMap.{get, IsEmpty};
+ghost use Rattle.std.specs.BTreeMap.{get};
+ghost use Rattle.kfs_judge.specs.Draft.Few.{found_in};
 ghost use Rattle.kfs_model.specs.Tree.{name_order};
 ghost use Rattle.kfs_judge.specs.Draft.Shifts.{shift_in, IsShifted};
-ghost use Rattle.kfs_judge.specs.Draft.Overlay.{has_created, has_header, over, KeepsCreated, KeepsHeaders, KeepsShifts, ShiftsBy, ShiftsFurther, HasRoom, PutsAt, ChangesAreAmong, WritesNameAndHeader, WritesTwoNames, shift_of, with_header, with_target, with_more_names, with_parent, with_directory_in, with_node, with_name, without_name, with_name_moved, IsLinked};
+ghost use Rattle.kfs_judge.specs.Draft.Overlay.{has_created, has_header, over, KeepsCreated, KeepsHeaders, KeepsShifts, ShiftsBy, ShiftsFurther, HasRoom, ChangesAreAmong, WritesNameAndHeader, WritesTwoNames, shift_of, with_header, with_target, with_more_names, with_parent, with_directory_in, with_node, with_name, without_name, with_name_moved, IsLinked};
 ghost use Rattle.kfs_model.specs.SeenAfter as seen;
 
 use crate::draft::created::Created;
+use crate::draft::few::Few;
 use crate::draft::key::NameKey;
 use crate::draft::parents::Parents;
 use crate::draft::shifts::Shifts;
 use kfs_types::{Header, Kind};
 use std::alloc::{AllocError, Allocator};
-use std::collections::BTreeMap;
 
 /// The cells that the entries so far have written, each with its value now. A cell that none has
 /// written isn't here. Look-ups take no memory.
 #[derive(Drop)]
 pub struct Draft<'e, A: Allocator> {
     /// The header of each node that was written.
-    heads: BTreeMap<u32, Option<Header>, A>,
+    heads: Few<u32, Option<Header>, A>,
     /// The number that each written name leads to. The names stand in the log.
-    names: BTreeMap<NameKey<'e>, Option<u32>, A>,
+    names: Few<NameKey<'e>, Option<u32>, A>,
     /// The parent of each directory that was written.
     parents: Parents<A>,
     /// By how much each directory's count of names has changed.
@@ -46,8 +47,8 @@ impl<'e, A: Allocator + Copy> Draft<'e, A> {
         ensures shifts { ShiftsBy 0 result }
     {
         Draft {
-            heads: BTreeMap::new(alloc),
-            names: BTreeMap::new(alloc),
+            heads: Few::new(alloc),
+            names: Few::new(alloc),
             parents: Parents::new(alloc),
             shifts: Shifts::new(alloc),
             created: Created::new(alloc),
@@ -150,7 +151,7 @@ impl<'e, A: Allocator + Copy> Draft<'e, A> {
         ensures kept { OnOk result (KeepsHeaders self.old self.new) }
         ensures shifts { OnOk result (KeepsShifts self.old self.new) }
     {
-        put(&mut self.heads, number, header)?;
+        self.heads.put(number, header)?;
         Ok(())
     }
 
@@ -162,7 +163,7 @@ impl<'e, A: Allocator + Copy> Draft<'e, A> {
         ensures kept { OnOk result (KeepsHeaders self.old self.new) }
         ensures shifts { OnOk result (KeepsShifts self.old self.new) }
     {
-        put(&mut self.names, key.again(), target)?;
+        self.names.put(key.again(), target)?;
         Ok(())
     }
 
@@ -211,17 +212,6 @@ impl<'e, A: Allocator + Copy> Draft<'e, A> {
     }
 }
 
-fn put<K: Ord + Drop, V: Drop, A: Allocator + Clone>(
-    map: &mut BTreeMap<K, V, A>,
-    key: K,
-    value: V,
-) -> Result<(), AllocError>
-    ensures { OnOk result (PutsAt K.cmp map.old map.new key value) }
-{
-    map.insert(key, value)?;
-    Ok(())
-}
-
 /// Adds to the change of the directory's count.
 fn count_names<A: Allocator + Copy>(
     shifts: &mut Shifts<A>,
@@ -238,17 +228,17 @@ fn count_names<A: Allocator + Copy>(
 impl<'e, A: Allocator> Draft<'e, A> {
     /// The node's header now, if an entry wrote it. An inner none means that the node is gone.
     pub fn header(&self, number: u32) -> Option<Option<Header>>
-        ensures { result ≡ get nat_cmp self.now.heads number }
+        ensures { result ≡ found_in nat_cmp self.now.heads number }
     {
-        self.heads.get(&number).copied()
+        self.heads.get(&number)
     }
 
     /// The number that the name leads to now, if an entry wrote it. An inner none means that the name
     /// is gone.
     pub fn target(&self, key: &NameKey<'e>) -> Option<Option<u32>>
-        ensures { result ≡ get name_order.compare self.now.names key.now }
+        ensures { result ≡ found_in name_order.compare self.now.names key.now }
     {
-        self.names.get(key).copied()
+        self.names.get(key)
     }
 
     /// The directory's parent now, if an entry wrote it. An inner none means that it has none.
@@ -280,14 +270,14 @@ impl<'e, A: Allocator> Draft<'e, A> {
     }
 
     /// The written headers, by number.
-    pub fn headers(&self) -> &BTreeMap<u32, Option<Header>, A>
+    pub fn headers(&self) -> &Few<u32, Option<Header>, A>
         ensures { result.now ≡ self.now.heads }
     {
         &self.heads
     }
 
     /// The written names, by directory and name.
-    pub fn targets(&self) -> &BTreeMap<NameKey<'e>, Option<u32>, A>
+    pub fn targets(&self) -> &Few<NameKey<'e>, Option<u32>, A>
         ensures { result.now ≡ self.now.names }
     {
         &self.names

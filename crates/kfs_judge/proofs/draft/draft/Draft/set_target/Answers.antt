@@ -3,20 +3,20 @@ use Rattle.std.specs.Prelude.{Contains}
 use Rattle.std.proofs.Common.{subst}
 use Rattle.kfs_model.specs.Sight.{NameIn}
 use Rattle.kfs_model.specs.Tree.{name_order}
-use Rattle.kfs_judge.specs.Draft.Overlay.{PutsAt}
+use Rattle.kfs_judge.specs.Draft.Few.{entries_of, PutsIn}
 use Rattle.kfs_judge.proofs.DraftLemmas.Overlays.{target_shown, put_among}
 use Rattle.kfs_judge.proofs.draft.draft.Draft.set_target.Goals as goal
 
 pub returns-clause-shown : goal.returns-clause-shown
 returns-clause-shown g c s =
-    let puts = subst (λ key. PutsAt name_order.compare c.args.self.now.names c.put.new.map key c.args.target) c.again.ensures c.in_ok-put.ensures in
-    target_shown c.args.self.now c.put.new.map c.args.key.now.0 c.args.key.now.1 c.args.target puts s
+    let puts = subst (λ key. PutsIn name_order.compare (entries_of c.args.self.now.names) (entries_of c.put.new.self) key c.args.target) c.again.ensures c.in_ok-put.ensures in
+    target_shown c.args.self.now c.put.new.self c.args.key.now.0 c.args.key.now.1 c.args.target puts s
 
 pub returns-clause-written : goal.returns-clause-written
 returns-clause-written g c among written here =
-    let puts = subst (λ key. PutsAt name_order.compare c.args.self.now.names c.put.new.map key c.args.target) c.again.ensures c.in_ok-put.ensures in
+    let puts = subst (λ key. PutsIn name_order.compare (entries_of c.args.self.now.names) (entries_of c.put.new.self) key c.args.target) c.again.ensures c.in_ok-put.ensures in
     record {
-      names = put_among name_order c.args.self.now.names c.put.new.map c.args.key.now c.args.target puts (λ key. Contains among (NameIn key.0 key.1)) written.names here;
+      names = put_among name_order (entries_of c.args.self.now.names) (entries_of c.put.new.self) c.args.key.now c.args.target puts (λ key. Contains among (NameIn key.0 key.1)) written.names here;
       heads = written.heads;
     }
 
