@@ -39,7 +39,7 @@ fn grown(alloc: Global, heap: Heap<'_>) -> Option<[(bool, usize); 3]> {
     let is_due = keeper.is_due();
     let first = made(&mut keeper)?;
     let second = made(&mut keeper)?;
-    (answers == 1 && calls == 4 && is_due).then_some([early, first, second])
+    (answers == 1 && calls == 6 && is_due).then_some([early, first, second])
 }
 
 #[test]
