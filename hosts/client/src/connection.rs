@@ -188,7 +188,7 @@ impl Connection {
         let mut stream = UnixStream::connect(&self.path)?;
         let grant = match exchange(&mut stream, self.number, self.client, &[HELLO])? {
             Some(Reply::Welcome(client, grant)) if client == self.client => grant,
-            Some(Reply::Refused(5)) => return Err(Unconnected::Another),
+            Some(Reply::Welcome(..) | Reply::Refused(5)) => return Err(Unconnected::Another),
             Some(Reply::Refused(130)) => return Err(Unconnected::Unlisted),
             Some(Reply::Refused(131)) => return Err(Unconnected::TooMany),
             _ => return Err(Unconnected::Nonsense),
@@ -228,20 +228,21 @@ impl Connection {
         told?.ok_or_else(|| nonsense(body))
     }
 
+    /// The same of what may be asked twice: again and again, where the server or the connection has ended meanwhile.
+    fn ask_again(&mut self, body: &[u8]) -> Result<Reply, Unshown> {
+        let until = Instant::now() + AGAIN;
+        loop {
+            match self.ask(body) {
+                Ok(Reply::Refused(128)) | Err(Unshown::Gone(_)) if Instant::now() < until => sleep(PAUSE),
+                told => return told,
+            }
+        }
+    }
+
     /// The answer to a call.
     fn call(&mut self, body: &[u8]) -> Result<Told, Unanswered> {
-        match self.ask(body)? {
-            Reply::Answered(bytes) => told_of(&bytes).ok_or_else(|| nonsense(body).into()),
-            Reply::Refused(1) => Err(Unanswered::TooLong),
-            Reply::Refused(5) => Err(Unanswered::NotYours),
-            Reply::Refused(6 | 7) => Err(Unanswered::NoMemory),
-            Reply::Refused(128) => Err(Unanswered::Unknown),
-            Reply::Refused(129) => Err(Unanswered::Stopping),
-            Reply::Refused(132) => Ok(Told::TooFar),
-            Reply::Refused(133) => Err(Unanswered::Unknown),
-            Reply::Refused(135) => Ok(Told::Wanted),
-            _ => Err(nonsense(body).into()),
-        }
+        let reply = self.ask(body)?;
+        answer_in(reply, body)
     }
 
     /// Makes a call once, and hands it in again until it is known how it ended; where kfsd takes no numbered calls, at once.
@@ -263,7 +264,8 @@ impl Connection {
     }
 
     fn call_for_lease(&mut self, body: &[u8], number: u32) -> Result<Result<(), LeaseRefusal>, Unanswered> {
-        match self.call(body)? {
+        let reply = self.ask_again(body)?;
+        match answer_in(reply, body)? {
             Told::TooFar => Ok(Err(LeaseRefusal::TooFar)),
             Told::Wanted => Ok(Err(LeaseRefusal::Wanted)),
             Told::Leased(found) if found == number => Ok(Ok(())),
@@ -310,6 +312,22 @@ fn exchange(stream: &mut UnixStream, number: u32, client: u32, body: &[u8]) -> i
         return Err(io::Error::new(io::ErrorKind::InvalidData, format!("the reply to frame {replied}, and not {number}")));
     }
     Ok(reply)
+}
+
+/// What the reply to a call tells.
+fn answer_in(reply: Reply, body: &[u8]) -> Result<Told, Unanswered> {
+    match reply {
+        Reply::Answered(bytes) => told_of(&bytes).ok_or_else(|| nonsense(body).into()),
+        Reply::Refused(1) => Err(Unanswered::TooLong),
+        Reply::Refused(5) => Err(Unanswered::NotYours),
+        Reply::Refused(6 | 7) => Err(Unanswered::NoMemory),
+        Reply::Refused(128) => Err(Unanswered::Unknown),
+        Reply::Refused(129) => Err(Unanswered::Stopping),
+        Reply::Refused(132) => Ok(Told::TooFar),
+        Reply::Refused(133) => Err(Unanswered::Unknown),
+        Reply::Refused(135) => Ok(Told::Wanted),
+        _ => Err(nonsense(body).into()),
+    }
 }
 
 /// What an answer tells.
@@ -423,7 +441,7 @@ fn found_names(bytes: &[u8]) -> Option<(Vec<(Name, u32)>, bool)> {
 impl Connection {
     /// What a look-up finds; none where there is no such node, or it is one of the other kind.
     fn look_up(&mut self, body: &[u8]) -> Result<Option<Vec<u8>>, Unshown> {
-        let found = match self.ask(body)? {
+        let found = match self.ask_again(body)? {
             Reply::Found(found) => found,
             Reply::Refused(3) => return Err(Unshown::NoSuchLookUp),
             Reply::Refused(1 | 5) => return Err(Unshown::NotAllowed),
@@ -530,7 +548,8 @@ impl Desk for Connection {
         let mut body = vec![3];
         body.extend_from_slice(&self.client.to_be_bytes());
         body.extend_from_slice(&number.to_be_bytes());
-        match self.call(&body)? {
+        let reply = self.ask_again(&body)?;
+        match answer_in(reply, &body)? {
             Told::Leased(_) => Ok(Ok(())),
             Told::Unleased(refusal) => Ok(Err(refusal)),
             _ => Err(nonsense(&body).into()),

@@ -20,6 +20,10 @@ const ATTEMPTS: usize = 12;
 /// How long the first and each later pause is, where another client has the lease.
 const FIRST_PAUSE: Duration = Duration::from_millis(1);
 const LONGEST_PAUSE: Duration = Duration::from_millis(50);
+/// How long a lease that was given up isn't asked for again: longer than a pause of who wants it.
+const COURTESY: Duration = Duration::from_millis(100);
+/// For how long a node on which another client wanted a lease is leased from one `poll` to the next alone.
+const CONTENDED: Duration = Duration::from_secs(30);
 
 /// How a session behaves.
 #[derive(Clone, Debug, PartialEq, Eq)]
@@ -62,6 +66,10 @@ pub struct Session<D> {
     pub(crate) is_waiting: bool,
     /// How often each node was read without a lease.
     reads: HashMap<u32, u32>,
+    /// When leases were given up, so that who wants one gets it before this client asks again.
+    given_up: HashMap<u32, Instant>,
+    /// When others wanted leases.
+    wished: HashMap<u32, Instant>,
 }
 
 impl<D: Desk> Session<D> {
@@ -79,6 +87,8 @@ impl<D: Desk> Session<D> {
             is_uncertain: false,
             is_waiting: false,
             reads: HashMap::new(),
+            given_up: HashMap::new(),
+            wished: HashMap::new(),
         }
     }
 
@@ -186,7 +196,8 @@ impl<D: Desk> Session<D> {
     /// Takes a lease for reading on a node that is read often. That it isn't to be had is no fault.
     fn note_read(&mut self, number: u32) -> Result<(), Failure> {
         let most = self.options.reads_before_lease;
-        if most == 0 || self.draft.has_created(number) || self.leases.reads(number) {
+        let is_given_up = matches!(self.given_up.get(&number), Some(at) if at.elapsed() < COURTESY);
+        if most == 0 || is_given_up || self.draft.has_created(number) || self.leases.reads(number) {
             return Ok(());
         }
         let count = self.reads.entry(number).or_insert(0);
@@ -308,6 +319,9 @@ impl<D: Desk> Session<D> {
     pub(crate) fn take_lease(&mut self, number: u32, kind: LeaseKind) -> Result<(), Failure> {
         let until = Instant::now() + self.options.patience;
         let mut pause = FIRST_PAUSE;
+        if let Some(given_up) = self.given_up.remove(&number) {
+            sleep(COURTESY.saturating_sub(given_up.elapsed()));
+        }
         loop {
             let refusal = match self.ask_lease(number, kind)? {
                 Ok(()) => return Ok(()),
@@ -354,16 +368,32 @@ impl<D: Desk> Session<D> {
 
     /// Gives up the leases that others want.
     fn give_up_wanted(&mut self) -> Result<(), Failure> {
-        for wish in self.desk.wanted_by_others()? {
-            let wanted = match wish {
-                Wish::Node(number) => Some(number),
-                Wish::Path(path) => self.node_at(&path)?,
-            };
-            if let Some(number) = wanted {
-                self.give_up(number)?;
+        // They are told once, so each is given up, whatever becomes of the others.
+        let given: Vec<_> = self.desk.wanted_by_others()?.into_iter().map(|wish| self.grant_wish(wish)).collect();
+        given.into_iter().collect()
+    }
+
+    fn grant_wish(&mut self, wish: Wish) -> Result<(), Failure> {
+        let wanted = match wish {
+            Wish::Node(number) => Some(number),
+            Wish::Path(path) => self.node_at(&path)?,
+        };
+        match wanted {
+            Some(number) => {
+                self.wished.insert(number, Instant::now());
+                self.give_up(number)
             }
+            None => Ok(()),
         }
-        Ok(())
+    }
+
+    /// Gives up the leases that others have wanted lately, and that this client has taken again: who wants one again may not be
+    /// told a second time.
+    fn give_up_contended(&mut self) -> Result<(), Failure> {
+        self.wished.retain(|_, at| at.elapsed() < CONTENDED);
+        let held: Vec<u32> = self.wished.keys().copied().filter(|number| self.leases.reads(*number)).collect();
+        let given: Vec<_> = held.into_iter().map(|number| self.give_up(number)).collect();
+        given.into_iter().collect()
     }
 
     /// The node to which a path leads that another client has gone, if this one may see it.
@@ -383,6 +413,7 @@ impl<D: Desk> Session<D> {
         let handed_in = self.sync();
         self.leases.forget(number);
         self.cache.forget(number);
+        self.given_up.insert(number, Instant::now());
         let _none_held = self.desk.drop_lease(number)?;
         Ok(handed_in?)
     }
@@ -392,6 +423,7 @@ impl<D: Desk> Session<D> {
     pub fn poll(&mut self) -> Result<(), Failure> {
         self.pass_time()?;
         self.give_up_wanted()?;
+        self.give_up_contended()?;
         for (number, kind) in self.leases.due(self.options.term / 2) {
             // One that isn't renewed ends at its end.
             let _refused = self.ask_lease(number, kind)?;

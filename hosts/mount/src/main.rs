@@ -72,10 +72,10 @@ fn main() -> Result<()> {
     let ends = signals()?;
     let mounted = Mounted::new(&words.at, client.uid, client.gid, words.allow_other)
         .with_context(|| format!("{} can't be mounted", words.at.display()))?;
-    // kfsd asks the kernel who connects.
-    setegid(Gid::from_raw(client.gid))?;
-    seteuid(Uid::from_raw(client.uid))?;
     if let Some(path) = &words.socket {
+        // kfsd asks the kernel who connects.
+        setegid(Gid::from_raw(client.gid))?;
+        seteuid(Uid::from_raw(client.uid))?;
         let desk = Connection::open(path, words.client)?;
         client.grant = desk.grant();
         return run(mounted, ends, client, desk);

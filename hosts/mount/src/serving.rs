@@ -12,10 +12,10 @@ use nix::sys::signalfd::SignalFd;
 use std::fs::File;
 use std::io::{self, Read, Write};
 use std::os::unix::io::AsRawFd;
-use std::time::Duration;
+use std::time::{Duration, Instant};
 
-/// How long a request is waited for, until what is due is done, in milliseconds.
-const PAUSE: i32 = 200;
+/// After how long what is due is done.
+const PAUSE: Duration = Duration::from_millis(100);
 /// The bits of a mode that say what a node is, and those of a file.
 const TYPE: u32 = 0o170_000;
 const FILE: u32 = 0o100_000;
@@ -25,14 +25,17 @@ const REPLACES_NOTHING: u32 = 1;
 /// Answers the kernel until the tree is unmounted, or a signal comes.
 pub fn serve<D: Desk>(device: &mut File, signals: &mut SignalFd, volume: &mut Volume<D>) -> io::Result<()> {
     let mut bytes = vec![0; REQUEST];
+    let mut polled = Instant::now();
     loop {
+        // Also where requests come without a pause.
+        if polled.elapsed() >= PAUSE {
+            volume.poll();
+            polled = Instant::now();
+        }
         let mut waits =
             [PollFd::new(device.as_raw_fd(), PollFlags::POLLIN), PollFd::new(signals.as_raw_fd(), PollFlags::POLLIN)];
-        match poll(&mut waits, PAUSE) {
-            Ok(0) | Err(Errno::EINTR) => {
-                volume.poll();
-                continue;
-            }
+        match poll(&mut waits, PAUSE.as_millis() as i32) {
+            Ok(0) | Err(Errno::EINTR) => continue,
             Ok(_) => {}
             Err(errno) => return Err(errno.into()),
         }

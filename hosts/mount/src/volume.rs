@@ -45,8 +45,10 @@ pub struct Volume<D> {
 
 /// The number that POSIX has for a failure. Where calls are lost, people are told on standard error.
 fn errno(failure: Failure) -> Errno {
-    if let Failure::HandIn(fault) = &failure {
-        tell(fault);
+    match &failure {
+        Failure::HandIn(fault) => tell(fault),
+        Failure::Lease(..) => eprintln!("kfs-mount: a lease isn't to be had: {failure}"),
+        _ => {}
     }
     failure.errno()
 }

@@ -177,9 +177,9 @@ def share(folder, user, count):
     """A user makes files in a folder of all, with bytes of its own."""
     for index in range(count):
         path = f"{folder}/shared/{user}-{index}"
-        with open(f"{path}.part", "w", encoding="ascii") as it:
-            it.write(f"{user} {index}\n" * index)
-            it.flush()
+        # in bytes: the user may not read where codecs are
+        with open(f"{path}.part", "wb", buffering=0) as it:
+            it.write(b"%d %d\n" % (user, index) * index)
             os.fsync(it.fileno())
         os.rename(f"{path}.part", path)
 
@@ -220,12 +220,12 @@ def three_users(made):
             time.sleep(1)
             daemon.kill_desk()
         assert [wait(child) for child in children] == [0, 0, 0]
-        due = {f"{it['uid']}-{index}": f"{it['uid']} {index}\n" * index for it in users for index in range(20)}
+        due = {f"{it['uid']}-{index}": b"%d %d\n" % (it["uid"], index) * index for it in users for index in range(20)}
         for folder in folders:
             time.sleep(6)
             found = {}
             for name in os.listdir(f"{folder}/shared"):
-                with open(f"{folder}/shared/{name}", encoding="ascii") as it:
+                with open(f"{folder}/shared/{name}", "rb") as it:
                     found[name] = it.read()
             assert found == due
         print(f"    three users ({time.monotonic() - began:.1f} s)")
