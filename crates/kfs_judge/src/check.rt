@@ -4,9 +4,7 @@ mod check;
 mod climbs;
 mod entry_judge;
 mod looks;
-mod nears;
 mod reads;
-mod recall;
 mod record;
 mod view;
 

@@ -20,7 +20,7 @@ use Rattle.kfs_types.specs.declared.entry.Header.{Header as CodeHeader}
 use Rattle.kfs_judge.specs.declared.draft.draft.Draft.{Draft}
 use Rattle.kfs_judge.specs.declared.draft.few.Few.{Few}
 use Rattle.kfs_judge.specs.declared.draft.parents.Parents.{Parents}
-use Rattle.kfs_judge.specs.declared.draft.shifts.Shifts.{Shifts}
+use Rattle.kfs_judge.specs.declared.draft.few.Shifts.{Shifts}
 use Rattle.kfs_judge.specs.Draft.Few.{at_key, entries_of, found_in, PutsIn}
 use Rattle.kfs_judge.specs.Draft.Shifts.{IsShifted}
 use Rattle.kfs_judge.specs.Draft.Overlay.{over, has_header, KeepsHeaders, shift_of, with_header, with_target, with_more_names, with_parent, PutsAt, ShiftsBy}

@@ -5,7 +5,7 @@ use Rattle.kfs_model.specs.Table.{get}
 use Rattle.kfs_model.specs.Tree.{target}
 use Rattle.kfs_types.specs.Views.{header_of}
 use Rattle.kfs_types.specs.declared.entry.Header.{Header as CodeHeader}
-use Rattle.kfs_judge.specs.declared.check.recall.Recall.{Recall}
+use Rattle.kfs_judge.specs.declared.check.looks.Recall.{Recall}
 use Rattle.kfs_judge.specs.declared.check.view.View.{View}
 use Rattle.kfs_judge.specs.Check.Recall.{Holds}
 use Rattle.kfs_judge.specs.Check.View.{contents_of}

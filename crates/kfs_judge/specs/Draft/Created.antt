@@ -2,7 +2,7 @@
 use Rattle.std.specs.Prelude.{ℕ, Bool, false, Option, None, Some, ◌==◌, ◌||◌}
 use Rattle.std.specs.Ordering.{nat_cmp}
 use Rattle.std.specs.BTreeSet.{contains}
-use Rattle.kfs_judge.specs.declared.draft.created.Created.{Created}
+use Rattle.kfs_judge.specs.declared.draft.few.Created.{Created}
 
 -- whether there is a number, and it is n
 abbrev pub has_number : Option ℕ → (n : ℕ) → Bool

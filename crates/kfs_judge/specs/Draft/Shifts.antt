@@ -2,7 +2,7 @@
 use Rattle.std.specs.Prelude.{◌≡◌, ℕ, ℤ, pos, ◌+ℤ◌, Option, None, Some, unwrap_or, ◌==◌, if◌then◌else◌}
 use Rattle.std.specs.Ordering.{nat_cmp}
 use Rattle.std.specs.BTreeMap.{get}
-use Rattle.kfs_judge.specs.declared.draft.shifts.Shifts.{Shifts}
+use Rattle.kfs_judge.specs.declared.draft.few.Shifts.{Shifts}
 
 -- the first directory's change, or for another directory this
 abbrev pub shift_beside : Option (ℕ × ℤ) → (d : ℕ) → ℤ → ℤ

@@ -1,17 +1,16 @@
 //! A view with what was looked up in it last.
-ghost use Rattle.std.specs.Prelude.{◌≡◌};
+ghost use Rattle.std.specs.Prelude.{◌≡◌, ◌⊎◌, true, IfSome};
 ghost use Rattle.std.specs.Option.{option_map};
 ghost use Rattle.kfs_model.specs.Table.{get};
 ghost use Rattle.kfs_model.specs.Tree.{target};
 ghost use Rattle.kfs_types.specs.Views.{header_of};
 ghost use Rattle.kfs_judge.specs.Check.View.{contents_of};
+ghost use Rattle.kfs_judge.specs.Check.Recall.{Holds};
 ghost use Rattle.kfs_judge.specs.Check.Looks.{HeadersAreRight, NamesAreRight};
 
-use crate::check::nears::Nears;
-use crate::check::recall::Recall;
 use crate::check::view::View;
 use crate::draft::NameKey;
-use kfs_image_nodes::Header;
+use kfs_image_nodes::{Header, Near};
 use std::alloc::Allocator;
 
 /// A view, and what it answered last: two headers and two names, which take no memory. Names are kept
@@ -73,4 +72,80 @@ fn look_up<A: Allocator + Copy>(view: &View<A>, nears: &mut Nears, key: &NameKey
     let place = key.copied();
     nears.turn_to(place.0);
     view.target_near(&mut nears.last, &place)
+}
+
+/// The last two questions, each with its answer. A judgement asks for few cells of its view, and for each
+/// of them several times.
+#[derive(Drop)]
+pub struct Recall<K, V> {
+    last: Option<(K, V)>,
+    before: Option<(K, V)>,
+}
+
+impl<K: Eq + Drop, V: Copy> Recall<K, V> {
+    /// No question was asked.
+    pub fn none() -> Recall<K, V>
+        ensures { (key : K) (value : V) → Holds result key value → ⊥ }
+    {
+        Recall {
+            last: None,
+            before: None,
+        }
+    }
+
+    /// The answer to a question, if it is one of the last two.
+    pub fn get(&self, key: &K) -> Option<V>
+        ensures { IfSome result (λ value. (there : K) × (K.eq there key.now ≡ true) × Holds self.now there value) }
+    {
+        if let Some((there, value)) = &self.last {
+            if there == key {
+                return Some(*value);
+            }
+        }
+        let (there, value) = self.before.as_ref()?;
+        if there == key {
+            return Some(*value);
+        }
+        None
+    }
+
+    /// The question was asked last, and this is its answer.
+    pub fn put(&mut self, key: K, value: V)
+        ensures { (k : K) (v : V) → Holds self.new k v → Holds self.old k v ⊎ ((k ≡ key) × (v ≡ value)) }
+    {
+        self.before = self.last.take();
+        self.last = Some((key, value));
+    }
+}
+
+/// The places behind the last names that were looked for. A log that moves a name looks into two
+/// directories by turns, and each has its own place. A place is only a guess.
+#[derive(Clone, Copy)]
+pub struct Nears {
+    dir: u32,
+    /// The place in the directory of the last look.
+    pub last: Near,
+    /// The place in the directory before.
+    before: Near,
+}
+
+impl Nears {
+    /// Both looks begin at this place.
+    pub fn at(near: Near) -> Nears {
+        Nears {
+            dir: 0,
+            last: near,
+            before: near,
+        }
+    }
+
+    /// Before a look into this directory: `last` becomes its place.
+    pub fn turn_to(&mut self, dir: u32) {
+        if dir != self.dir {
+            let last = self.last;
+            self.last = self.before;
+            self.before = last;
+            self.dir = dir;
+        }
+    }
 }

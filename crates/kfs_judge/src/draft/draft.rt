@@ -14,11 +14,9 @@ ghost use Rattle.kfs_judge.specs.Draft.Shifts.{shift_in, IsShifted};
 ghost use Rattle.kfs_judge.specs.Draft.Overlay.{has_created, has_header, over, KeepsCreated, KeepsHeaders, KeepsShifts, ShiftsBy, ShiftsFurther, HasRoom, ChangesAreAmong, WritesNameAndHeader, WritesTwoNames, shift_of, with_header, with_target, with_more_names, with_parent, with_directory_in, with_node, with_name, without_name, with_name_moved, IsLinked};
 ghost use Rattle.kfs_model.specs.SeenAfter as seen;
 
-use crate::draft::created::Created;
-use crate::draft::few::Few;
+use crate::draft::few::{Created, Few, Shifts};
 use crate::draft::key::NameKey;
 use crate::draft::parents::Parents;
-use crate::draft::shifts::Shifts;
 use kfs_types::{Header, Kind};
 use std::alloc::{AllocError, Allocator};
 

@@ -1,9 +1,16 @@
-//! Maps of which a single entry takes no memory.
-ghost use Rattle.std.specs.Prelude.{◌≡◌, Some, None, [], ◌∷◌, IfSome, IfNone, OnOk};
+//! Maps and sets of which a single entry takes no memory. Most logs create one node, change one
+//! directory, and write one header and one name.
+ghost use Rattle.std.specs.Prelude.{◌≡◌, ℕ, ◌==◌, ◌||◌, false, pos, ◌+ℤ◌, FitsSigned, unwrap_or};
+ghost use Rattle.std.specs.Prelude.{if◌then◌else◌, Some, None, [], ◌∷◌, IfSome, IfNone, OnOk};
+ghost use Rattle.std.specs.Int.{w32};
+ghost use Rattle.std.specs.Ordering.{nat_cmp};
+ghost use Rattle.std.specs.BTreeMap.{get};
 ghost use Rattle.kfs_judge.specs.Draft.Few.{entries_of, found_in, PutsIn};
+ghost use Rattle.kfs_judge.specs.Draft.Created.{has_number, is_created};
+ghost use Rattle.kfs_judge.specs.Draft.Shifts.{shift_in};
 
 use std::alloc::{AllocError, Allocator};
-use std::collections::BTreeMap;
+use std::collections::{BTreeMap, BTreeSet};
 
 /// A map by key. Most logs write one header and one name; so an entry that is alone stands here, and not
 /// in the tree.
@@ -96,5 +103,121 @@ impl<K: Ord, V: Copy, A: Allocator> Few<K, V, A> {
         ensures { result.now ≡ self.now.tree }
     {
         &self.tree
+    }
+}
+
+/// Numbers, of which most logs create one. That one takes no memory.
+#[derive(Drop)]
+pub struct Created<A: Allocator> {
+    first: Option<u32>,
+    others: BTreeSet<u32, A>,
+}
+
+impl<A: Allocator + Copy> Created<A> {
+    /// No number is created. Takes no memory.
+    pub fn new(alloc: A) -> Created<A>
+        ensures { (n : ℕ) → is_created result n ≡ false }
+    {
+        Created {
+            first: None,
+            others: BTreeSet::new(alloc),
+        }
+    }
+
+    /// The number is created. `Err` where memory runs out; nothing has changed then.
+    pub fn add(&mut self, number: u32) -> Result<(), AllocError>
+        ensures { OnOk result ((n : ℕ) → is_created self.new n ≡ ((number == n) || is_created self.old n)) }
+    {
+        match self.first {
+            None => {
+                self.first = Some(number);
+                Ok(())
+            }
+            Some(_) => {
+                self.others.insert(number)?;
+                Ok(())
+            }
+        }
+    }
+}
+
+impl<A: Allocator> Created<A> {
+    /// Whether the number is created.
+    pub fn has(&self, number: u32) -> bool
+        ensures { result ≡ is_created self.now number }
+    {
+        is_number(self.first, number) || self.others.contains(&number)
+    }
+}
+
+fn is_number(first: Option<u32>, number: u32) -> bool
+    ensures { result ≡ has_number first number }
+{
+    match first {
+        Some(first) => first == number,
+        None => false,
+    }
+}
+
+/// Changes by directory; those of most logs are of one, which takes no memory.
+#[derive(Drop)]
+pub struct Shifts<A: Allocator> {
+    first: Option<(u32, i32)>,
+    others: BTreeMap<u32, i32, A>,
+}
+
+impl<A: Allocator + Copy> Shifts<A> {
+    /// No count has changed. Takes no memory.
+    pub fn new(alloc: A) -> Shifts<A>
+        ensures { (d : ℕ) → shift_in result d ≡ pos 0 }
+    {
+        Shifts {
+            first: None,
+            others: BTreeMap::new(alloc),
+        }
+    }
+
+    /// The directory's count has changed by so much in all. `Err` where memory runs out; nothing has
+    /// changed then.
+    pub fn set(&mut self, dir: u32, by: i32) -> Result<(), AllocError>
+        ensures { OnOk result ((d : ℕ) → shift_in self.new d ≡ (if d == dir then by else shift_in self.old d)) }
+    {
+        match self.first {
+            None => {
+                self.first = Some((dir, by));
+                Ok(())
+            }
+            Some((first, _)) => {
+                if first == dir {
+                    self.first = Some((dir, by));
+                    return Ok(());
+                }
+                self.others.insert(dir, by)?;
+                Ok(())
+            }
+        }
+    }
+}
+
+impl<A: Allocator> Shifts<A> {
+    /// By how much the directory's count has changed.
+    pub fn get(&self, dir: u32) -> i32
+        ensures { result ≡ shift_in self.now dir }
+    {
+        match self.first {
+            None => self.other(dir),
+            Some((first, by)) => {
+                if first == dir {
+                    return by;
+                }
+                self.other(dir)
+            }
+        }
+    }
+
+    fn other(&self, dir: u32) -> i32
+        ensures { result ≡ unwrap_or (get nat_cmp self.now.others dir) (pos 0) }
+    {
+        self.others.get(&dir).copied().unwrap_or(0)
     }
 }

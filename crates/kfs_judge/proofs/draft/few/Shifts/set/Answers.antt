@@ -7,7 +7,7 @@ use Rattle.std.proofs.Common.{Some, cond, ap, ◌∙◌}
 use Rattle.std.proofs.lemmas.Int.{to_z-of_z}
 use Rattle.kfs_judge.specs.Draft.Shifts.{shift_beside}
 use Rattle.kfs_judge.proofs.DraftLemmas.Shifts.{first_set, first_replaced, other_set}
-use Rattle.kfs_judge.proofs.draft.shifts.Shifts.set.Goals as goal
+use Rattle.kfs_judge.proofs.draft.few.Shifts.set.Goals as goal
 
 pub returns-in-None : goal.returns-in-None
 returns-in-None g c d =

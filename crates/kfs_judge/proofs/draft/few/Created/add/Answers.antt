@@ -5,7 +5,7 @@ use Rattle.std.specs.Ordering.{nat_cmp}
 use Rattle.std.specs.Cmp.{unsigned_tied}
 use Rattle.std.specs.BTreeSet.{contains}
 use Rattle.kfs_judge.specs.Draft.Created.{has_number}
-use Rattle.kfs_judge.proofs.draft.created.Created.add.Goals as goal
+use Rattle.kfs_judge.proofs.draft.few.Created.add.Goals as goal
 
 turned : (first test there : Bool) → (first || cond test true there) ≡ (test || (first || there))
 turned true true there = refl
