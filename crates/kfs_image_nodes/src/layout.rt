@@ -19,6 +19,7 @@ ghost use Rattle.kfs_maps.specs.Chunks.Tables.{table};
 
 use crate::cell::{Answer, Cell};
 use crate::edits::NodeChanges;
+use crate::name_edits::LastPlaces;
 use crate::rows::{NodeTables, name_key};
 use kfs_maps::{Near, Page, Pages};
 use kfs_types::{Change, GREATEST_MODE_OF_VERSION_1, Header, Kind, Name, NameRow, ROOT};
@@ -31,8 +32,8 @@ use std::ops::Bound;
 #[derive(Drop)]
 pub struct Shape<A: Allocator> {
     rows: NodeTables<A>,
-    /// Where the last name was changed. It only makes look-ups faster.
-    near: Near,
+    /// Where the last name and the last uplink were changed.
+    last: LastPlaces,
 }
 
 impl<A: Allocator> Model for Shape<A> {
@@ -52,7 +53,7 @@ impl<A: Allocator + Clone> Clone for Shape<A> {
     fn clone(&self) -> Result<Shape<A>, AllocError> {
         Ok(Shape {
             rows: self.rows.clone()?,
-            near: self.near,
+            last: self.last,
         })
     }
 }
@@ -95,7 +96,7 @@ impl<A: Allocator> Shape<A> {
 
     /// Where the last name was changed: a place to begin with for `target_near`. Takes no memory.
     pub fn near(&self) -> Near {
-        self.near
+        self.last.name
     }
 
     /// The page with this index, or none where none of its 64 numbers is a node. Number n, from 1 on,
@@ -168,7 +169,7 @@ impl<A: Allocator + Clone> Shape<A> {
         let rows = NodeTables::with_node(alloc, ROOT, root)?;
         Ok(Shape {
             rows,
-            near: Near::start(),
+            last: LastPlaces::none(),
         })
     }
 
@@ -188,7 +189,7 @@ impl<A: Allocator + Clone> Shape<A> {
         let rows = NodeTables::of_rows(alloc, headers, names)?;
         Ok(Shape {
             rows,
-            near: Near::start(),
+            last: LastPlaces::none(),
         })
     }
 
@@ -210,6 +211,6 @@ impl<A: Allocator + Clone> Shape<A> {
         ensures made { OnOk result (T.made then.old then.new) }
         ensures kept { OnErr result (T.kept then.old then.new) }
     {
-        self.rows.apply(alloc, &mut self.near, names, nodes, then)
+        self.rows.apply(alloc, &mut self.last, names, nodes, then)
     }
 }

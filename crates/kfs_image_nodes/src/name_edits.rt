@@ -1,6 +1,7 @@
 //! The changes that name rows make to the names, to the counts of directories' names, and to the
 //! uplinks. An overlay of numbers as edits of a map in pages.
 ghost use Rattle.std.specs.Prelude.{◌≡◌, [], OnOk, IfOk, IfSome};
+ghost use Rattle.std.specs.FinMap.Entries.{find};
 ghost use Rattle.kfs_model.specs.Table.{get, changed};
 ghost use Rattle.kfs_model.specs.Tree.{name_order};
 ghost use Rattle.kfs_maps.specs.Pages.Edits.{AreEdits};
@@ -21,6 +22,23 @@ use kfs_types::{GREATEST_NUMBER, Name, NameRow};
 use std::alloc::{AllocError, Allocator};
 use std::collections::BTreeMap;
 
+/// Where the last name and the last uplink were changed. It only makes look-ups and changes faster.
+#[derive(Clone, Copy)]
+pub(crate) struct LastPlaces {
+    pub(crate) name: Near,
+    pub(crate) uplink: Near,
+}
+
+impl LastPlaces {
+    /// None was changed yet.
+    pub(crate) fn none() -> LastPlaces {
+        LastPlaces {
+            name: Near::start(),
+            uplink: Near::start(),
+        }
+    }
+}
+
 /// New names, new counts of each directory's names, and new counts of uplinks: how many names of a
 /// directory lead to a node. Each list ascends.
 #[derive(Drop)]
@@ -37,7 +55,7 @@ pub(crate) fn name_edits<A: Allocator + Clone>(
     names: &Chunks<(u32, Name), u32, A>,
     counts: &Pages<u64, A>,
     uplinks: &Chunks<(u32, u32), u64, A>,
-    near: &mut Near,
+    last: &mut LastPlaces,
     rows: &[NameRow],
 ) -> Result<NameEdits<A>, AllocError>
     requires { IsCounted (table name_order names.now) counts.now (table by_node uplinks.now) }
@@ -46,7 +64,7 @@ pub(crate) fn name_edits<A: Allocator + Clone>(
     let Some(edits) = rows_in_order(alloc, rows)? else {
         return edits_of_all(alloc, names, counts, uplinks, rows);
     };
-    let CountEdits { counts, uplinks } = count_edits(alloc, names, counts, uplinks, near, &edits)?;
+    let CountEdits { counts, uplinks } = count_edits(alloc, names, counts, uplinks, last, &edits)?;
     Ok(NameEdits {
         names: edits,
         counts,
@@ -77,7 +95,7 @@ fn count_edits<A: Allocator + Clone>(
     names: &Chunks<(u32, Name), u32, A>,
     counts: &Pages<u64, A>,
     uplinks: &Chunks<(u32, u32), u64, A>,
-    near: &mut Near,
+    last: &mut LastPlaces,
     edits: &[KeyEdit<(u32, Name), u32>],
 ) -> Result<CountEdits<A>, AllocError>
     requires counted { IsCounted (table name_order names.now) counts.now (table by_node uplinks.now) }
@@ -85,12 +103,23 @@ fn count_edits<A: Allocator + Clone>(
     ensures { IfOk result (AreCountEdits names.now counts.now uplinks.now edits.now) }
 {
     if let [edit] = edits {
-        let from = names.get_near(near, &edit.key).copied();
-        if let Some(made) = edits_of_one(alloc, counts, uplinks, edit.key.0, from, edit.value)? {
+        let from = names.get_near(&mut last.name, &edit.key).copied();
+        last.name = last.name.at_key(from.is_some());
+        let dir = edit.key.0;
+        let made = edits_of_one(
+            alloc,
+            counts,
+            uplinks,
+            &mut last.uplink,
+            dir,
+            from,
+            edit.value,
+        )?;
+        if let Some(made) = made {
             return Ok(made);
         }
     }
-    let tallies = recounted(alloc, names, counts, uplinks, edits)?;
+    let tallies = recounted(alloc, names, counts, uplinks, last, edits)?;
     Ok(CountEdits {
         counts: number_edits(alloc, &tallies.counts)?,
         uplinks: key_edits(alloc, &tallies.uplinks)?,
@@ -104,19 +133,50 @@ fn recounted<A: Allocator + Clone>(
     names: &Chunks<(u32, Name), u32, A>,
     counts: &Pages<u64, A>,
     uplinks: &Chunks<(u32, u32), u64, A>,
+    last: &mut LastPlaces,
     edits: &[KeyEdit<(u32, Name), u32>],
 ) -> Result<Tallies<A>, AllocError>
     requires counted { IsCounted (table name_order names.now) counts.now (table by_node uplinks.now) }
     requires ascend { KeysAscend name_order.compare edits.now }
     ensures { IfOk result (λ tallies. IsCounted (table_after (table name_order names.now) edits.now) (counts_seen tallies counts.now) (ways_seen tallies uplinks.now)) }
 {
-    let mut tallies = Tallies::new(alloc)?;
-    let mut near = Near::start();
+    let mut tallies = Tallies::new(alloc, last.uplink)?;
+    let mut walk = NameWalk {
+        first: None,
+        near: last.name,
+    };
     for edit in edits {
-        let from = names.get_near(&mut near, &edit.key).copied();
+        let from = walk.target(names, &edit.key);
         tallies.recount(counts, uplinks, edit.key.0, from, edit.value)?;
     }
+    last.name = walk.first.unwrap_or(walk.near);
+    last.uplink = tallies.near;
     Ok(tallies)
+}
+
+/// Where the names of a log's edits are looked for, one after another.
+#[derive(Clone, Copy)]
+struct NameWalk {
+    /// The place of the first of them.
+    first: Option<Near>,
+    /// Where the next one is looked for first.
+    near: Near,
+}
+
+impl NameWalk {
+    /// The number that the next name leads to, or none.
+    fn target<A: Allocator>(
+        &mut self,
+        names: &Chunks<(u32, Name), u32, A>,
+        key: &(u32, Name),
+    ) -> Option<u32>
+        ensures { result ≡ find name_order.compare key.now names.now }
+    {
+        let number = names.get_near(&mut self.near, key).copied();
+        let here = self.near.at_key(number.is_some());
+        self.first = Some(self.first.unwrap_or(here));
+        number
+    }
 }
 
 /// The changes that any rows make. A name may come more than once.
@@ -156,7 +216,7 @@ impl<A: Allocator + Clone> Overlays<A> {
     {
         Ok(Overlays {
             names: Overlay::new(alloc.clone()?),
-            tallies: Tallies::new(alloc)?,
+            tallies: Tallies::new(alloc, Near::start())?,
         })
     }
 

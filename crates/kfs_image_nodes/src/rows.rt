@@ -19,7 +19,7 @@ ghost use Rattle.kfs_image_nodes.specs.Rows.{heads_in, names_in, CountsAreExact,
 ghost use Rattle.kfs_image_nodes.specs.SortedRows.{name_entries};
 
 use crate::edits::NodeChanges;
-use crate::name_edits::{NameEdits, name_edits};
+use crate::name_edits::{LastPlaces, NameEdits, name_edits};
 use crate::sorted_rows::{NameCounts, counts_of, names_of};
 use kfs_maps::{Chunks, EditChunks, EditPages, Near, NumberEdit, Pages};
 use kfs_types::{Change, Header, Name, NameRow, Nothing};
@@ -231,6 +231,7 @@ impl<A: Allocator + Clone> NodeTables<A> {
     fn change<T: Change>(
         &mut self,
         headers: &[NumberEdit<Header>],
+        last: LastPlaces,
         edits: &NameEdits<A>,
         then: &mut T,
     ) -> Result<(), AllocError>
@@ -249,12 +250,14 @@ impl<A: Allocator + Clone> NodeTables<A> {
     {
         let mut all = EditChunks {
             chunks: &mut self.names,
+            near: last.name,
             edits: edits.names.as_slice(),
             then: EditPages {
                 pages: &mut self.counts,
                 edits: edits.counts.as_slice(),
                 then: EditChunks {
                     chunks: &mut self.uplinks,
+                    near: last.uplink,
                     edits: edits.uplinks.as_slice(),
                     then: Borrowed { change: then },
                 },
@@ -264,12 +267,12 @@ impl<A: Allocator + Clone> NodeTables<A> {
     }
 
     /// Makes the rows' changes, together with another change. All memory is taken first; where it is
-    /// refused, neither change is made, and the tables stay as they are. A name is found faster where it
-    /// is near the last one; `near` becomes the place of this one.
+    /// refused, neither change is made, and the tables stay as they are. Names and uplinks are found faster
+    /// where they are near the last ones; `last` becomes the places of these.
     pub(crate) fn apply<T: Change>(
         &mut self,
         alloc: &A,
-        near: &mut Near,
+        last: &mut LastPlaces,
         names: &[NameRow],
         nodes: &NodeChanges<'_, A>,
         then: &mut T,
@@ -285,8 +288,8 @@ impl<A: Allocator + Clone> NodeTables<A> {
         ensures made { OnOk result (T.made then.old then.new) }
         ensures kept { OnErr result (T.kept then.old then.new) }
     {
-        let edits = name_edits(alloc, &self.names, &self.counts, &self.uplinks, near, names)?;
-        self.change(nodes.headers(), &edits, then)
+        let edits = name_edits(alloc, &self.names, &self.counts, &self.uplinks, last, names)?;
+        self.change(nodes.headers(), *last, &edits, then)
     }
 }
 

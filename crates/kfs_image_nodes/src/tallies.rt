@@ -21,18 +21,19 @@ pub(crate) struct Tallies<A: Allocator> {
     /// How many names of a directory lead to a node, by the node's number and then the directory's.
     pub(crate) uplinks: Overlay<(u32, u32), u64, A>,
     /// Where the last uplink was looked for.
-    near: Near,
+    pub(crate) near: Near,
 }
 
 impl<A: Allocator + Clone> Tallies<A> {
-    pub(crate) fn new(alloc: &A) -> Result<Tallies<A>, AllocError>
+    /// No new count. Uplinks are looked for from `near` on.
+    pub(crate) fn new(alloc: &A, near: Near) -> Result<Tallies<A>, AllocError>
         ensures counts { IfOk result (λ tallies. tallies.counts.latest.entries ≡ []) }
         ensures uplinks { IfOk result (λ tallies. tallies.uplinks.latest.entries ≡ []) }
     {
         Ok(Tallies {
             counts: Overlay::new(alloc.clone()?),
             uplinks: Overlay::new(alloc.clone()?),
-            near: Near::start(),
+            near,
         })
     }
 
@@ -158,11 +159,13 @@ impl<A: Allocator + Clone> CountEdits<A> {
 }
 
 /// The edits where a name of the directory led to `from` and now leads to `to`, and no other name changes.
-/// None where it leads to a node before and after, and where the directory's number is no node's.
+/// None where it leads to a node before and after, and where the directory's number is no node's. An uplink
+/// is found faster where it is near the last one; `near` becomes the place of this one.
 pub(crate) fn edits_of_one<A: Allocator + Clone>(
     alloc: &A,
     counts: &Pages<u64, A>,
     uplinks: &Chunks<(u32, u32), u64, A>,
+    near: &mut Near,
     dir: u32,
     from: Option<u32>,
     to: Option<u32>,
@@ -177,7 +180,7 @@ pub(crate) fn edits_of_one<A: Allocator + Clone>(
     let names = counts.get(dir).copied();
     match (from, to) {
         (None, Some(number)) => {
-            let ways = uplinks.get(&(number, dir)).copied();
+            let ways = uplinks.get_near(near, &(number, dir)).copied();
             let edits = CountEdits::of(
                 alloc,
                 dir,
@@ -188,7 +191,7 @@ pub(crate) fn edits_of_one<A: Allocator + Clone>(
             Ok(Some(edits))
         }
         (Some(number), None) => {
-            let ways = uplinks.get(&(number, dir)).copied();
+            let ways = uplinks.get_near(near, &(number, dir)).copied();
             let edits = CountEdits::of(alloc, dir, one_less(names), (number, dir), one_less(ways))?;
             Ok(Some(edits))
         }

@@ -15,7 +15,7 @@ ghost use Rattle.kfs_image.specs.Blocks.Fill.{CanFill, filled, placement_after};
 use crate::blocks::fill::{BlockEdits, BlockRow, BlockRun, Moves, copies, fill_edits, moved};
 use crate::blocks::staged::ChangeTiers;
 use crate::tier::{NewBlock, Place, Tiers};
-use kfs_maps::{Chunks, KeyEdit};
+use kfs_maps::{Chunks, KeyEdit, Near};
 use kfs_types::TierSizes;
 use std::alloc::{AllocError, Allocator};
 use std::marker::Model;
@@ -27,6 +27,8 @@ use std::ops::Bound;
 pub struct FileBlocks<A: Allocator> {
     placement: Chunks<(u32, u32), Place, A>,
     tiers: Tiers<A>,
+    /// Where the last block was mapped or unmapped. It only makes look-ups and changes faster.
+    near: Near,
 }
 
 impl<A: Allocator> Model for FileBlocks<A> {
@@ -53,6 +55,7 @@ impl<A: Allocator> FileBlocks<A> {
         Ok(FileBlocks {
             placement: Chunks::new(alloc),
             tiers,
+            near: Near::start(),
         })
     }
 
@@ -84,7 +87,9 @@ impl<A: Allocator> FileBlocks<A> {
     pub fn place_of(&self, number: u32, block: u32) -> Option<Place>
         ensures { result ≡ get self.now.placement (number, block) }
     {
-        self.placement.get(&(number, block)).copied()
+        let key = (number, block);
+        let mut near = self.near;
+        self.placement.get_near(&mut near, &key).copied()
     }
 
     /// The first mapped block at the bound or behind it, as file number and block, and where it lies;
@@ -132,14 +137,16 @@ impl<A: Allocator + Clone> FileBlocks<A> {
         ensures ok { OnOk result (self.new ≡ changed edits.now written.items self.old) }
         ensures err { OnErr result (self.new ≡ self.old) }
     {
-        let moves = Moves::of(written.allocator(), &self.placement, edits)?;
+        let mut near = self.near;
+        let moves = Moves::of(written.allocator(), &self.placement, &mut near, edits)?;
+        self.near = near;
         let mut written = written;
         let mut tiers = ChangeTiers {
             tiers: &mut self.tiers,
             moves: &moves,
             written: &mut written,
         };
-        self.placement.change_then(edits, &mut tiers)
+        self.placement.change_near(near, edits, &mut tiers)
     }
 
     /// The edits that unmap the blocks in the runs; then map each row's block to its place and write a

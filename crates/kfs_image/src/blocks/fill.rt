@@ -188,10 +188,12 @@ pub(crate) struct Moves<A: Allocator> {
 /// neither.
 impl<A: Allocator + Clone> Moves<A> {
     /// The places that blocks leave by the edits, and those that they enter. A block that keeps its
-    /// place has no part in it.
+    /// place has no part in it. A block is found faster where it is near the last one; `near` becomes the
+    /// place of the last of these.
     pub(crate) fn of(
         alloc: &A,
         placement: &Chunks<(u32, u32), Place, A>,
+        near: &mut Near,
         edits: &[KeyEdit<(u32, u32), Place>],
     ) -> Result<Moves<A>, AllocError>
         ensures given { IfOk result (λ moves. moves.given.items ≡ given_by (table (pairs numbers numbers) placement.now) edits.now) }
@@ -199,12 +201,14 @@ impl<A: Allocator + Clone> Moves<A> {
     {
         let mut given = Vec::with_capacity(alloc.clone()?, edits.len())?;
         let mut taken = Vec::with_capacity(alloc.clone()?, edits.len())?;
-        let mut near = Near::start();
+        let mut found = false;
         for edit in edits {
-            let was = placement.get_near(&mut near, &edit.key).copied();
+            let was = placement.get_near(near, &edit.key).copied();
+            found = was.is_some();
             push_left(&mut given, was, edit.value)?;
             push_left(&mut taken, edit.value, was)?;
         }
+        *near = near.at_key(found);
         Ok(Moves { given, taken })
     }
 }

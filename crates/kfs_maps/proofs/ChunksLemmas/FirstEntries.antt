@@ -54,6 +54,11 @@ module _ {K V : Type 0} (R : Order K) where
   unfolding found_in
   find_none q es sorted none = find_first q es sorted ∙ ap (found_in q) none
 
+  -- nothing is found at a key where the first entry from it on is above it
+  pub find_above : (q : K) (es : List (K × V)) (e : K × V) → T (is_sorted R.compare es) → entry_from R.compare (Included q) es ≡ Some e → R.compare q e.0 ≡ Less → find R.compare q es ≡ None
+  unfolding found_in
+  find_above q es e sorted first above = find_first q es sorted ∙ ap (found_in q) first ∙ ap (λ r. cond (is_eq r) (Some e.1) None) above
+
   -- where no entry is from the start on, nothing is found there
   pub nothing_from : (start : Bound K) (es : List (K × V)) (q : K) → entry_from R.compare start es ≡ None → is_from R.compare start q ≡ true → find R.compare q es ≡ None
   nothing_from start [] q none from = refl

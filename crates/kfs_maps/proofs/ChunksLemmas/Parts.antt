@@ -45,7 +45,7 @@ module _ {K V : Type 0} (cmp : K → K → Ordering) where
 
 module _ {K V : Type 0} (R : Order K) where
   -- where an entry is before the start, all before it are
-  none_before : (start : Bound K) (xs : List (K × V)) (e : K × V) (ys : List (K × V)) → T (is_sorted R.compare (xs ++ e ∷ ys)) → is_from R.compare start e.0 ≡ false → entry_from R.compare start xs ≡ None
+  pub none_before : (start : Bound K) (xs : List (K × V)) (e : K × V) (ys : List (K × V)) → T (is_sorted R.compare (xs ++ e ∷ ys)) → is_from R.compare start e.0 ≡ false → entry_from R.compare start xs ≡ None
   none_before start [] e ys sorted past = refl
   none_before start (x ∷ xs) e ys sorted past =
       let less : R.compare x.0 e.0 ≡ Less = as_less _ (left_part _ _ (below_right R.compare x.0 xs (e ∷ ys) (left_part _ _ sorted))) in

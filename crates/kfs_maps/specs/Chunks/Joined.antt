@@ -1,5 +1,5 @@
 -- The entries of runs in a row. A run is a chunk, or a part of several chunks.
-use Rattle.std.specs.Prelude.{◌≡◌, T, ℕ, ◌≤◌, Bool, false, Result, Ok, Err, List, [], ◌∷◌, ◌++◌, length, if◌then◌else◌}
+use Rattle.std.specs.Prelude.{◌≡◌, T, ℕ, ◌≤◌, Bool, false, Result, Ok, Err, Option, List, [], ◌∷◌, ◌++◌, length, if◌then◌else◌}
 use Rattle.std.specs.declared.cmp.Ordering.{Ordering}
 use Rattle.std.specs.declared.ops.Bound.{Bound}
 use Rattle.std.specs.declared.sync.Arc.{Arc}
@@ -54,10 +54,14 @@ module _ {K V A : Type 0} (cmp : K → K → Ordering) where
   first_chunk_from start chunks = first_run_from cmp (λ (chunk : Buffer K V). chunk.pairs) start chunks
 
 module _ {K V : Type 0} (cmp : K → K → Ordering) where
+  -- This is found at the key among the entries, whatever stands in front of them and behind them.
+  abbrev pub Tells : K → (entries : List (K × V)) → Option V → Type 0
+  Tells q entries told = (xs ys : List (K × V)) → T (is_sorted cmp (xs ++ (entries ++ ys))) → find cmp q (xs ++ (entries ++ ys)) ≡ told
+
   -- The value at the key among the entries is that among a few of them, whatever stands in front of
   -- the entries and behind them.
   abbrev pub TellsAlone : K → (entries few : List (K × V)) → Type 0
-  TellsAlone q entries few = (xs ys : List (K × V)) → T (is_sorted cmp (xs ++ (entries ++ ys))) → find cmp q (xs ++ (entries ++ ys)) ≡ find cmp q few
+  TellsAlone q entries few = Tells q entries (find cmp q few)
 
 -- whether the edits were made in the present chunks
 abbrev pub were_made : {E : Type 0} → Result Bool E → Bool

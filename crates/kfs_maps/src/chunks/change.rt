@@ -10,8 +10,8 @@ ghost use Rattle.std.proofs.Common.{rules};
 
 use crate::chunks::chunks::Chunks;
 use crate::chunks::entries::{Entries, Key, KeyEdit};
-use crate::chunks::part::{MOST_CHUNKS, Part};
-use crate::chunks::run::{edits_of, place};
+use crate::chunks::part::{MOST_CHUNKS, Near, Part};
+use crate::chunks::run::{edits_of, place_near};
 use kfs_types::Change;
 use std::alloc::{AllocError, Allocator};
 use std::ops::Bound;
@@ -26,6 +26,7 @@ use std::sync::Arc;
 #[cycle(change_chunks)]
 pub(crate) fn change_parts<K: Key, V: Copy, A: Allocator + Clone, C: Change>(
     parts: &mut [Arc<Part<K, V, A>, A>],
+    near: Near,
     edits: &[KeyEdit<K, V>],
     then: &mut C,
 ) -> Result<bool, AllocError>
@@ -44,13 +45,13 @@ pub(crate) fn change_parts<K: Key, V: Copy, A: Allocator + Clone, C: Change>(
         return Ok(true);
     };
     let last = parts.len().saturating_sub(1);
-    let index = place(parts, &Bound::Included(&edit.key)).min(last);
+    let index = place_near(parts, &Bound::Included(&edit.key), near.part).min(last);
     let (_, rest) = parts.split_at_mut(index);
     let Some((part, rest)) = rest.split_first_mut() else {
         return Ok(false);
     };
     let (mine, later) = edits.split_at(edits_of(edits, part, rest));
-    change_from_part(part, rest, mine, later, then)
+    change_from_part(part, rest, near, mine, later, then)
 }
 
 /// The same for a part, followed by the parts behind it.
@@ -58,6 +59,7 @@ pub(crate) fn change_parts<K: Key, V: Copy, A: Allocator + Clone, C: Change>(
 fn change_from_part<K: Key, V: Copy, A: Allocator + Clone, C: Change>(
     part: &mut Arc<Part<K, V, A>, A>,
     rest: &mut [Arc<Part<K, V, A>, A>],
+    near: Near,
     mine: &[KeyEdit<K, V>],
     later: &[KeyEdit<K, V>],
     then: &mut C,
@@ -77,17 +79,18 @@ fn change_from_part<K: Key, V: Copy, A: Allocator + Clone, C: Change>(
     ensures kept { OnErr result (C.kept then.old then.new) }
 {
     // The part may be shared, and copied here: not where the first chunk has no room.
-    if !part.takes_first(mine) {
+    if !part.takes_first(near.chunk, mine) {
         return Ok(false);
     }
     let part = Arc::make_mut(part)?;
-    change_chunks(part.chunks.as_mut_slice(), mine, rest, later, then)
+    change_chunks(part.chunks.as_mut_slice(), near, mine, rest, later, then)
 }
 
 /// The same for chunks, followed by the parts behind them.
 #[cycle(change_chunks)]
 fn change_chunks<K: Key, V: Copy, A: Allocator + Clone, C: Change>(
     chunks: &mut [Arc<Entries<K, V, A>, A>],
+    near: Near,
     edits: &[KeyEdit<K, V>],
     parts: &mut [Arc<Part<K, V, A>, A>],
     behind: &[KeyEdit<K, V>],
@@ -109,16 +112,16 @@ fn change_chunks<K: Key, V: Copy, A: Allocator + Clone, C: Change>(
     ensures kept { OnErr result (C.kept then.old then.new) }
 {
     let Some(edit) = edits.first() else {
-        return change_parts(parts, behind, then);
+        return change_parts(parts, Near::start(), behind, then);
     };
     let last = chunks.len().saturating_sub(1);
-    let index = place(chunks, &Bound::Included(&edit.key)).min(last);
+    let index = place_near(chunks, &Bound::Included(&edit.key), near.chunk).min(last);
     let (_, rest) = chunks.split_at_mut(index);
     let Some((chunk, rest)) = rest.split_first_mut() else {
         return Ok(false);
     };
     let (mine, later) = edits.split_at(edits_of(edits, chunk, rest));
-    change_from(chunk, rest, mine, later, parts, behind, then)
+    change_from(chunk, rest, near.entry, mine, later, parts, behind, then)
 }
 
 /// The same for a chunk, followed by the chunks and parts behind it.
@@ -126,6 +129,7 @@ fn change_chunks<K: Key, V: Copy, A: Allocator + Clone, C: Change>(
 fn change_from<K: Key, V: Copy, A: Allocator + Clone, C: Change>(
     chunk: &mut Arc<Entries<K, V, A>, A>,
     rest: &mut [Arc<Entries<K, V, A>, A>],
+    near: usize,
     mine: &[KeyEdit<K, V>],
     later: &[KeyEdit<K, V>],
     parts: &mut [Arc<Part<K, V, A>, A>],
@@ -157,9 +161,9 @@ fn change_from<K: Key, V: Copy, A: Allocator + Clone, C: Change>(
     }
     let chunk = Arc::make_mut(chunk)?;
     chunk.reserve(mine.len())?;
-    let done = change_chunks(rest, later, parts, behind, then);
+    let done = change_chunks(rest, Near::start(), later, parts, behind, then);
     if let Ok(true) = done {
-        chunk.write(mine);
+        chunk.write(near, mine);
     }
     done
 }
@@ -169,6 +173,8 @@ fn change_from<K: Key, V: Copy, A: Allocator + Clone, C: Change>(
 pub struct EditChunks<'a, K: Key, V: Copy, A: Allocator, T> {
     /// The map that is changed.
     pub chunks: &'a mut Chunks<K, V, A>,
+    /// Where the first edit's key is looked for first.
+    pub near: Near,
     /// Its edits, ascending by key.
     pub edits: &'a [KeyEdit<K, V>],
     /// The change made with them.
@@ -188,7 +194,8 @@ impl<'a, K: Key, V: Copy, A: Allocator + Clone, T: Change> Change for EditChunks
     ghost not_tried = { λ before. Prim.search rules };
 
     fn make(&mut self) -> Result<(), AllocError> {
-        self.chunks.change_then(self.edits, &mut self.then)
+        let near = self.near;
+        self.chunks.change_near(near, self.edits, &mut self.then)
     }
 }
 

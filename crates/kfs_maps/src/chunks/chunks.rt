@@ -75,22 +75,23 @@ impl<K: Key, V: Copy, A: Allocator> Chunks<K, V, A> {
     }
 
     /// The same value, for keys that are looked up one after another. It is found with one comparison
-    /// where this key is the one behind the last, and without a search for its chunk where that is the
-    /// last one's. `near` becomes the place behind this key. Takes no memory.
+    /// where this key is the one behind the last, with two where it would stand there but has no entry, and
+    /// without a search for its chunk where that is the last one's. `near` becomes the place behind this
+    /// key. Takes no memory.
     pub fn get_near(&self, near: &mut Near, key: &K) -> Option<&V>
         ensures { option_copied result ≡ find K.order.compare key.now self.now }
     {
         if let Some(part) = self.parts.get(near.part) {
-            if let Some(value) = part.value_at(*near, key) {
-                near.entry = near.entry.saturating_add(1);
-                return Some(value);
+            if let Some(told) = part.told_at(*near, key) {
+                near.entry = near.entry.saturating_add(usize::from(told.is_some()));
+                return told;
             }
             if let Some(chunk) = part.inner_chunk(near.chunk, key) {
                 return chunk.get_near(&mut near.entry, key);
             }
         }
         let at = place_near(&self.parts, &Bound::Included(key), near.part);
-        near.part = at;
+        near.move_to(at, self.parts.len());
         let part = self.parts.get(at)?;
         part.get_near(near, key)
     }
@@ -153,10 +154,27 @@ impl<K: Key, V: Copy, A: Allocator + Clone> Chunks<K, V, A> {
         ensures made { OnOk result (T.made then.old then.new) }
         ensures kept { OnErr result (T.kept then.old then.new) }
     {
+        self.change_near(Near::start(), edits, then)
+    }
+
+    /// The same. The first edit is made faster where its key stands at `near`.
+    pub fn change_near<T: Change>(
+        &mut self,
+        near: Near,
+        edits: &[KeyEdit<K, V>],
+        then: &mut T,
+    ) -> Result<(), AllocError>
+        requires edits { KeysAscend K.order.compare edits.now }
+        requires then { T.can_make then.old }
+        ensures ok { OnOk result (self.new ≡ rewritten K.order self.old edits.now) }
+        ensures err { OnErr result (self.new ≡ self.old) }
+        ensures made { OnOk result (T.made then.old then.new) }
+        ensures kept { OnErr result (T.kept then.old then.new) }
+    {
         if edits.len() > MOST_IN_PLACE {
             return self.change_anew(edits, then);
         }
-        if change_parts(self.parts.as_mut_slice(), edits, then)? {
+        if change_parts(self.parts.as_mut_slice(), near, edits, then)? {
             return Ok(());
         }
         self.change_anew(edits, then)

@@ -8,6 +8,7 @@ ghost use Rattle.std.specs.Range.Bound.{bound_map};
 ghost use Rattle.std.specs.declared.cmp.Ordering.TheVariants.{Less};
 ghost use Rattle.std.specs.declared.ops.Bound.TheVariants.{Included};
 ghost use Rattle.kfs_maps.specs.Chunks.Edits.{entered, entered_all, KeysAscend, IsPassed};
+ghost use Rattle.kfs_maps.specs.Chunks.Joined.{Tells};
 ghost use Rattle.kfs_maps.specs.Chunks.Starts.{is_from, first_from, entries_from};
 ghost use Rattle.kfs_model.specs.Table.{Order, pairs, numbers};
 ghost use Rattle.kfs_model.specs.Tree.{name_order};
@@ -16,6 +17,7 @@ use crate::chunks::change::append;
 use crate::chunks::run::{Recut, Run};
 use kfs_types::Name;
 use std::alloc::{AllocError, Allocator};
+use std::cmp::Ordering;
 use std::marker::Model;
 use std::ops::Bound;
 use std::sync::Arc;
@@ -80,11 +82,12 @@ impl<K: Key, V: Copy, A: Allocator> Entries<K, V, A> {
         }
     }
 
-    /// The same value. `near` becomes the index of the entry behind the key. Takes no memory.
+    /// The same value, found faster where the key stands at `near`, which becomes the index of the entry
+    /// behind the key. Takes no memory.
     pub(crate) fn get_near(&self, near: &mut usize, key: &K) -> Option<&V>
         ensures { option_copied result ≡ find K.cmp key.now self.now.pairs }
     {
-        match search(&self.pairs, key) {
+        match search_near(&self.pairs, 0, *near, key) {
             Ok(at) => {
                 *near = at.saturating_add(1);
                 Some(&self.pairs[at].1)
@@ -96,15 +99,17 @@ impl<K: Key, V: Copy, A: Allocator> Entries<K, V, A> {
         }
     }
 
-    /// The value of the entry at an index, if it has the key. Takes no memory.
-    pub(crate) fn value_at(&self, index: usize, key: &K) -> Option<&V>
-        ensures { IfSome result (λ value. find K.cmp key.now self.now.pairs ≡ Some value.now) }
+    /// What the entry at an index and the one before it tell of a key, if they do: its value, or that it
+    /// stands between them and has none. Takes no memory.
+    pub(crate) fn told_at(&self, index: usize, key: &K) -> Option<Option<&V>>
+        ensures { IfSome result (λ told. Tells K.cmp key.now self.now.pairs (option_copied told)) }
     {
         let (there, value) = self.pairs.get(index)?;
-        if !key.cmp(there).is_eq() {
-            return None;
+        match key.cmp(there) {
+            Ordering::Equal => Some(Some(value)),
+            Ordering::Less if index > 0 && self.pairs[index - 1].0.cmp(key).is_lt() => Some(None),
+            _ => None,
         }
-        Some(value)
     }
 
     /// Makes room for `more` entries. The entries stay as they are. `Err` where memory runs out.
@@ -115,17 +120,17 @@ impl<K: Key, V: Copy, A: Allocator> Entries<K, V, A> {
         self.pairs.try_reserve(more)
     }
 
-    /// Sets the value of a key, or removes its entry. Only entries from index `from` on are looked at.
+    /// Sets the value of a key, or removes its entry. It is done faster where the key stands at `near`.
     /// Answers an index from which on all entries of greater keys stand. Conditions: there is room, and
     /// no entry before `from` is at the key or behind it. Takes no memory.
-    fn set_from(&mut self, from: usize, key: &K, value: Option<V>) -> usize
+    fn set_from(&mut self, from: usize, near: usize, key: &K, value: Option<V>) -> usize
         requires room { 0 < self.old.room }
         requires from { from ≤ first_from K.cmp (Included key.now) self.old.pairs }
         ensures room { self.old.room ≤ self.new.room + 1 }
         ensures pairs { self.new.pairs ≡ entered K.cmp self.old.pairs key.now value }
         ensures behind { (q : _) → K.cmp key.now q ≡ Less → result ≤ first_from K.cmp (Included q) self.new.pairs }
     {
-        match (search_from(&self.pairs, from, key), value) {
+        match (search_near(&self.pairs, from, near, key), value) {
             (Ok(at), Some(value)) => {
                 self.pairs[at].1 = value;
                 at.saturating_add(1)
@@ -143,16 +148,18 @@ impl<K: Key, V: Copy, A: Allocator> Entries<K, V, A> {
         }
     }
 
-    /// Makes the edits, each by a search behind the last one. Conditions: there is room for them, and
-    /// their keys ascend. Takes no memory.
-    pub(crate) fn write(&mut self, edits: &[KeyEdit<K, V>])
+    /// Makes the edits, each by a search behind the last one, the first of them faster where its key stands
+    /// at `near`. Conditions: there is room for them, and their keys ascend. Takes no memory.
+    pub(crate) fn write(&mut self, near: usize, edits: &[KeyEdit<K, V>])
         requires room { length edits.now ≤ self.old.room }
         requires ascend { KeysAscend K.cmp edits.now }
         ensures pairs { self.new.pairs ≡ entered_all K.cmp self.old.pairs edits.now }
     {
         let mut from = 0;
+        let mut near = near;
         for edit in edits {
-            from = self.set_from(from, &edit.key, edit.value);
+            from = self.set_from(from, near, &edit.key, edit.value);
+            near = from;
         }
     }
 
@@ -259,16 +266,30 @@ fn search<K: Key, V: Copy>(pairs: &[(K, V)], key: &K) -> Result<usize, usize>
     requires { T (is_sorted K.cmp pairs.now) }
     ensures { result ≡ (let at = first_from K.cmp (Included key.now) pairs.now in if is_some (find K.cmp key.now pairs.now) then Ok at else Err at) }
 {
-    search_from(pairs, 0, key)
+    found_at(pairs, first_from(pairs, Bound::Included(key)), key)
 }
 
-/// The same, where no entry before index `from` is at the key or behind it: those aren't looked at.
-fn search_from<K: Key, V: Copy>(pairs: &[(K, V)], from: usize, key: &K) -> Result<usize, usize>
+/// The same, found faster where the index is `near`. Condition: no entry before index `from` is at the key or
+/// behind it; those aren't searched.
+fn search_near<K: Key, V: Copy>(
+    pairs: &[(K, V)],
+    from: usize,
+    near: usize,
+    key: &K,
+) -> Result<usize, usize>
     requires sorted { T (is_sorted K.cmp pairs.now) }
     requires from { from ≤ first_from K.cmp (Included key.now) pairs.now }
     ensures { result ≡ (let at = first_from K.cmp (Included key.now) pairs.now in if is_some (find K.cmp key.now pairs.now) then Ok at else Err at) }
 {
-    let at = first_behind(pairs, from, key);
+    found_at(pairs, first_near(pairs, from, near, key), key)
+}
+
+/// The same, where `at` is the index of the first entry at the key or behind it.
+fn found_at<K: Key, V: Copy>(pairs: &[(K, V)], at: usize, key: &K) -> Result<usize, usize>
+    requires sorted { T (is_sorted K.cmp pairs.now) }
+    requires first { at ≡ first_from K.cmp (Included key.now) pairs.now }
+    ensures { result ≡ (let at = first_from K.cmp (Included key.now) pairs.now in if is_some (find K.cmp key.now pairs.now) then Ok at else Err at) }
+{
     let Some(pair) = pairs.get(at) else {
         return Err(at);
     };
@@ -277,6 +298,23 @@ fn search_from<K: Key, V: Copy>(pairs: &[(K, V)], from: usize, key: &K) -> Resul
     } else {
         Err(at)
     }
+}
+
+/// The index of the first entry at the key or behind it, looked for from index `from` on, unless it is `near`.
+fn first_near<K: Key, V: Copy>(pairs: &[(K, V)], from: usize, near: usize, key: &K) -> usize
+    requires sorted { T (is_sorted K.cmp pairs.now) }
+    requires from { from ≤ first_from K.cmp (Included key.now) pairs.now }
+    ensures { result ≡ first_from K.cmp (Included key.now) pairs.now }
+{
+    let start = Bound::Included(key);
+    let near = near.min(pairs.len());
+    if near < pairs.len() && !is_from(&start, &pairs[near].0) {
+        return first_behind(pairs, from, key);
+    }
+    if near > 0 && is_from(&start, &pairs[near - 1].0) {
+        return first_behind(pairs, from, key);
+    }
+    near
 }
 
 /// The index of the first entry at the key or behind it, looked for from index `from` on.

@@ -4,7 +4,7 @@ ghost use Rattle.std.specs.Option.{option_copied};
 ghost use Rattle.std.specs.FinMap.Entries.{find, is_sorted};
 ghost use Rattle.std.specs.Range.Bound.{bound_map};
 ghost use Rattle.kfs_maps.specs.Chunks.Edits.{KeysAscend};
-ghost use Rattle.kfs_maps.specs.Chunks.Joined.{joined, AreSized, TellsAlone};
+ghost use Rattle.kfs_maps.specs.Chunks.Joined.{joined, AreSized, Tells, TellsAlone};
 ghost use Rattle.kfs_maps.specs.Chunks.Starts.{IsNextRun};
 ghost use Rattle.std.specs.declared.ops.Bound.TheVariants.{Included};
 
@@ -69,12 +69,13 @@ impl<K: Key, V: Copy, A: Allocator> Part<K, V, A> {
         chunk.get_near(&mut near.entry, key)
     }
 
-    /// The value of the entry at `near`, if it has the key. Takes no memory.
-    pub(crate) fn value_at(&self, near: Near, key: &K) -> Option<&V>
-        ensures { IfSome result (λ value. find K.cmp key.now self.now.pairs ≡ Some value.now) }
+    /// What the entry at `near` and the one before it in its chunk tell of a key, if they do. Takes no
+    /// memory.
+    pub(crate) fn told_at(&self, near: Near, key: &K) -> Option<Option<&V>>
+        ensures { IfSome result (λ told. Tells K.cmp key.now self.now.pairs (option_copied told)) }
     {
         let chunk = self.chunks.get(near.chunk)?;
-        chunk.value_at(near.entry, key)
+        chunk.told_at(near.entry, key)
     }
 
     /// The chunk at an index, if the key is behind the chunk in front of it and not behind its own last
@@ -107,15 +108,16 @@ impl<K: Key, V: Copy, A: Allocator> Part<K, V, A> {
         }
     }
 
-    /// Whether the first chunk that the edits change takes those that belong to it.
-    pub(crate) fn takes_first(&self, edits: &[KeyEdit<K, V>]) -> bool
+    /// Whether the first chunk that the edits change takes those that belong to it. It is found faster
+    /// where its index is `near`.
+    pub(crate) fn takes_first(&self, near: usize, edits: &[KeyEdit<K, V>]) -> bool
         requires { KeysAscend K.cmp edits.now }
     {
         let Some(edit) = edits.first() else {
             return true;
         };
         let last = self.chunks.len().saturating_sub(1);
-        let index = place(&self.chunks, &Bound::Included(&edit.key)).min(last);
+        let index = place_near(&self.chunks, &Bound::Included(&edit.key), near).min(last);
         let Some((chunk, rest)) = self.chunks[index..].split_first() else {
             return true;
         };
@@ -194,6 +196,23 @@ pub struct Near {
 }
 
 impl Near {
+    /// The key stands in the part at this index; behind all entries where that is the number of parts.
+    pub(crate) fn move_to(&mut self, part: usize, parts: usize) {
+        if part >= parts {
+            self.chunk = usize::MAX;
+            self.entry = usize::MAX;
+        }
+        self.part = part;
+    }
+
+    /// The place of the key that was looked for last, where it stands behind that key's entry, if it was found.
+    pub fn at_key(self, found: bool) -> Near {
+        Near {
+            entry: self.entry.saturating_sub(usize::from(found)),
+            ..self
+        }
+    }
+
     /// The place of the first entries.
     pub fn start() -> Near {
         Near {

@@ -62,7 +62,7 @@ pub(crate) fn place<K: Key, V: Copy, A: Allocator, R: Run<K, V>>(
     runs.partition_point(|run| !run.reaches(start))
 }
 
-/// The same index. It is found faster where it is `near`.
+/// The same index. It is found faster where it is `near`; a guess over the number of runs is taken as that.
 pub(crate) fn place_near<K: Key, V: Copy, A: Allocator, R: Run<K, V>>(
     runs: &[Arc<R, A>],
     start: &Bound<&K>,
@@ -72,9 +72,7 @@ pub(crate) fn place_near<K: Key, V: Copy, A: Allocator, R: Run<K, V>>(
     requires filled { EachBy R.entries IsNotEmpty runs.now }
     ensures { result ≡ first_run_from K.cmp R.entries (bound_map (λ x. x.now) start.now) runs.now }
 {
-    if near > runs.len() {
-        return place(runs, start);
-    }
+    let near = near.min(runs.len());
     if near < runs.len() && !runs[near].reaches(start) {
         return place(runs, start);
     }

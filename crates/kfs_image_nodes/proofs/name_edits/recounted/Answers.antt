@@ -21,14 +21,14 @@ pub recount-requires-clause-counts : goal.recount-requires-clause-counts
 recount-requires-clause-counts g c = λ n is.
     let e = c.edit-item.result in
     let names = table_after (table name_order c.args.names.now) (take c.loop-edit.edit-index c.args.edits.now) in
-    let from = c.copied-from.ensures ∙ c.get_near.ensures ∙ found_before_edit c.args.names.now c.args.edits.now c.loop-edit.edit-index e c.requires.ascend c.loop-edit-test.true c.edit-item.is in
+    let from = c.target-from.ensures ∙ found_before_edit c.args.names.now c.args.edits.now c.loop-edit.edit-index e c.requires.ascend c.loop-edit-test.true c.edit-item.is in
     (counted_name names _ _ c.loop-edit.invariant e.key.0 e.key.1 n (sym from ∙ is)).0
 
 pub recount-requires-clause-uplinks : goal.recount-requires-clause-uplinks
 recount-requires-clause-uplinks g c = λ n is.
     let e = c.edit-item.result in
     let names = table_after (table name_order c.args.names.now) (take c.loop-edit.edit-index c.args.edits.now) in
-    let from = c.copied-from.ensures ∙ c.get_near.ensures ∙ found_before_edit c.args.names.now c.args.edits.now c.loop-edit.edit-index e c.requires.ascend c.loop-edit-test.true c.edit-item.is in
+    let from = c.target-from.ensures ∙ found_before_edit c.args.names.now c.args.edits.now c.loop-edit.edit-index e c.requires.ascend c.loop-edit-test.true c.edit-item.is in
     (counted_name names _ _ c.loop-edit.invariant e.key.0 e.key.1 n (sym from ∙ is)).1
 
 pub loop-edit-preserved : goal.loop-edit-preserved
@@ -37,12 +37,12 @@ loop-edit-preserved g c =
     let i = c.loop-edit.edit-index in
     let before = table name_order c.args.names.now in
     let names = table_after before (take i c.args.edits.now) in
-    let from = c.copied-from.ensures ∙ c.get_near.ensures ∙ found_before_edit c.args.names.now c.args.edits.now i e c.requires.ascend c.loop-edit-test.true c.edit-item.is in
+    let from = c.target-from.ensures ∙ found_before_edit c.args.names.now c.args.edits.now i e c.requires.ascend c.loop-edit-test.true c.edit-item.is in
     let made = c.in_ok-recount.ensures in
     let counts = counts_seen c.recount.new.self c.args.counts.now in
     let ways = ways_seen c.recount.new.self c.args.uplinks.now in
     subst (λ (t : NameTable). IsCounted t counts ways) (edited_next before c.args.edits.now i e c.loop-edit-test.true c.edit-item.is)
-    (counted_moved names _ counts _ ways c.loop-edit.invariant e.key c.copied-from.result e.value from made.counts made.uplinks made.positive)
+    (counted_moved names _ counts _ ways c.loop-edit.invariant e.key c.target-from.result e.value from made.counts made.uplinks made.positive)
 
 pub returns : goal.returns
 returns g c =

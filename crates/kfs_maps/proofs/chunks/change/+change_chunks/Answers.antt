@@ -76,7 +76,7 @@ change_parts-returns-clause-joined g t c =
     let rest = c.in-Some-split_first_mut.rest.now in
     let result = c.change_from_part.result in
     let whole : c.args.parts.now ≡ front ++ part ∷ rest = c.split_at_mut-rest.ensures.value ∙ ap (λ back. front ++ back) c.in-Some-split_first_mut.ensures.cases.0 in
-    let at : c.place.result ≡ first_chunk_from cmp (Included key) c.args.parts.now = search rules in
+    let at : c.place_near.result ≡ first_chunk_from cmp (Included key) c.args.parts.now = search rules in
     let in_front : All (λ e. entry_from cmp (Included e.key) (joined front) ≡ None) es =
     front_past order front (part ∷ rest) es key c.requires.ascend (λ d. ap (λ (e : KeyEdit _ _). e.key) (c.in-Some.ensures.item.4 (omega arith) d)) (omega (arith, c.split_at_mut-rest.ensures.front_len, c.min-index.ensures, at, ap (first_chunk_from cmp (Included key)) whole)) in
     let all : take r es ++ drop r es ≡ es = take-append-drop r es in
@@ -89,8 +89,8 @@ change_parts-returns-clause-joined g t c =
     (c.change_from_part.ensures.rest ∙ ap (λ later. if_made result (entered_all cmp (joined rest) later) (joined rest)) c.split_at.ensures.back)
     ∙ (λ i. if_made result (entered_all cmp (joined (sym whole i)) (all i)) (joined (sym whole i)))
 
-pub change_chunks-place-requires-clause-filled : goal.change_chunks-place-requires-clause-filled
-change_chunks-place-requires-clause-filled g t c = sized_filled c.args.chunks.now c.requires.sized
+pub change_chunks-place_near-requires-clause-filled : goal.change_chunks-place_near-requires-clause-filled
+change_chunks-place_near-requires-clause-filled g t c = sized_filled c.args.chunks.now c.requires.sized
 
 pub change_chunks-edits_of-requires-clause-sorted : goal.change_chunks-edits_of-requires-clause-sorted
 change_chunks-edits_of-requires-clause-sorted g t c =
@@ -153,7 +153,7 @@ change_chunks-returns-clause-joined g t c =
     let rest = c.in-Some-split_first_mut.rest.now in
     let result = c.change_from.result in
     let whole : c.args.chunks.now ≡ front ++ chunk ∷ rest = c.split_at_mut-rest.ensures.value ∙ ap (λ back. front ++ back) c.in-Some-split_first_mut.ensures.cases.0 in
-    let at : c.place.result ≡ first_chunk_from cmp (Included key) c.args.chunks.now = search rules in
+    let at : c.place_near.result ≡ first_chunk_from cmp (Included key) c.args.chunks.now = search rules in
     let in_front : All (λ e. entry_from cmp (Included e.key) (joined front) ≡ None) es =
     front_past order front (chunk ∷ rest) es key c.requires.ascend (λ d. ap (λ (e : KeyEdit _ _). e.key) (c.in-Some.ensures.item.4 (omega arith) d)) (omega (arith, c.split_at_mut-rest.ensures.front_len, c.min-index.ensures, at, ap (first_chunk_from cmp (Included key)) whole)) in
     let all : take r es ++ drop r es ≡ es = take-append-drop r es in

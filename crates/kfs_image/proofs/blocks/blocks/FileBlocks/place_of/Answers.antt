@@ -6,5 +6,5 @@ use Rattle.kfs_image.proofs.blocks.blocks.FileBlocks.place_of.Goals as goal
 
 pub returns : goal.returns
 returns g c =
-    c.copied.ensures ∙ c.get.ensures ∙ sym (get-table (pairs numbers numbers) c.self.inside.placement (c.args.number, c.args.block))
+    c.copied.ensures ∙ c.get_near.ensures ∙ sym (get-table (pairs numbers numbers) c.self.inside.placement (c.args.number, c.args.block))
     ∙ ap (λ (b : BlocksShown). get b.placement (c.args.number, c.args.block)) c.self.view_is

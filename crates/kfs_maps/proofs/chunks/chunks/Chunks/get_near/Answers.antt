@@ -1,11 +1,11 @@
-use Rattle.std.proofs.Common.{rules, [], Some, ◌≡◌, ◌<◌, ◌≤◌, ◌∙◌, length, ap, sym, subst, arith, get_or}
+use Rattle.std.proofs.Common.{rules, [], ◌≡◌, ◌<◌, ◌≤◌, ◌∙◌, length, ap, sym, subst, arith, get_or}
 use Rattle.std.specs.Option.{option_copied}
 use Rattle.std.specs.declared.ops.Bound.TheVariants.{Included}
 use Rattle.std.specs.FinMap.Entries.{find}
 use Rattle.kfs_maps.specs.Chunks.Buffer.{Buffer}
-use Rattle.kfs_maps.specs.Chunks.Joined.{joined, AreFilled, first_chunk_from, TellsAlone}
+use Rattle.kfs_maps.specs.Chunks.Joined.{joined, AreFilled, first_chunk_from, Tells, TellsAlone}
 use Rattle.kfs_maps.proofs.ChunksLemmas.FirstEntries.{find_none}
-use Rattle.kfs_maps.proofs.ChunksLemmas.FirstHere.{found_tells, told_by}
+use Rattle.kfs_maps.proofs.ChunksLemmas.FirstHere.{told_by}
 use Rattle.kfs_maps.proofs.ChunksLemmas.Parts.{past_place, found_in_place}
 use Rattle.kfs_maps.proofs.ChunksLemmas.Sorted.{order_by}
 use Rattle.kfs_maps.proofs.chunks.chunks.Chunks.get_near.Goals as goal
@@ -56,21 +56,21 @@ returns-in-Some-inner_chunk g c =
     subst (λ (x : Buffer _ _). TellsAlone cmp q x.pairs chunk.value.pairs) c.deref-in-Some-2.ensures c.in-Some-inner_chunk.ensures in
     c.get_near.ensures
     ∙ ap (λ (x : Buffer _ _). find cmp q x.pairs) c.deref-in-Some-inner_chunk.ensures
-    ∙ sym (told_by cmp q [] cs c.args.near.now.part part chunk.value.pairs c.self.invariant.0 within (subst (λ part. TellsAlone cmp q part.value.pairs chunk.value.pairs) here alone))
+    ∙ sym (told_by cmp q [] cs c.args.near.now.part part (find cmp q chunk.value.pairs) c.self.invariant.0 within (subst (λ part. TellsAlone cmp q part.value.pairs chunk.value.pairs) here alone))
     ∙ ap (λ compare. find compare q (joined cs)) g.met.K.Key.compared
     ∙ ap (find g.K.Key.order.compare q) c.self.view_is
 
-pub returns-in-Some-value_at : goal.returns-in-Some-value_at
-returns-in-Some-value_at g c =
+pub returns-in-Some-told_at : goal.returns-in-Some-told_at
+returns-in-Some-told_at g c =
     let cmp = g.K.Ord.cmp in
     let q = c.args.key.now in
     let cs = c.self.inside.parts.items in
-    let order = order_by g.K.Key.order cmp g.met.K.Key.compared in
     let part = c.in-Some.part.now in
-    let value = c.in-Some-value_at.value.now in
+    let told = option_copied c.in-Some-told_at.told in
     let within : c.args.near.now.part < length cs = search rules in
     let here : part ≡ get_or cs c.args.near.now.part part = search rules in
-    let held : find cmp q part.value.pairs ≡ Some value = ap (λ (x : Buffer _ _). find cmp q x.pairs) (sym c.deref-in-Some.ensures) ∙ c.in-Some-value_at.ensures in
-    sym (told_by cmp q [] cs c.args.near.now.part part part.value.pairs c.self.invariant.0 within (subst (λ one. TellsAlone cmp q one.value.pairs part.value.pairs) here (found_tells order q part.value.pairs value held)) ∙ held)
+    let own : Tells cmp q (get_or cs c.args.near.now.part part).value.pairs told =
+    subst (λ one. Tells cmp q one.value.pairs told) here (subst (λ (x : Buffer _ _). Tells cmp q x.pairs told) c.deref-in-Some.ensures c.in-Some-told_at.ensures) in
+    sym (told_by cmp q [] cs c.args.near.now.part part told c.self.invariant.0 within own)
     ∙ ap (λ compare. find compare q (joined cs)) g.met.K.Key.compared
     ∙ ap (find g.K.Key.order.compare q) c.self.view_is

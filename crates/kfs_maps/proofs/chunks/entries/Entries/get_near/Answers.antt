@@ -7,12 +7,12 @@ pub index-requires : goal.index-requires
 index-requires g c =
     let order = order_by g.K.Key.order g.K.Ord.cmp g.met.K.Key.compared in
     let held : StandsAt order c.args.key.now c.self.inside.pairs.items c.in-Ok.at =
-    stands_where order c.args.key.now c.self.inside.pairs.items c.in-Ok.at c.self.invariant (ap (searched order c.args.key.now) (sym c.deref.ensures.value) ∙ sym c.search.ensures ∙ c.in-Ok.is) in
+    stands_where order c.args.key.now c.self.inside.pairs.items c.in-Ok.at c.self.invariant (ap (searched order c.args.key.now) (sym c.deref.ensures.value) ∙ sym c.search_near.ensures ∙ c.in-Ok.is) in
     omega (arith, held.within, c.deref.ensures.len, ap length c.deref.ensures.value)
 
 pub returns-in-Ok : goal.returns-in-Ok
 returns-in-Ok g c =
     let order = order_by g.K.Key.order g.K.Ord.cmp g.met.K.Key.compared in
     let held : StandsAt order c.args.key.now c.self.inside.pairs.items c.in-Ok.at =
-    stands_where order c.args.key.now c.self.inside.pairs.items c.in-Ok.at c.self.invariant (ap (searched order c.args.key.now) (sym c.deref.ensures.value) ∙ sym c.search.ensures ∙ c.in-Ok.is) in
+    stands_where order c.args.key.now c.self.inside.pairs.items c.in-Ok.at c.self.invariant (ap (searched order c.args.key.now) (sym c.deref.ensures.value) ∙ sym c.search_near.ensures ∙ c.in-Ok.is) in
     ap (λ e. Some e.1) c.index.ensures ∙ sym (held.value c.index.result.now) ∙ ap (λ s. find g.K.Ord.cmp c.args.key.now s.pairs) c.self.view_is

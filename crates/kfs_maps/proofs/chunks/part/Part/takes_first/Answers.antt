@@ -5,8 +5,8 @@ use Rattle.kfs_maps.specs.Chunks.Joined.{joined, AreFilled}
 use Rattle.kfs_maps.proofs.ChunksLemmas.Parts.{sorted_behind, sized_filled}
 use Rattle.kfs_maps.proofs.chunks.part.Part.takes_first.Goals as goal
 
-pub place-requires-clause-filled : goal.place-requires-clause-filled
-place-requires-clause-filled g c = subst AreFilled (sym c.deref.ensures.value) (sized_filled c.self.inside.chunks.items c.self.invariant.1)
+pub place_near-requires-clause-filled : goal.place_near-requires-clause-filled
+place_near-requires-clause-filled g c = subst AreFilled (sym c.deref.ensures.value) (sized_filled c.self.inside.chunks.items c.self.invariant.1)
 
 pub edits_of-requires-clause-sorted : goal.edits_of-requires-clause-sorted
 edits_of-requires-clause-sorted g c =

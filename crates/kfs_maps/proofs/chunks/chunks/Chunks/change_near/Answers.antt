@@ -7,7 +7,7 @@ use Rattle.kfs_maps.specs.Chunks.Joined.{joined, were_made, AreFilled}
 use Rattle.kfs_maps.proofs.ChunksLemmas.Rewritten.{is_sorted-all}
 use Rattle.kfs_maps.proofs.ChunksLemmas.Sorted.{order_by}
 use Rattle.kfs_maps.proofs.ChunksLemmas.Together.{took_first}
-use Rattle.kfs_maps.proofs.chunks.chunks.Chunks.change_then.Goals as goal
+use Rattle.kfs_maps.proofs.chunks.chunks.Chunks.change_near.Goals as goal
 
 pub change_parts-requires-clause-ascend : goal.change_parts-requires-clause-ascend
 change_parts-requires-clause-ascend g c = subst (λ cmp. KeysAscend cmp c.args.edits.now) (sym g.met.K.Key.compared) c.requires.edits
