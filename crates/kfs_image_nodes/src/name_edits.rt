@@ -46,6 +46,8 @@ pub(crate) struct NameEdits<A: Allocator> {
     pub(crate) names: Vec<KeyEdit<(u32, Name), u32>, A>,
     pub(crate) counts: Vec<NumberEdit<u64>, A>,
     pub(crate) uplinks: Vec<KeyEdit<(u32, u32), u64>, A>,
+    /// Where the first name and the first uplink are looked for first.
+    pub(crate) places: LastPlaces,
 }
 
 /// The changes that the rows make, row after row. The maps themselves stay as they are. Counts for
@@ -65,11 +67,22 @@ pub(crate) fn name_edits<A: Allocator + Clone>(
         return edits_of_all(alloc, names, counts, uplinks, rows);
     };
     let CountEdits { counts, uplinks } = count_edits(alloc, names, counts, uplinks, last, &edits)?;
+    let places = *last;
+    last.name = places.name.behind(puts_first(&edits));
     Ok(NameEdits {
         names: edits,
         counts,
         uplinks,
+        places,
     })
+}
+
+/// Whether a name has an entry after the first edit.
+fn puts_first(edits: &[KeyEdit<(u32, Name), u32>]) -> bool {
+    match edits.first() {
+        Some(edit) => edit.value.is_some(),
+        None => false,
+    }
 }
 
 /// The rows as edits of the names, or none where their keys don't ascend.
@@ -198,6 +211,7 @@ fn edits_of_all<A: Allocator + Clone>(
         names: key_edits(alloc, &overlays.names)?,
         counts: number_edits(alloc, &overlays.tallies.counts)?,
         uplinks: key_edits(alloc, &overlays.tallies.uplinks)?,
+        places: LastPlaces::none(),
     })
 }
 

@@ -231,7 +231,6 @@ impl<A: Allocator + Clone> NodeTables<A> {
     fn change<T: Change>(
         &mut self,
         headers: &[NumberEdit<Header>],
-        last: LastPlaces,
         edits: &NameEdits<A>,
         then: &mut T,
     ) -> Result<(), AllocError>
@@ -250,14 +249,14 @@ impl<A: Allocator + Clone> NodeTables<A> {
     {
         let mut all = EditChunks {
             chunks: &mut self.names,
-            near: last.name,
+            near: edits.places.name,
             edits: edits.names.as_slice(),
             then: EditPages {
                 pages: &mut self.counts,
                 edits: edits.counts.as_slice(),
                 then: EditChunks {
                     chunks: &mut self.uplinks,
-                    near: last.uplink,
+                    near: edits.places.uplink,
                     edits: edits.uplinks.as_slice(),
                     then: Borrowed { change: then },
                 },
@@ -289,7 +288,7 @@ impl<A: Allocator + Clone> NodeTables<A> {
         ensures kept { OnErr result (T.kept then.old then.new) }
     {
         let edits = name_edits(alloc, &self.names, &self.counts, &self.uplinks, last, names)?;
-        self.change(nodes.headers(), *last, &edits, then)
+        self.change(nodes.headers(), &edits, then)
     }
 }
 

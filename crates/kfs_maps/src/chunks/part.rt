@@ -213,6 +213,14 @@ impl Near {
         }
     }
 
+    /// The place behind this one, where that is an entry's.
+    pub fn behind(self, entry: bool) -> Near {
+        Near {
+            entry: self.entry.saturating_add(usize::from(entry)),
+            ..self
+        }
+    }
+
     /// The place of the first entries.
     pub fn start() -> Near {
         Near {

@@ -16,7 +16,7 @@ pub returns-in_ok-edits-in-None-Some : goal.returns-in_ok-edits-in-None-Some
 returns-in_ok-edits-in-None-Some g c =
     let number = c.in-None-Some.number in
     let names = c.copied-names.ensures ∙ c.get.ensures in
-    let ways = c.copied-ways.ensures ∙ c.get_near-in-None-Some.ensures ∙ sym (get-table by_node c.args.uplinks.now (number, c.args.dir)) in
+    let ways = c.copied-ways.ensures ∙ c.get_near.ensures ∙ sym (get-table by_node c.args.uplinks.now (number, c.args.dir)) in
     let made = c.in_ok-edits-in-None-Some.ensures in
     let moved = moved_in c.args.counts.now c.args.uplinks.now c.args.dir number c.in_ok-one_more-in-None-Some.field-0 c.in_ok-one_more-in-None-Some-2.field-0 c.in_ok-edits-in-None-Some.edits
     (omega (arith, c.if-dir-eq0.false), omega (arith, c.if-dir-gt-GREATEST_NUMBER.false))
