@@ -19,7 +19,7 @@ ghost use Rattle.kfs_server.specs.declared.serving.fault.ServeFault.TheVariants 
 
 use crate::frames::{FRONT, Incoming};
 use crate::look_ups::{
-    Found, LookUp, figures_now, found_bytes, found_names, found_number, found_tail,
+    Found, LookUp, figures_now, found_bytes, found_leases, found_names, found_number, found_tail,
     spell_found_head, tier_now,
 };
 use crate::replies::{NumberedReply, Refusal, Reply, spell_reply};
@@ -155,6 +155,7 @@ fn look_at<A: Allocator + Copy, B: Allocator + Copy>(
             tier_now(desk, 1),
             tier_now(desk, 2),
         )),
+        LookUp::Leases { first, limit } => found_leases(alloc, desk, from, *first, *limit),
     }
 }
 
