@@ -1,8 +1,8 @@
 """Frames and replies of docs/PROTOCOL.md, for hosts and tests in Python.
 
-`frame` makes the bytes of a frame, and `node`, `state`, `checkpoint`, `find`, `names`, `read` and `places` those of look-ups.
-`replies` cuts replies out of a stream of bytes, and `Reply` says what one tells. A `Server` is a running program with its pipes: it
-sends frames and reads their replies.
+`frame` makes the bytes of a frame, and `node`, `state`, `checkpoint`, `find`, `names`, `read`, `places` and `leases` those of
+look-ups. `replies` cuts replies out of a stream of bytes, and `Reply` says what one tells. A `Server` is a running program with
+its pipes: it sends frames and reads their replies.
 """
 import collections
 import struct
@@ -14,7 +14,7 @@ ANSWERED, REFUSED, FOUND = 1, 2, 3
 REFUSALS = {1: "TooLong", 2: "CutShort", 3: "BadField", 4: "Trailing", 5: "NotYours", 6: "memory", 7: "full"}
 
 DENIALS = {1: "UnknownClient", 2: "NoSuchNode", 3: "NotDirectory", 4: "IsDirectory", 5: "NoSearch", 6: "NoRead"}
-NODE, STATE, CHECKPOINT, FIND, NAMES, READ, PLACES = range(0x40, 0x47)
+NODE, STATE, CHECKPOINT, FIND, NAMES, READ, PLACES, LEASES = range(0x40, 0x48)
 
 # number: the frame's; answer: the bytes of an answer, what a look-up found, or None; refusal: its name and index, or None
 Reply = collections.namedtuple("Reply", "number answer refusal")
@@ -28,6 +28,7 @@ LeadsTo = collections.namedtuple("LeadsTo", "number")
 NamesAre = collections.namedtuple("NamesAre", "more names")
 BytesAre = collections.namedtuple("BytesAre", "data")
 PlacesAre = collections.namedtuple("PlacesAre", "tiers")
+LeasesAre = collections.namedtuple("LeasesAre", "more leases")
 
 
 def frame(number, sender, body):
@@ -66,6 +67,11 @@ def places():
     return bytes([PLACES])
 
 
+def leases(first, limit):
+    """Asks for the sender's own leases on nodes from the number `first` on, in at most so many bytes."""
+    return struct.pack(">BII", LEASES, first, limit)
+
+
 # ---- Replies
 
 def header_in(data):
@@ -84,6 +90,11 @@ def names_in(data):
         listed.append((data[5 : 5 + length], number))
         data = data[5 + length :]
     return listed
+
+
+def leases_in(data):
+    """Leases: the number of the node, 0 to read or 1 to write, and the end."""
+    return list(struct.iter_unpack(">IBQ", data))
 
 
 def found_in(data):
@@ -107,6 +118,8 @@ def found_in(data):
             return BytesAre(rest)
         case 8:
             return PlacesAre(tuple(struct.iter_unpack(">II", rest)))
+        case 9:
+            return LeasesAre(bool(rest[0]), leases_in(rest[1:]))
     raise ValueError(f"nothing that is found: {data.hex()}")
 
 

@@ -17,8 +17,8 @@ BODY_LIMIT = 16_777_216
 FORGED, CHANGED, LONG = 0.3, 0.5, 0.0005
 # How often a look-up stands before a call, and that of the front's own among them.
 LOOKED, OF_THE_FRONT = 0.6, 0.15
-# The most bytes of a file, or of names, that a look-up is answered.
-FOUND_LIMIT = 65_536
+# The most bytes of a file, of names or of leases that a look-up is answered; those of a lease.
+FOUND_LIMIT, LEASE_LEN = 65_536, 13
 ENTRY_REASONS = "NoSuchNode NotDirectory IsDirectory NoSuchName NameTaken NumberTaken NumberNotGranted NotEmpty BelowItself TooManyLinks TooBig NoSearch NoWrite NotOwner NoLease Sticky NotInGroup".split()
 LEASE_REASONS = "UnknownClient BadPath NoSuchName NotDirectory NoSearch Past LeaseHeld NoLeaseHeld Backwards NoSuchNode NotAllowed".split()
 MOVE_REASONS = "NotMapped OutOfRange NotFree Overlap TooManyMoves".split()
@@ -99,9 +99,9 @@ def look_up(chance):
     """The bytes of a look-up."""
     # The root, the numbers that calls give first, and others.
     number = chance.choice([1] * 8 + [*range(11)] * 2 + [chance.randrange(64), U32])
-    limit = chance.choice([0, 6, 7, 12, 40, 260, FOUND_LIMIT + 1, U32])
+    limit = chance.choice([0, 6, 7, 12, 13, 26, 40, 260, FOUND_LIMIT + 1, U32])
     start = chance.choice([0, 1, 4_095, 4_096, chance.randrange(10_000), U64])
-    match chance.randrange(6):
+    match chance.randrange(7):
         case 0:
             return struct.pack(">BI", 0x40, number)
         case 1:
@@ -110,6 +110,8 @@ def look_up(chance):
             return struct.pack(">BII", 0x44, number, limit) + name_of(chance)
         case 3 | 4:
             return struct.pack(">BIQI", 0x45, number, start, limit)
+        case 5:
+            return struct.pack(">BII", 0x47, chance.choice([0, 0, number]), limit)
         case _:
             return bytes([0x46])
 
@@ -167,6 +169,8 @@ class FrameSession(CallSession):
             return self.named(sender, *struct.unpack(">II", fields[:8]), fields[8:])
         if tag == b"\x45" and len(fields) == 16:
             return self.bytes_read(sender, *struct.unpack(">IQI", fields))
+        if tag == b"\x47" and len(fields) == 8:
+            return self.held(sender, *struct.unpack(">II", fields))
         if tag == b"\x46" and not fields:
             return "places " + " ".join(f"{self.sizes[tier]}:{self.free(tier)}" for tier in range(3))
         return None
@@ -207,6 +211,15 @@ class FrameSession(CallSession):
             return denied
         end = min(start + min(count, FOUND_LIMIT), self.tree.nodes[number].size)
         return f"bytes {hex_of(self.contents[number].read(start, end))}"
+
+    def held(self, client, first, limit):
+        own = []
+        for number, held in sorted(self.leases.rows.items()):
+            if number >= first and client in held:
+                kind, end = held[client]
+                own.append((number, int(kind == "w"), end))
+        count = min(limit, FOUND_LIMIT) // LEASE_LEN
+        return f"leases {len(own) > count} {own[:count]}"
 
 
 # ---- What a reply says
@@ -290,6 +303,8 @@ def found_text(found):
             return f"names {more} {listed}"
         case "BytesAre", data:
             return f"bytes {hex_of(data)}"
+        case "LeasesAre", more, held:
+            return f"leases {more} {held}"
         case "PlacesAre", tiers:
             return "places " + " ".join(f"{size}:{free}" for size, free in tiers)
     raise ValueError(f"nothing that is found: {found}")

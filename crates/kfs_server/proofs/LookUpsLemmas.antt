@@ -2,3 +2,4 @@ pub mod Apart
 pub mod Reads
 pub mod Listings
 pub mod Contents
+pub mod Held

@@ -1,9 +1,11 @@
 -- Worked frames and replies, byte by byte, as docs/PROTOCOL.md has them.
 use Rattle.std.specs.Prelude.{ℕ, false, List, [], ◌∷◌, ◌++◌, Some}
 use Rattle.kfs_call.specs.Examples.{lease_call_bytes, leased_answer}
+use Rattle.kfs_lease.specs.LeaseLists.{LeaseRow}
 use Rattle.kfs_model.specs.Header.{Header, Directory}
+use Rattle.kfs_model.specs.Lease.{WriteLease}
 use Rattle.kfs_server.specs.Frames.Frame.{Frame}
-use Rattle.kfs_server.specs.LookUps.Found.{NamesAre, NodeIs, StateIs, listing_bytes}
+use Rattle.kfs_server.specs.LookUps.Found.{LeasesAre, NamesAre, NodeIs, StateIs, held_bytes, listing_bytes}
 use Rattle.kfs_server.specs.Replies.Reply.{Reply, Answered, Refused, Found, NotYours}
 
 -- frame 1: client 7 asks for a write lease on the root
@@ -80,3 +82,22 @@ abbrev pub names_reply_bytes : List ℕ
 names_reply_bytes =
     (0 ∷ 0 ∷ 0 ∷ 15 ∷ 0 ∷ 0 ∷ 0 ∷ 5 ∷ 3 ∷ 6 ∷ 0 ∷ [])
     ++ (0 ∷ 0 ∷ 0 ∷ 3 ∷ 1 ∷ 97 ∷ 0 ∷ 0 ∷ 0 ∷ 5 ∷ 1 ∷ 98 ∷ [])
+
+-- frame 6: client 7 asks for its leases, in 65,536 bytes
+abbrev pub leases_frame : Frame
+leases_frame = record { number = 6; from = 7; body = 71 ∷ 0 ∷ 0 ∷ 0 ∷ 0 ∷ 0 ∷ 1 ∷ 0 ∷ 0 ∷ [] }
+
+abbrev pub leases_frame_bytes : List ℕ
+leases_frame_bytes = 0 ∷ 0 ∷ 0 ∷ 9 ∷ 0 ∷ 0 ∷ 0 ∷ 6 ∷ 0 ∷ 0 ∷ 0 ∷ 7 ∷ 71 ∷ 0 ∷ 0 ∷ 0 ∷ 0 ∷ 0 ∷ 1 ∷ 0 ∷ 0 ∷ []
+
+-- the lease of frame 1, and there are no more
+abbrev pub root_lease : LeaseRow
+root_lease = record { number = 1; client = 7; kind = WriteLease; end = 100 }
+
+abbrev pub leases_reply : Reply
+leases_reply = Found (LeasesAre false (held_bytes root_lease))
+
+abbrev pub leases_reply_bytes : List ℕ
+leases_reply_bytes =
+    (0 ∷ 0 ∷ 0 ∷ 16 ∷ 0 ∷ 0 ∷ 0 ∷ 6 ∷ 3 ∷ 9 ∷ 0 ∷ [])
+    ++ (0 ∷ 0 ∷ 0 ∷ 1 ∷ 1 ∷ 0 ∷ 0 ∷ 0 ∷ 0 ∷ 0 ∷ 0 ∷ 0 ∷ 100 ∷ [])

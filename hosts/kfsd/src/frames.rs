@@ -31,9 +31,10 @@ const FOUND: u8 = 3;
 /// The tag of a reply that refuses.
 const REFUSED: u8 = 2;
 
-/// The tags of look-ups: of names and of bytes, whose replies may be long, and those that are the front's.
+/// The tags of look-ups: of names, of bytes and of leases, whose replies may be long, and those that are the front's.
 const NAMES: u8 = 0x44;
 const READ: u8 = 0x45;
+const LEASES: u8 = 0x47;
 pub const STATE: u8 = 0x41;
 pub const CHECKPOINT: u8 = 0x42;
 
@@ -241,7 +242,7 @@ pub fn asked(body: &[u8]) -> Asked {
 /// How many bytes the reply to a body may have, where they are many: those that a look-up asks for.
 pub fn found_in(body: &[u8]) -> u32 {
     let asked = match *body {
-        [NAMES, _, _, _, _, a, b, c, d, ..] => u32::from_be_bytes([a, b, c, d]),
+        [NAMES | LEASES, _, _, _, _, a, b, c, d, ..] => u32::from_be_bytes([a, b, c, d]),
         // The count is its last field.
         [READ, .., a, b, c, d] => u32::from_be_bytes([a, b, c, d]),
         _ => 0,
@@ -341,6 +342,7 @@ mod tests {
         assert_eq!(found_in(&[READ, 0, 0, 0, 5, 0, 0, 0, 0, 0, 0, 1, 0]), 256);
         assert_eq!(found_in(&[READ, 0, 0, 0, 5, 0, 0, 0, 0, 1, 0, 0, 0]), FOUND_LIMIT);
         assert_eq!(found_in(&[NAMES, 0, 0, 0, 5, 0, 0, 1, 4, b'a']), 260);
+        assert_eq!(found_in(&[LEASES, 0, 0, 0, 5, 0, 0, 1, 4]), 260);
         assert_eq!(found_in(&[READ, 0, 0]), 0);
         assert_eq!(found_in(&[1; 20]), 0);
     }

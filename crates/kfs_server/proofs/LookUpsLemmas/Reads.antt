@@ -6,8 +6,8 @@ use Rattle.kfs_model.specs.Spelling.{IsBytes, IsName, is_name, number32, number6
 use Rattle.kfs_model.proofs.Reading.{byte_read, number32_read, number64_read}
 use Rattle.kfs_model.proofs.Fields.{byte_is, byte_field, number32_field, number64_field, some_from, some_if, some_is}
 use Rattle.kfs_model.proofs.NameTest.{is_name_true, is_name_sound}
-use Rattle.kfs_server.specs.LookUps.LookUp.{LookUp, Node, State, Checkpoint, Find, Names, Read, Places, IsAfterName, IsLookUp, IsNoLookUp, after_bytes, look_up_bytes}
-use Rattle.kfs_server.specs.LookUps.Reading.{after_read, ended, find_read, look_up_read, name_of, names_read, node_read, read_read, tagged_read}
+use Rattle.kfs_server.specs.LookUps.LookUp.{LookUp, Node, State, Checkpoint, Find, Names, Read, Places, Leases, IsAfterName, IsLookUp, IsNoLookUp, after_bytes, look_up_bytes}
+use Rattle.kfs_server.specs.LookUps.Reading.{after_read, ended, find_read, leases_read, look_up_read, name_of, names_read, node_read, read_read, tagged_read}
 
 -- the bytes are this look-up's
 record IsThis (bytes : List ℕ) (look_up : LookUp) : Type 0 where
@@ -97,6 +97,17 @@ read_takes bytes rest x parts are e =
       fits = (m.fits, n.fits, o.fits);
     })
 
+leases_takes : (bytes rest : List ℕ) (x : LookUp) → bytes ≡ 71 ∷ rest → IsBytes rest → leases_read rest ≡ Some x → IsThis bytes x
+leases_takes bytes rest x parts are e =
+    let a = some_from (number32_read rest) (λ f. number32_read f.1 >>= λ g. ended g.1 (Leases f.0 g.0)) x e in
+    let m = number32_field.takes rest a.0 are a.1 in
+    let b = some_from (number32_read a.0.1) (λ g. ended g.1 (Leases a.0.0 g.0)) x a.2 in
+    let n = number32_field.takes a.0.1 b.0 m.rest_bytes b.1 in
+    let last = end_takes b.0.1 (Leases a.0.0 b.0.0) x b.2 in
+    let behind : a.0.1 ≡ number32 b.0.0 = n.parts ∙ ap (λ (bs : List ℕ). number32 b.0.0 ++ bs) last.0 ∙ append-nil (number32 b.0.0) in
+    subst (λ (l : LookUp). IsThis bytes l) last.1
+    (record { is = parts ∙ ap (λ (bs : List ℕ). 71 ∷ bs) (m.parts ∙ ap (λ (bs : List ℕ). number32 a.0.0 ++ bs) behind); fits = (m.fits, n.fits) })
+
 -- what is read is there
 sound : (bytes : List ℕ) (x : LookUp) → IsBytes bytes → look_up_read bytes ≡ Some x → IsThis bytes x
 sound bytes x are e =
@@ -116,9 +127,12 @@ sound bytes x are e =
               | inl p ↦ names_takes bytes rest x (front 68 p.0) m.rest_bytes p.1
               | inr q ↦ elim (byte_is a.0.0 69 (read_read rest) _ x q.1) [
                 | inl p ↦ read_takes bytes rest x (front 69 p.0) m.rest_bytes p.1
-                | inr q ↦ elim (byte_is a.0.0 70 (ended rest Places) None x q.1) [
+                | inr q ↦ elim (byte_is a.0.0 70 (ended rest Places) _ x q.1) [
                   | inl p ↦ alone 70 bytes rest Places x (front 70 p.0) refl tt p.1
-                  | inr q ↦ let never : None ≡ some_look_up x = q.1 in absurd cc
+                  | inr q ↦ elim (byte_is a.0.0 71 (leases_read rest) None x q.1) [
+                    | inl p ↦ leases_takes bytes rest x (front 71 p.0) m.rest_bytes p.1
+                    | inr q ↦ let never : None ≡ some_look_up x = q.1 in absurd cc
+                  ]
                 ]
               ]
             ]
@@ -153,6 +167,10 @@ complete (Read file start count) fits =
     ∙ ap (λ (bs : List ℕ). number32_read bs >>= λ h. ended h.1 (Read file start h.0)) (sym (append-nil (number32 count)))
     ∙ ap (λ o. o >>= λ h. ended h.1 (Read file start h.0)) (number32_field.again count [] fits.2)
 complete Places fits = refl
+complete (Leases first limit) fits =
+    ap (λ o. o >>= λ f. number32_read f.1 >>= λ g. ended g.1 (Leases f.0 g.0)) (number32_field.again first (number32 limit) fits.0)
+    ∙ ap (λ (bs : List ℕ). number32_read bs >>= λ g. ended g.1 (Leases first g.0)) (sym (append-nil (number32 limit)))
+    ∙ ap (λ o. o >>= λ g. ended g.1 (Leases first g.0)) (number32_field.again limit [] fits.1)
 
 -- the code's answer, shown by any view of it
 pub is_read : {V : Type 0} (view : V → LookUp) (bytes : List ℕ) (found : Option V) → IsBytes bytes → option_map view found ≡ look_up_read bytes

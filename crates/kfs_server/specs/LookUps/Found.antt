@@ -1,6 +1,7 @@
 -- What look-ups are answered from the state of a desk. Numbers are big-endian.
-use Rattle.std.specs.Prelude.{◌≡◌, ◌<◌, ◌≤◌, ◌+◌, ◌-◌, ℕ, Bool, true, false, List, [], ◌∷◌, ◌++◌, length, take, drop, min, Option, Some, None, Ok, Err}
+use Rattle.std.specs.Prelude.{◌≡◌, ◌<◌, ◌≤◌, ◌+◌, ◌-◌, ◌==◌, ◌&&◌, nat_le, nat_lt, ℕ, Bool, true, false, List, [], ◌∷◌, ◌++◌, filter, length, take, drop, min, Option, Some, None, Ok, Err}
 use Rattle.std.specs.Cmp.Lexicographic.{slice_cmp}
+use Rattle.std.specs.List.{flat_map}
 use Rattle.std.specs.Ordering.{is_lt, nat_cmp}
 use Rattle.std.specs.declared.cmp.Ordering.TheVariants.{Less}
 use Rattle.kfs_model.specs.Header.{Header}
@@ -14,7 +15,9 @@ use Rattle.kfs_judge.specs.declared.access.Access.TheVariants.{FindName, ListNam
 use Rattle.kfs_judge.specs.declared.access.AccessFault.{AccessFault}
 use Rattle.kfs_judge.specs.declared.access.AccessFault.TheVariants as faults
 use Rattle.kfs_desk.specs.Machine.{Desk}
-use Rattle.kfs_server.specs.LookUps.LookUp.{LookUp, Node, State, Checkpoint, Find, Names, Read, Places}
+use Rattle.kfs_call.specs.Call.{lease_kind_bytes}
+use Rattle.kfs_lease.specs.LeaseLists.{Ascend, LeaseRow, listed_leases}
+use Rattle.kfs_server.specs.LookUps.LookUp.{LookUp, Node, State, Checkpoint, Find, Names, Read, Places, Leases}
 
 -- the moment, how many rows the docket has, and how many places are free on each of the three tiers
 pub record Figures : Type 0 where
@@ -44,6 +47,8 @@ pub data Found : Type 0 where
   NamesAre : (more : Bool) (bytes : List ℕ) → Found
   BytesAre : (bytes : List ℕ) → Found
   PlacesAre : (first second third : TierFigures) → Found
+  -- leases of the sender, and whether it has more behind them
+  LeasesAre : (more : Bool) (bytes : List ℕ) → Found
 
 -- ---- the encoding
 
@@ -80,6 +85,7 @@ found_bytes (LeadsTo number) = byte 5 ++ number_bytes number
 found_bytes (NamesAre more bytes) = byte 6 ++ byte (more_byte more) ++ bytes
 found_bytes (BytesAre bytes) = byte 7 ++ bytes
 found_bytes (PlacesAre first second third) = byte 8 ++ (tier_bytes first ++ tier_bytes second ++ tier_bytes third)
+found_bytes (LeasesAre more bytes) = byte 9 ++ byte (more_byte more) ++ bytes
 
 -- ---- names of a directory
 
@@ -127,6 +133,34 @@ pub record IsListedIn (names : NameTable) (directory room : ℕ) (after : Option
   pub are : IsListing names directory room after listing more
   pub said : bytes ≡ listing_bytes listing
 
+-- ---- leases of a client
+
+-- whether the lease is the client's, on a node from this number on
+abbrev pub is_asked : (client first : ℕ) → LeaseRow → Bool
+is_asked client first row = (row.client == client) && nat_le first row.number
+
+-- and whether it is live at the moment, too
+abbrev pub is_held : (moment client first : ℕ) → LeaseRow → Bool
+is_held moment client first row = is_asked client first row && nat_lt moment row.end
+
+-- a lease of a known client: the node's number, the kind, and the end
+abbrev pub held_bytes : LeaseRow → List ℕ
+held_bytes row = number32 row.number ++ lease_kind_bytes row.kind ++ number64 row.end
+
+-- so much room doesn't hold the next lease, which there is; or there is none
+abbrev pub HasNext : (spare : ℕ) → (more : Bool) → List LeaseRow → Type 0
+HasNext spare false left = left ≡ []
+HasNext spare true left = (0 < length left) × (spare < 13)
+
+-- the bytes are the first of these leases, as many as so many bytes hold
+pub record AreFirst (leases : List LeaseRow) (room : ℕ) (more : Bool) (bytes : List ℕ) : Type 0 where
+  pub listed : List LeaseRow
+  pub left : List LeaseRow
+  pub parts : leases ≡ listed ++ left
+  pub said : bytes ≡ flat_map held_bytes listed
+  pub fit : length bytes ≤ room
+  pub next : HasNext (room - length bytes) more left
+
 -- ---- what is found
 
 -- how many places of the tier are free
@@ -155,6 +189,17 @@ pub record AreNames (desk : Desk) (directory limit : ℕ) (after : Option (List 
   pub listed : IsListedIn desk.state.tree.names directory (min limit found_limit) after more bytes
   pub said : found ≡ NamesAre more bytes
 
+-- the client's live leases on nodes from this number on. `rows` has all leases of the desk, which ascend by node and then by
+-- client; there is one such list
+pub record AreLeases (desk : Desk) (client first limit : ℕ) (found : Found) : Type 0 where
+  pub rows : List LeaseRow
+  pub ascend : Ascend rows
+  pub all : listed_leases desk.state.leases.moment rows ≡ desk.state.leases
+  pub more : Bool
+  pub bytes : List ℕ
+  pub held : AreFirst (filter (is_held desk.state.leases.moment client first) rows) (min limit found_limit) more bytes
+  pub said : found ≡ LeasesAre more bytes
+
 -- the sender's look-up finds this at the desk. Where permission is asked, it is what `View::may_find`, `may_list` and
 -- `may_read` answer of the desk's state
 abbrev pub IsFound : Desk → (from : ℕ) → LookUp → Found → Type 0
@@ -167,3 +212,4 @@ IsFound desk from (Names directory limit after) found = IsFoundIf (permitted_by_
 IsFound desk from (Read file start count) found =
     IsFoundIf (permitted_by_state desk.state ReadBytes from file) (λ it. it ≡ BytesAre (take (min count found_limit) (drop start (content_of (get desk.state.tree.nodes file))))) found
 IsFound desk from Places found = found ≡ PlacesAre (tier_of desk 0) (tier_of desk 1) (tier_of desk 2)
+IsFound desk from (Leases first limit) found = AreLeases desk from first limit found

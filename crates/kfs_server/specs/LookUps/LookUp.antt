@@ -18,6 +18,8 @@ pub data LookUp : Type 0 where
   Read : (file start count : ℕ) → LookUp
   -- the places of the tiers, and how many of them are free
   Places : LookUp
+  -- the sender's own leases on nodes from the first number on, in so many bytes at most
+  Leases : (first limit : ℕ) → LookUp
 
 abbrev pub after_bytes : Option (List ℕ) → List ℕ
 after_bytes None = []
@@ -32,6 +34,7 @@ look_up_bytes (Find directory name) = byte 67 ++ number32 directory ++ name
 look_up_bytes (Names directory limit after) = byte 68 ++ number32 directory ++ number32 limit ++ after_bytes after
 look_up_bytes (Read file start count) = byte 69 ++ number32 file ++ number64 start ++ number32 count
 look_up_bytes Places = byte 70
+look_up_bytes (Leases first limit) = byte 71 ++ number32 first ++ number32 limit
 
 abbrev pub IsAfterName : Option (List ℕ) → Type 0
 IsAfterName None = Unit {0}
@@ -46,6 +49,7 @@ IsLookUp (Find directory name) = (directory < 2 ^ 32) × IsName name
 IsLookUp (Names directory limit after) = (directory < 2 ^ 32) × (limit < 2 ^ 32) × IsAfterName after
 IsLookUp (Read file start count) = (file < 2 ^ 32) × (start < 2 ^ 64) × (count < 2 ^ 32)
 IsLookUp Places = Unit {0}
+IsLookUp (Leases first limit) = (first < 2 ^ 32) × (limit < 2 ^ 32)
 
 -- the state and the checkpoint are the front's. What others may ask is asked of the desk's state where they are
 -- answered; a node's header may be asked for by each client, since what leads to its number was asked before
@@ -57,6 +61,7 @@ MayAsk (Find directory name) from = Unit {0}
 MayAsk (Names directory limit after) from = Unit {0}
 MayAsk (Read file start count) from = Unit {0}
 MayAsk Places from = Unit {0}
+MayAsk (Leases first limit) from = Unit {0}
 
 -- the frame asks for this look-up
 pub record AsksLookUp (f : Frame) (look_up : LookUp) : Type 0 where

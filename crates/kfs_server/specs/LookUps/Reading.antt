@@ -3,7 +3,7 @@ use Rattle.std.specs.Prelude.{ℕ, List, [], ◌∷◌, Option, Some, None, ◌=
 use Rattle.kfs_model.specs.Steps.{◌>>=◌}
 use Rattle.kfs_model.specs.Spelling.{is_name}
 use Rattle.kfs_model.proofs.Reading.{byte_read, number32_read, number64_read}
-use Rattle.kfs_server.specs.LookUps.LookUp.{LookUp, Node, State, Checkpoint, Find, Names, Read, Places}
+use Rattle.kfs_server.specs.LookUps.LookUp.{LookUp, Node, State, Checkpoint, Find, Names, Read, Places, Leases}
 
 -- the look-up, where nothing stands behind it
 abbrev pub ended : List ℕ → LookUp → Option LookUp
@@ -31,6 +31,9 @@ names_read bytes = number32_read bytes >>= λ f. number32_read f.1 >>= λ g. aft
 abbrev pub read_read : List ℕ → Option LookUp
 read_read bytes = number32_read bytes >>= λ f. number64_read f.1 >>= λ g. number32_read g.1 >>= λ h. ended h.1 (Read f.0 g.0 h.0)
 
+abbrev pub leases_read : List ℕ → Option LookUp
+leases_read bytes = number32_read bytes >>= λ f. number32_read f.1 >>= λ g. ended g.1 (Leases f.0 g.0)
+
 abbrev pub tagged_read : (tag : ℕ) → List ℕ → Option LookUp
 tagged_read tag bytes =
     if tag == 64 then node_read bytes
@@ -40,6 +43,7 @@ tagged_read tag bytes =
     else if tag == 68 then names_read bytes
     else if tag == 69 then read_read bytes
     else if tag == 70 then ended bytes Places
+    else if tag == 71 then leases_read bytes
     else None
 
 abbrev pub look_up_read : List ℕ → Option LookUp

@@ -19,6 +19,7 @@ look_up_shown (look_ups.Find directory name) = spelled.Find directory name
 look_up_shown (look_ups.Names directory limit after) = spelled.Names directory limit after
 look_up_shown (look_ups.Read file start count) = spelled.Read file start count
 look_up_shown look_ups.Places = spelled.Places
+look_up_shown (look_ups.Leases first limit) = spelled.Leases first limit
 
 abbrev pub figures_shown : Figures → finding.Figures
 figures_shown figures =
@@ -37,6 +38,7 @@ module _ {B : Type 0} where
   found_shown (founds.NamesAre more bytes) = finding.NamesAre more bytes.items
   found_shown (founds.BytesAre bytes) = finding.BytesAre bytes.items
   found_shown (founds.PlacesAre first second third) = finding.PlacesAre (tier_shown first) (tier_shown second) (tier_shown third)
+  found_shown (founds.LeasesAre more bytes) = finding.LeasesAre more bytes.items
 
   -- what is said behind its fixed part
   abbrev pub tail_of : Found B → List ℕ
@@ -48,6 +50,7 @@ module _ {B : Type 0} where
   tail_of (founds.NamesAre more bytes) = bytes.items
   tail_of (founds.BytesAre bytes) = bytes.items
   tail_of (founds.PlacesAre first second third) = []
+  tail_of (founds.LeasesAre more bytes) = bytes.items
 
   -- that has at most as many bytes as a look-up is answered
   abbrev pub IsWithin : Found B → Type 0

@@ -8,7 +8,7 @@ use kfs_judge::AccessFault;
 use kfs_types::Header;
 use std::alloc::Allocator;
 
-/// The most bytes of a file, or of names, that one look-up is answered.
+/// The most bytes of a file, of names or of leases that one look-up is answered.
 pub const FOUND_LIMIT: usize = 65_536;
 
 /// The figures of a desk.
@@ -54,6 +54,15 @@ pub enum Found<B: Allocator> {
     BytesAre(Vec<u8, B>),
     /// 8: the places of the three tiers.
     PlacesAre(TierFigures, TierFigures, TierFigures),
+    /// 9: leases of the sender, as bytes; and whether it has more behind them.
+    LeasesAre { more: bool, bytes: Vec<u8, B> },
+}
+
+/// What of a list is answered, as bytes, and whether there is more.
+#[derive(Drop)]
+pub(crate) struct Listing<B: Allocator> {
+    pub more: bool,
+    pub bytes: Vec<u8, B>,
 }
 
 /// The figures of now.

@@ -41,6 +41,11 @@ pub enum LookUp {
     },
     /// 46: the places of the three tiers, and how many of them are free.
     Places,
+    /// 47: the sender's own leases on nodes from the number `first` on, in at most `limit` bytes.
+    Leases {
+        first: u32,
+        limit: u32,
+    },
 }
 
 /// The look-up that these bytes are, with nothing behind it. None where they are none's.

@@ -4,7 +4,7 @@ ghost use Rattle.kfs_server.specs.LookUps.LookUp as asked;
 ghost use Rattle.kfs_server.specs.LookUps.Found.{HasNoName, IsFound, IsListedIn, IsNextName, listed_bytes};
 ghost use Rattle.kfs_server.specs.Serving.Looking.{IsSought};
 
-use crate::look_ups::found::{FOUND_LIMIT, Found};
+use crate::look_ups::found::{FOUND_LIMIT, Found, Listing};
 use crate::look_ups::permission::permission_of;
 use crate::replies::Refusal;
 use kfs_desk::Desk;
@@ -12,13 +12,6 @@ use kfs_image::Image;
 use kfs_judge::Access;
 use kfs_types::Name;
 use std::alloc::{AllocError, Allocator};
-
-/// Names of a directory, as bytes, and whether it has more.
-#[derive(Drop)]
-struct Listing<B: Allocator> {
-    more: bool,
-    bytes: Vec<u8, B>,
-}
 
 /// The names of a directory behind `after`, or from the first one on: as many as `limit` bytes hold, and
 /// `FOUND_LIMIT`. `Err` where memory is refused.

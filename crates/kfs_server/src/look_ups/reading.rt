@@ -1,6 +1,6 @@
 //! Look-ups from bytes.
 ghost use Rattle.std.specs.Prelude.{◌≡◌, ◌≤◌, length, drop, option_map};
-ghost use Rattle.kfs_server.specs.LookUps.Reading.{after_read, ended, find_read, look_up_read, name_of, names_read, node_read, read_read, tagged_read};
+ghost use Rattle.kfs_server.specs.LookUps.Reading.{after_read, ended, find_read, leases_read, look_up_read, name_of, names_read, node_read, read_read, tagged_read};
 ghost use Rattle.kfs_server.specs.LookUps.LookUp as asked;
 ghost use Rattle.kfs_server.specs.LookUps.Views.{look_up_shown};
 
@@ -29,6 +29,7 @@ fn read_tagged(tag: u8, body: &[u8], at: usize) -> Option<LookUp>
         0x44 => read_names(body, at),
         0x45 => read_read(body, at),
         0x46 => last(body, at, LookUp::Places),
+        0x47 => read_leases(body, at),
         _ => None,
     }
 }
@@ -105,4 +106,13 @@ fn read_read(body: &[u8], at: usize) -> Option<LookUp>
     let (start, at) = number64::read(body, at)?;
     let (count, at) = number32::read(body, at)?;
     last(body, at, LookUp::Read { file, start, count })
+}
+
+fn read_leases(body: &[u8], at: usize) -> Option<LookUp>
+    requires { at ≤ length body.now }
+    ensures { option_map look_up_shown result ≡ leases_read (drop at body.now) }
+{
+    let (first, at) = number32::read(body, at)?;
+    let (limit, at) = number32::read(body, at)?;
+    last(body, at, LookUp::Leases { first, limit })
 }

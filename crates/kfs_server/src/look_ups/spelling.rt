@@ -44,12 +44,13 @@ pub fn spell_found_head<B: Allocator>(
     out
 }
 
-/// The bytes of a file, or of names. Of else nothing.
+/// The bytes of a file, of names or of leases. Of else nothing.
 pub fn found_tail<B: Allocator>(found: &Found<B>) -> &[u8]
     ensures { result.now ≡ tail_of found.now }
 {
     match found {
-        Found::NamesAre { bytes, .. } | Found::BytesAre(bytes) => bytes,
+        Found::NamesAre { bytes, .. } | Found::BytesAre(bytes) | Found::LeasesAre { bytes, .. } =>
+            bytes,
         _ => &[],
     }
 }
@@ -67,6 +68,7 @@ fn finding<B: Allocator>(found: &Found<B>) -> ArrayVec<u8, FINDING_LIMIT>
         Found::NamesAre { more, .. } => tagged_byte(6, flag(*more)),
         Found::BytesAre(_) => tagged(7),
         Found::PlacesAre(first, second, third) => places_finding(first, second, third),
+        Found::LeasesAre { more, .. } => tagged_byte(9, flag(*more)),
     }
 }
 
@@ -141,7 +143,7 @@ fn denial(why: AccessFault) -> u8
     }
 }
 
-/// The byte that says whether there are more names.
+/// The byte that says whether there is more.
 fn flag(more: bool) -> u8
     ensures { result ≡ more_byte more }
 {

@@ -1,5 +1,5 @@
 //! Look-ups answered from the desk.
-ghost use Rattle.std.specs.Prelude.{◌≡◌, ◌↔◌, ℕ, ◌∷◌, [], IfOk, IfSome, IsErrOf, IsFalse, IsTrue, OnErr, OnOk};
+ghost use Rattle.std.specs.Prelude.{◌≡◌, ◌↔◌, ℕ, [], IfOk, IfSome, IsErrOf, IsFalse, IsTrue, OnErr, OnOk};
 ghost use Rattle.kfs_journal.specs.Disk.{LeavesOnly};
 ghost use Rattle.kfs_journal.specs.Format.{meaning};
 ghost use Rattle.kfs_kept.specs.Keeping.{IsKept};
@@ -13,13 +13,13 @@ ghost use Rattle.kfs_server.specs.LookUps.Views.{IsWithin, found_shown, look_up_
 ghost use Rattle.kfs_server.specs.Replies.Reply as spelled;
 ghost use Rattle.kfs_server.specs.Replies.Reply.{reply_bytes};
 ghost use Rattle.kfs_server.specs.Serving.Looking.{IsLookedUp, IsSought, looked_up_bytes};
-ghost use Rattle.kfs_server.specs.Serving.Transcript.{IsServed};
+ghost use Rattle.kfs_server.specs.Serving.Onward.{IsAnswered};
 ghost use Rattle.kfs_server.specs.declared.serving.fault.GroupFault.TheVariants as groups;
 ghost use Rattle.kfs_server.specs.declared.serving.fault.ServeFault.TheVariants as faults;
 
 use crate::frames::{FRONT, Incoming};
 use crate::look_ups::{
-    Found, LookUp, figures_now, found_bytes, found_names, found_number, found_tail,
+    Found, LookUp, figures_now, found_bytes, found_leases, found_names, found_number, found_tail,
     spell_found_head, tier_now,
 };
 use crate::replies::{NumberedReply, Refusal, Reply, spell_reply};
@@ -51,7 +51,7 @@ where
     ensures kept { IsKept D.seen D.may_leave kept.new }
     ensures open { OnOk result (IsTrue kept.new.is_open) }
     ensures failed { IsErrOf result (faults.Group groups.Failed) → IsTrue (D.has_failed kept.new.disk) }
-    ensures served { (f : Frame) → IsFrameOf incoming.now f → Writes (O.contents writer.old) (O.contents writer.new) (IsServed D.may_leave D.moment D.left_since result kept.old kept.new (f ∷ [])) }
+    ensures served { IsAnswered D.may_leave D.moment D.left_since result (O.contents writer.old) (O.contents writer.new) kept.old kept.new incoming.now }
 {
     let found = look(alloc, kept, incoming.from, look_up)?;
     say(incoming.number, &found, writer)?;
@@ -155,6 +155,7 @@ fn look_at<A: Allocator + Copy, B: Allocator + Copy>(
             tier_now(desk, 1),
             tier_now(desk, 2),
         )),
+        LookUp::Leases { first, limit } => found_leases(alloc, desk, from, *first, *limit),
     }
 }
 

@@ -1,14 +1,10 @@
 //! The frames of one read answered in order: runs of calls in groups, and look-ups one by one between them.
-ghost use Rattle.std.specs.Prelude.{◌≡◌, ◌<◌, ◌≤◌, List, length, take, IfOk, IsErrOf, IsTrue, MatchResult, OnOk, Err};
-ghost use Rattle.std.specs.List.{AllByRecursion, AllZip};
+ghost use Rattle.std.specs.Prelude.{◌≡◌, ◌<◌, ◌≤◌, length, take, IfOk, IsErrOf, IsTrue, OnOk};
+ghost use Rattle.std.specs.List.{AllByRecursion};
 ghost use Rattle.kfs_kept.specs.Keeping.{IsKept};
-ghost use Rattle.kfs_program_text.specs.Streams.{Writes};
 ghost use Rattle.kfs_server.specs.Asking.{HasNoLookUp};
-ghost use Rattle.kfs_server.specs.Frames.Begun.{IsFrameOf};
-ghost use Rattle.kfs_server.specs.Frames.Frame.{Frame};
-ghost use Rattle.kfs_server.specs.Serving.Onward.{IsServedOn};
+ghost use Rattle.kfs_server.specs.Serving.Onward.{AreAnswered, AreAnsweredTo};
 ghost use Rattle.kfs_server.specs.Serving.Room.{IsAmpleSaid, IsUnsaid};
-ghost use Rattle.kfs_server.specs.Serving.Transcript.{IsServed};
 ghost use Rattle.kfs_server.specs.declared.serving.fault.GroupFault.TheVariants as groups;
 ghost use Rattle.kfs_server.specs.declared.serving.fault.ServeFault.TheVariants as faults;
 
@@ -46,7 +42,7 @@ where
     ensures open { OnOk result (IsTrue kept.new.is_open) }
     ensures failed { IsErrOf result (faults.Group groups.Failed) → IsTrue (D.has_failed kept.new.disk) }
     ensures ample { IsAmpleSaid said.new }
-    ensures served { (all : List Frame) → AllZip IsFrameOf frames.now all → Writes (O.contents writer.old) (O.contents writer.new) (IsServed D.may_leave D.moment D.left_since result kept.old kept.new all) }
+    ensures served { AreAnswered D.may_leave D.moment D.left_since result (O.contents writer.old) (O.contents writer.new) kept.old kept.new frames.now }
 {
     let mut rest = frames;
     'frames: while !rest.is_empty() {
@@ -80,7 +76,7 @@ where
     ensures ample { IsAmpleSaid said.new }
     ensures unsaid { OnOk result (IsUnsaid said.new) }
     ensures fewer { IfOk result (λ behind. length behind.now < length frames.entry.now) }
-    ensures served { (all : List Frame) → AllZip IsFrameOf frames.entry.now all → MatchResult result (λ behind. IsServedOn D.may_leave D.moment D.left_since (O.contents writer.old) (O.contents writer.new) kept.old kept.new all behind.now) (λ fault. Writes (O.contents writer.old) (O.contents writer.new) (IsServed D.may_leave D.moment D.left_since (Err fault) kept.old kept.new all)) }
+    ensures served { AreAnsweredTo D.may_leave D.moment D.left_since result (O.contents writer.old) (O.contents writer.new) kept.old kept.new frames.entry.now }
 {
     match frames.split_first() {
         Some((first, others)) => match look_up_in(first) {
@@ -137,7 +133,7 @@ where
     ensures ample { IsAmpleSaid said.new }
     ensures unsaid { OnOk result (IsUnsaid said.new) }
     ensures fewer { IfOk result (λ behind. length behind.now < length frames.entry.now) }
-    ensures served { (all : List Frame) → AllZip IsFrameOf frames.entry.now all → MatchResult result (λ behind. IsServedOn D.may_leave D.moment D.left_since (O.contents writer.old) (O.contents writer.new) kept.old kept.new all behind.now) (λ fault. Writes (O.contents writer.old) (O.contents writer.new) (IsServed D.may_leave D.moment D.left_since (Err fault) kept.old kept.new all)) }
+    ensures served { AreAnsweredTo D.may_leave D.moment D.left_since result (O.contents writer.old) (O.contents writer.new) kept.old kept.new frames.entry.now }
 {
     let (run, behind) = frames.split_at(count);
     write_answers(alloc, kept, run, said, writer)?;
@@ -167,7 +163,7 @@ where
     ensures open { OnOk result (IsTrue kept.new.is_open) }
     ensures failed { IsErrOf result (faults.Group groups.Failed) → IsTrue (D.has_failed kept.new.disk) }
     ensures ample { IsAmpleSaid said.new }
-    ensures served { (frames : List Frame) → AllZip IsFrameOf group.now frames → Writes (O.contents writer.old) (O.contents writer.new) (IsServed D.may_leave D.moment D.left_since result kept.old kept.new frames) }
+    ensures served { AreAnswered D.may_leave D.moment D.left_since result (O.contents writer.old) (O.contents writer.new) kept.old kept.new group.now }
 {
     answer_group(alloc, kept, group, &mut said.replies)?;
     write_replies(&mut said.text, &said.replies);

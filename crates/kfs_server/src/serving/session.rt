@@ -1,13 +1,12 @@
 //! The input read, and its frames answered.
 ghost use Rattle.std.specs.Prelude.{◌≡◌, ℕ, List, length, IsErrOf, IsTrue, IfOk, OnOk};
 ghost use Rattle.std.specs.Io.KnownBytes.{IsAtEnd};
-ghost use Rattle.std.specs.List.{AllZip};
 ghost use Rattle.kfs_kept.specs.Keeping.{IsKept};
 ghost use Rattle.kfs_program_text.specs.Streams.{Exchanges, Writes};
-ghost use Rattle.kfs_server.specs.Frames.Begun.{IsBegun, IsFrameOf, IsPending};
-ghost use Rattle.kfs_server.specs.Frames.Frame.{Frame};
+ghost use Rattle.kfs_server.specs.Frames.Begun.{IsBegun, IsPending};
+ghost use Rattle.kfs_server.specs.Serving.Onward.{AreAnswered};
 ghost use Rattle.kfs_server.specs.Serving.Room.{HasRoom, IsAmple, IsRoom};
-ghost use Rattle.kfs_server.specs.Serving.Transcript.{IsServed, IsSession, IsTailWritten};
+ghost use Rattle.kfs_server.specs.Serving.Transcript.{IsSession, IsTailWritten};
 ghost use Rattle.kfs_server.specs.declared.serving.fault.GroupFault.TheVariants as groups;
 ghost use Rattle.kfs_server.specs.declared.serving.fault.ServeFault.TheVariants as faults;
 
@@ -122,7 +121,7 @@ where
     ensures open { OnOk result (IsTrue kept.new.is_open) }
     ensures failed { IsErrOf result (faults.Group groups.Failed) → IsTrue (D.has_failed kept.new.disk) }
     ensures room { IsAmple room.new }
-    ensures served { (frames : List Frame) → AllZip IsFrameOf room.old.group.items frames → Writes (O.contents writer.old) (O.contents writer.new) (IsServed D.may_leave D.moment D.left_since result kept.old kept.new frames) }
+    ensures served { AreAnswered D.may_leave D.moment D.left_since result (O.contents writer.old) (O.contents writer.new) kept.old kept.new room.old.group.items }
 {
     if room.group.is_empty() {
         return Ok(());
