@@ -18,6 +18,4 @@ mod keeping;
 #[cfg(test)]
 mod memory;
 #[cfg(test)]
-mod run;
-#[cfg(test)]
 mod surface;
