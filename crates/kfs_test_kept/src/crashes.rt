@@ -2,10 +2,11 @@
 ghost use Rattle.kfs_journal.specs.Memory.{memory_may_leave, memory_seen};
 ghost use Rattle.kfs_kept.specs.Keeping.{IsKept};
 
-use crate::keeping::{AMPLE, BAD, Heap, Keeper, LEASE_FILE, LEASE_ROOT, MIGRATE, TICK, submit};
+use crate::keeping::{
+    AMPLE, BAD, CREATE, Heap, Keeper, LEASE_FILE, LEASE_ROOT, LETTERS, MIGRATE, TICK,
+};
 use kfs_journal::{MemoryDisk, Tear};
 use kfs_test_support::refusing::Refusing;
-use kfs_test_support::vectors::{CREATE_LOG, CREATE_PLAN, LETTERS_LOG, LETTERS_PLAN};
 use std::process::Abort;
 use std::thread::Threads;
 
@@ -80,20 +81,15 @@ fn renew<'a>(keeper: &mut Keeper<'a>, shown: &mut Vec<Shown<'a>>) -> Option<()>
 }
 
 /// Two groups, a checkpoint in steps, and a group.
-fn run<'a>(
-    keeper: &mut Keeper<'a>,
-    shown: &mut Vec<Shown<'a>>,
-    create: &[u8],
-    letters: &[u8],
-) -> Option<()>
+fn run<'a>(keeper: &mut Keeper<'a>, shown: &mut Vec<Shown<'a>>) -> Option<()>
     requires { IsKept memory_seen memory_may_leave keeper.old.kept }
     ensures { IsKept memory_seen memory_may_leave keeper.new.kept }
 {
     show(keeper, shown)?;
-    call(keeper, shown, &[LEASE_ROOT, BAD, create], 2)?;
-    call(keeper, shown, &[create, LEASE_FILE], 2)?;
+    call(keeper, shown, &[LEASE_ROOT, BAD, CREATE], 2)?;
+    call(keeper, shown, &[CREATE, LEASE_FILE], 2)?;
     renew(keeper, shown)?;
-    call(keeper, shown, &[letters, MIGRATE], 2)
+    call(keeper, shown, &[LETTERS, MIGRATE], 2)
 }
 
 /// The state as bytes that the files are opened as after a crash. None where they aren't opened.
@@ -130,12 +126,10 @@ fn is_due(shown: &[Shown<'_>], moment: usize, found: &[u8]) -> bool {
 
 #[test]
 fn each_moment_leaves_what_was_answered(rt: HostRuntime) {
-    let create = submit(rt.alloc(), CREATE_LOG, CREATE_PLAN).expect(&rt, "memory");
-    let letters = submit(rt.alloc(), LETTERS_LOG, LETTERS_PLAN).expect(&rt, "memory");
     let heap = Refusing::new(rt.alloc(), AMPLE);
     let mut keeper = Keeper::begin(&rt, rt.alloc(), &heap).expect(&rt, "memory");
     let mut shown = Vec::new(rt.alloc());
-    run(&mut keeper, &mut shown, &create, &letters).expect(&rt, "the run");
+    run(&mut keeper, &mut shown).expect(&rt, "the run");
     for moment in 0..=keeper.moment() {
         for tear in TEARS {
             let found = found_after(&rt, &heap, keeper.disk(), moment, tear).expect(&rt, "opened");

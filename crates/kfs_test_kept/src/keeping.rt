@@ -9,7 +9,7 @@ use kfs_call_desk::encode_desk;
 use kfs_journal::{MemoryDisk, Tear};
 use kfs_kept::{CallsFault, Kept, OpenFault, SaveFault};
 use kfs_test_support::refusing::Refusing;
-use std::alloc::{AllocError, Global};
+use std::alloc::Global;
 use std::thread::Threads;
 
 /// More allocations than anything here asks for.
@@ -45,20 +45,17 @@ pub const MIGRATE: &[u8] = b"\x05\0\x01\0\0\0\x05\0\0\0\0\x01\0\0\0\x03";
 /// No call.
 pub const BAD: &[u8] = b"\x06";
 
-/// Appends bytes behind four bytes with their count.
-fn push_long(out: &mut Vec<u8>, bytes: &[u8]) -> Result<(), AllocError> {
-    let len = u32::try_from(bytes.len()).unwrap_or(u32::MAX);
-    out.extend_from_slice(&len.to_be_bytes())?;
-    out.extend_from_slice(bytes)
-}
+/// Client 7 creates file 5 named `a` in the root.
+pub const CREATE: &[u8] = b"\x01\0\0\0\x07\
+    \0\0\0\x19KLOG\x01\0\0\0\x07\0\x01\x01\0\0\0\x01\x01a\0\0\0\x05\0\x01\xa4\
+    \0\0\0\x30KPLN\x01\0\x01\0\x01\0\0\0\0\0\0\0\x01\x01a\0\0\0\x05\0\0\0\x05\
+    \x01\x01\xa4\0\0\x03\xe8\0\0\x03\xe8\0\x01\0\0\0\0\0\0\0\0";
 
-/// Client 7 hands in a log and a plan.
-pub fn submit(alloc: Global, log: &[u8], plan: &[u8]) -> Result<Vec<u8>, AllocError> {
-    let mut out = Vec::from_slice(alloc, b"\x01\0\0\0\x07")?;
-    push_long(&mut out, log)?;
-    push_long(&mut out, plan)?;
-    Ok(out)
-}
+/// Client 7 writes ten letters to file 5, from its first byte on.
+pub const LETTERS: &[u8] = b"\x01\0\0\0\x07\
+    \0\0\0\x26KLOG\x01\0\0\0\x07\0\x01\x02\0\0\0\x05\0\0\0\0\0\0\0\0\0\0\0\x0aABCDEFGHIJ\
+    \0\0\0\x41KPLN\x01\0\0\0\x01\0\0\0\x01\0\0\0\x05\x01\x01\xa4\0\0\x03\xe8\0\0\x03\xe8\0\x01\
+    \0\0\0\0\0\0\0\x0a\0\0\0\x05\0\0\0\0\0\0\0\0\0\0\0\0\0\0\0\x0a\x01\0\0\0\0\0\0";
 
 /// A kept desk. Each call says no more of it than that it is kept: the next one asks for that alone.
 #[derive(Drop)]

@@ -55,6 +55,13 @@ fn opened(
     }
 }
 
+/// Whether the files of a disk are opened, and memory that is refused is told.
+fn are_opened(rt: &(impl Threads + Sync), alloc: Global, disk: &MemoryDisk) -> bool {
+    let refused = opened(rt, alloc, disk, 0);
+    let made = opened(rt, alloc, disk, AMPLE);
+    refused == Err(Some(OpenFault::OutOfMemory)) && made == Ok(true)
+}
+
 /// Whether a call, a checkpoint and the beginning of one in steps tell that memory is refused, and call no disk.
 fn are_refused(heap: Heap<'_>, keeper: &mut Keeper<'_>) -> bool
     requires { IsKept memory_seen memory_may_leave keeper.old.kept }
@@ -96,9 +103,6 @@ fn a_new_desk_is_kept_or_memory_is_refused(rt: HostRuntime) {
 fn calls_are_made_or_memory_is_refused(rt: HostRuntime) {
     let heap = Refusing::new(rt.alloc(), AMPLE);
     let mut keeper = Keeper::begin(&rt, rt.alloc(), &heap).expect(&rt, "memory");
-    assert!(&rt; are_refused(&heap, &mut keeper));
-    assert!(&rt; are_made(&mut keeper));
-    let found = opened(&rt, rt.alloc(), keeper.disk(), 0);
-    assert!(&rt; found == Err(Some(OpenFault::OutOfMemory)));
-    assert!(&rt; opened(&rt, rt.alloc(), keeper.disk(), AMPLE) == Ok(true));
+    assert!(&rt; are_refused(&heap, &mut keeper) && are_made(&mut keeper));
+    assert!(&rt; are_opened(&rt, rt.alloc(), keeper.disk()));
 }
