@@ -18,7 +18,7 @@ use kfs_desk::Desk;
 use kfs_fsck::fsck;
 use kfs_image::{Image, decode_image};
 use kfs_mode::Client;
-use std::alloc::Global;
+use std::alloc::{Allocator, Global};
 use std::thread::Threads;
 
 /// How many rows a docket has room for.
@@ -29,7 +29,7 @@ fn client_of(row: &ClientRow) -> Option<Client> {
     Client::new(row.number, row.uid, row.gid, groups, row.privileged, row.first, row.last).ok()
 }
 
-fn image_of(rt: &(impl Threads + Sync), alloc: Global, bytes: &[u8]) -> Option<Image<Global>> {
+fn image_of<A: Allocator + Copy>(rt: &(impl Threads + Sync), alloc: A, bytes: &[u8]) -> Option<Image<A>> {
     let raw = decode_image(alloc, bytes).ok()?;
     match fsck(rt, alloc, raw) {
         Ok(image) => Some(image),
@@ -38,7 +38,7 @@ fn image_of(rt: &(impl Threads + Sync), alloc: Global, bytes: &[u8]) -> Option<I
 }
 
 /// A desk with the clients and the image of a state. It has no lease.
-pub fn begun(rt: &(impl Threads + Sync), alloc: Global, state: &[u8]) -> Option<Desk<Global>>
+pub fn begun<A: Allocator + Copy>(rt: &(impl Threads + Sync), alloc: A, state: &[u8]) -> Option<Desk<A>>
     ensures { IfSome result (λ desk. begin_fault desk.state.clients ≡ None) }
 {
     let rows = decode_state(alloc, state).ok()?;
@@ -53,7 +53,7 @@ pub fn begun(rt: &(impl Threads + Sync), alloc: Global, state: &[u8]) -> Option<
 }
 
 /// The desk's state as bytes.
-pub fn saved(alloc: Global, desk: &Desk<Global>) -> Option<Vec<u8>> {
+pub fn saved<A: Allocator + Copy>(alloc: A, desk: &Desk<A>) -> Option<Vec<u8, A>> {
     encode_desk(alloc, desk.image(), desk.clients(), desk.leases()).ok()
 }
 

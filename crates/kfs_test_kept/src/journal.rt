@@ -7,3 +7,5 @@ mod bytes;
 mod failing;
 mod files;
 mod foreign;
+
+pub use self::bytes::disk_of;

@@ -1,17 +1,15 @@
 //! A kept desk on a disk in memory.
-ghost use Rattle.std.specs.Prelude.{◌≡◌, IfErr, IfOk, IfSome, None};
-ghost use Rattle.kfs_desk.specs.Opening.{begin_fault};
+ghost use Rattle.std.specs.Prelude.{◌≡◌, IfOk, IfSome};
+ghost use Rattle.kfs_journal.specs.Disk.{Only};
 ghost use Rattle.kfs_journal.specs.Memory.{memory_may_leave, memory_seen};
 ghost use Rattle.kfs_kept.specs.Keeping.{IsKept};
 
-use kfs_call_desk::{CallFault, Called, encode_desk};
-use kfs_desk::Desk;
-use kfs_image::{Image, TierSizes};
+use crate::journal::disk_of;
+use kfs_call_desk::encode_desk;
 use kfs_journal::{MemoryDisk, Tear};
-use kfs_kept::{CallsFault, CreateBack, Kept, OpenFault, SaveFault};
-use kfs_mode::Client;
+use kfs_kept::{CallsFault, Kept, OpenFault, SaveFault};
 use kfs_test_support::refusing::Refusing;
-use std::alloc::{AllocGlobal, Global};
+use std::alloc::Global;
 use std::thread::Threads;
 
 /// More allocations than anything here asks for.
@@ -26,63 +24,38 @@ const MOST: usize = 32;
 /// Where a kept desk has its memory. An allocation of it may be refused.
 pub type Heap<'a> = &'a Refusing<Global>;
 
-/// Client 7, which may create files 2 to 99.
-fn new_client() -> Option<Client> {
-    Client::new(7, 1_000, 1_000, &[], false, 2, 99).ok()
-}
+/// A journal's file: no group behind a state. It has client 7, who may make files 2 to 99, and an image with the root alone.
+const FILE: &[u8] = b"KDJL\0\0\0\0\0\0\0\0\x01\0\0\0\0\0\0\0\x61\
+    KDSK\x01\0\0\0\0\0\0\0\0\0\0\0\x01\0\0\0\0\
+    \0\0\0\x07\0\0\x03\xe8\0\0\x03\xe8\0\0\0\0\x02\0\0\0\x63\0\
+    KIMG\x01\0\0\0\x08\0\0\0\x08\0\0\0\x08\0\0\0\x01\0\0\0\0\0\0\0\0\
+    \0\0\0\x01\x01\x01\xff\0\0\0\0\0\0\0\0\0\x01\0\0\0\0\0\0\0\0\0";
 
-fn new_image<'a>(heap: Heap<'a>) -> Option<Image<Heap<'a>>> {
-    Image::fresh(heap, TierSizes::new(8, 8, 8)?).ok()
-}
+/// Client 7 asks for a write lease on the root up to moment 50, and then for one on `/a` up to moment 100.
+pub const LEASE_ROOT: &[u8] = b"\x02\0\0\0\x07\x01\0\0\0\0\0\0\0\x32\0\x01/";
 
-/// A desk with client 7 on a new image. Image and client come from functions that say nothing of them, so that the proof doesn't
-/// compute with them.
-pub fn opened<'a>(heap: Heap<'a>) -> Option<Desk<Heap<'a>>>
-    ensures { IfSome result (λ desk. begin_fault desk.state.clients ≡ None) }
-{
-    let image = new_image(heap)?;
-    let mut clients = Vec::new(heap);
-    clients.push(new_client()?).ok()?;
-    match Desk::begin(heap, image, clients, LIMIT) {
-        Ok(desk) => Some(desk),
-        Err(_) => None,
-    }
-}
+pub const LEASE_FILE: &[u8] = b"\x02\0\0\0\x07\x01\0\0\0\0\0\0\0\x64\0\x02/a";
 
-/// The desk's state as bytes.
-pub fn saved<'a>(heap: Heap<'a>, desk: &Desk<Heap<'a>>) -> Option<Vec<u8, Heap<'a>>> {
-    encode_desk(heap, desk.image(), desk.clients(), desk.leases()).ok()
-}
+/// The moment goes on to 49.
+pub const TICK: &[u8] = b"\x04\0\0\0\0\0\0\0\x31";
 
-/// How many calls have an answer, how many of them were made and how many had no memory, and the last one that wasn't made.
-#[derive(Clone, Copy, Debug, PartialEq, Eq)]
-pub struct Count {
-    pub answers: usize,
-    pub made: usize,
-    pub without_memory: usize,
-    pub left_out: Option<usize>,
-}
+/// Block 0 of file 5 moves to place 3 of tier 1.
+pub const MIGRATE: &[u8] = b"\x05\0\x01\0\0\0\x05\0\0\0\0\x01\0\0\0\x03";
 
-fn count_of(answers: &[Result<Called, CallFault>]) -> Count {
-    let mut count = Count {
-        answers: answers.len(),
-        made: 0,
-        without_memory: 0,
-        left_out: None,
-    };
-    for (index, answer) in answers.iter().enumerate() {
-        match answer {
-            Ok(_) => count.made = count.made.saturating_add(1),
-            Err(fault) => {
-                count.left_out = Some(index);
-                if *fault == CallFault::OutOfMemory {
-                    count.without_memory = count.without_memory.saturating_add(1);
-                }
-            }
-        }
-    }
-    count
-}
+/// No call.
+pub const BAD: &[u8] = b"\x06";
+
+/// Client 7 creates file 5 named `a` in the root.
+pub const CREATE: &[u8] = b"\x01\0\0\0\x07\
+    \0\0\0\x19KLOG\x01\0\0\0\x07\0\x01\x01\0\0\0\x01\x01a\0\0\0\x05\0\x01\xa4\
+    \0\0\0\x30KPLN\x01\0\x01\0\x01\0\0\0\0\0\0\0\x01\x01a\0\0\0\x05\0\0\0\x05\
+    \x01\x01\xa4\0\0\x03\xe8\0\0\x03\xe8\0\x01\0\0\0\0\0\0\0\0";
+
+/// Client 7 writes ten letters to file 5, from its first byte on.
+pub const LETTERS: &[u8] = b"\x01\0\0\0\x07\
+    \0\0\0\x26KLOG\x01\0\0\0\x07\0\x01\x02\0\0\0\x05\0\0\0\0\0\0\0\0\0\0\0\x0aABCDEFGHIJ\
+    \0\0\0\x41KPLN\x01\0\0\0\x01\0\0\0\x01\0\0\0\x05\x01\x01\xa4\0\0\x03\xe8\0\0\x03\xe8\0\x01\
+    \0\0\0\0\0\0\0\x0a\0\0\0\x05\0\0\0\0\0\0\0\0\0\0\0\0\0\0\0\x0a\x01\0\0\0\0\0\0";
 
 /// A kept desk. Each call says no more of it than that it is kept: the next one asks for that alone.
 #[derive(Drop)]
@@ -92,28 +65,30 @@ pub struct Keeper<'a> {
 }
 
 impl<'a> Keeper<'a> {
-    /// Keeps a desk on a new disk.
-    pub fn keep(
-        alloc: Global,
+    /// What both files of a disk are opened as.
+    fn open(
+        rt: &(impl Threads + Sync),
         heap: Heap<'a>,
-        desk: Desk<Heap<'a>>,
-    ) -> Result<Keeper<'a>, CreateBack<Heap<'a>, MemoryDisk>>
-        requires { begin_fault desk.state.clients ≡ None }
-        ensures kept { IfOk result (λ keeper. IsKept memory_seen memory_may_leave keeper.kept) }
-        ensures back { IfErr result (λ back. begin_fault back.desk.state.clients ≡ None) }
+        disk: MemoryDisk,
+        first: &[u8],
+        second: &[u8],
+    ) -> Result<Keeper<'a>, OpenFault>
+        requires bytes { memory_seen disk ≡ (first.now, second.now) }
+        requires durable { Only (memory_seen disk) (memory_may_leave disk) }
+        ensures { IfOk result (λ keeper. IsKept memory_seen memory_may_leave keeper.kept) }
     {
-        let disk = MemoryDisk::new(alloc, Vec::new(alloc), Vec::new(alloc));
-        match Kept::create(heap, desk, disk) {
+        match Kept::open(rt, heap, disk, first, second, LIMIT) {
             Ok(kept) => Ok(Keeper { heap, kept }),
-            Err(back) => Err(back),
+            Err(back) => Err(back.why),
         }
     }
 
-    /// A new desk, kept.
-    pub fn begin(alloc: Global, heap: Heap<'a>) -> Option<Keeper<'a>>
+    /// A desk that has answered nothing yet.
+    pub fn begin(rt: &(impl Threads + Sync), alloc: Global, heap: Heap<'a>) -> Option<Keeper<'a>>
         ensures { IfSome result (λ keeper. IsKept memory_seen memory_may_leave keeper.kept) }
     {
-        match Keeper::keep(alloc, heap, opened(heap)?) {
+        let disk = disk_of(alloc, FILE, &[])?;
+        match Keeper::open(rt, heap, disk, FILE, &[]) {
             Ok(keeper) => Some(keeper),
             Err(_) => None,
         }
@@ -135,44 +110,39 @@ impl<'a> Keeper<'a> {
         let Ok((first, second)) = left.contents() else {
             return Err(None);
         };
-        match Kept::open(rt, heap, left, &first, &second, LIMIT) {
-            Ok(kept) => Ok(Keeper { heap, kept }),
-            Err(back) => Err(Some(back.why)),
+        match Keeper::open(rt, heap, left, &first, &second) {
+            Ok(keeper) => Ok(keeper),
+            Err(why) => Err(Some(why)),
         }
     }
 
-    pub fn call(&mut self, calls: &[&[u8]]) -> Result<Count, CallsFault>
+    /// Makes calls, and counts the answers, and the calls that are made.
+    pub fn call(&mut self, calls: &[&[u8]]) -> Result<(usize, usize), CallsFault>
         requires { IsKept memory_seen memory_may_leave self.old.kept }
         ensures { IsKept memory_seen memory_may_leave self.new.kept }
     {
         let answers = self.kept.call_all(self.heap, calls)?;
-        Ok(count_of(&answers))
+        let mut made = 0usize;
+        for answer in &answers {
+            if answer.is_ok() {
+                made = made.saturating_add(1);
+            }
+        }
+        Ok((answers.len(), made))
     }
 
-    fn checkpoint(&mut self) -> Result<(), SaveFault>
+    pub fn checkpoint(&mut self) -> Result<(), SaveFault>
         requires { IsKept memory_seen memory_may_leave self.old.kept }
         ensures { IsKept memory_seen memory_may_leave self.new.kept }
     {
         self.kept.checkpoint(self.heap)
     }
 
-    fn begin_checkpoint(&mut self) -> Result<(), SaveFault>
+    pub fn begin_checkpoint(&mut self) -> Result<(), SaveFault>
         requires { IsKept memory_seen memory_may_leave self.old.kept }
         ensures { IsKept memory_seen memory_may_leave self.new.kept }
     {
         self.kept.begin_checkpoint(self.heap)
-    }
-
-    /// Makes a checkpoint, or begins one in steps.
-    pub fn save(&mut self, in_steps: bool) -> Result<(), SaveFault>
-        requires { IsKept memory_seen memory_may_leave self.old.kept }
-        ensures { IsKept memory_seen memory_may_leave self.new.kept }
-    {
-        if in_steps {
-            self.begin_checkpoint()
-        } else {
-            self.checkpoint()
-        }
     }
 
     /// Makes a checkpoint where one is due.
@@ -222,7 +192,8 @@ impl<'a> Keeper<'a> {
     pub fn saved(&self) -> Option<Vec<u8, Heap<'a>>>
         requires { IsKept memory_seen memory_may_leave self.now.kept }
     {
-        saved(self.heap, self.kept.desk()?)
+        let desk = self.kept.desk()?;
+        encode_desk(self.heap, desk.image(), desk.clients(), desk.leases()).ok()
     }
 
     pub fn disk(&self) -> &MemoryDisk {

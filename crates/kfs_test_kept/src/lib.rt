@@ -1,10 +1,11 @@
-//! Tests of kept desks: four groups of calls and a checkpoint in steps, with a crash at each moment of them; each call with one
-//! allocation refused; and when a checkpoint is due. Those of the journal, and of its files, are in `journal`. In
+//! Tests of kept desks: three groups of calls and a checkpoint in steps with a group in it, with a crash at each moment of them; the first
+//! allocation of each call refused; and when a checkpoint is due. Those of the journal, and of its files, are in `journal`. In
 //! `surface` are those of the public surface of all crates.
 //!
 //! It stands on `kfs_kept`, `kfs_journal`, `kfs_journal_files`, `kfs_call_desk` and `kfs_test_support`, and `surface` on the public crates. A test is proved too, and
-//! would have to carry the clauses of each call that it makes. So the calls of `kfs_kept` are methods of `Keeper`, whose invariant
-//! says that the desk is kept. Begin with `keeping.rt`.
+//! would have to carry the clauses of each call that it makes. So the calls of `kfs_kept` are methods of `Keeper`, which say no
+//! more than that the desk is kept. Begin with `keeping.rt`. Each moment and each allocation of longer runs is tried by
+//! `tools/kept-crashes` and `tools/kept-memory`.
 #![tactic(auto)]
 
 #[cfg(test)]
@@ -17,7 +18,5 @@ mod journal;
 mod keeping;
 #[cfg(test)]
 mod memory;
-#[cfg(test)]
-mod run;
 #[cfg(test)]
 mod surface;

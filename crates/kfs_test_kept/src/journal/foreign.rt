@@ -11,7 +11,7 @@ static FRESH: [u8; 22] = [
 ];
 
 /// What an opening finds.
-#[derive(Clone, Copy, Debug, PartialEq, Eq)]
+#[derive(Clone, Copy, PartialEq, Eq)]
 enum Found {
     Empty,
     Journal,
