@@ -79,8 +79,8 @@ pub mod call {
         encode_call, encode_state, spell_answer,
     };
     pub use kfs_call_desk::{
-        CallFault, Called, EncodeFault, RestoreFault, answer_row, call, encode_desk, restore_alone,
-        told,
+        CallFault, Called, EncodeFault, RestoreFault, answer_row, call, call_judged, encode_desk,
+        restore_alone, told,
     };
 }
 
