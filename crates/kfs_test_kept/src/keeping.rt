@@ -8,7 +8,7 @@ use kfs_call_desk::{CallFault, Called, encode_desk};
 use kfs_desk::Desk;
 use kfs_image::{Image, TierSizes};
 use kfs_journal::{MemoryDisk, Tear};
-use kfs_kept::{CallsFault, CreateBack, Kept, OpenFault, SaveFault};
+use kfs_kept::{CallsFault, CreateBack, Early, Kept, OpenFault, SaveFault};
 use kfs_mode::Client;
 use kfs_test_support::refusing::Refusing;
 use std::alloc::{AllocGlobal, Global};
@@ -145,7 +145,9 @@ impl<'a> Keeper<'a> {
         requires { IsKept memory_seen memory_may_leave self.old.kept }
         ensures { IsKept memory_seen memory_may_leave self.new.kept }
     {
-        let answers = self.kept.call_all(self.heap, calls)?;
+        let answers = self
+            .kept
+            .call_all(self.heap, calls, &Early::none(self.heap))?;
         Ok(count_of(&answers))
     }
 

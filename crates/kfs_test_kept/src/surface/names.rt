@@ -86,7 +86,9 @@ pub mod call {
 
 /// A desk whose answers outlive a crash, and a desk from the bytes of a state in several threads.
 pub mod kept {
-    pub use kfs_kept::{CallsFault, CreateBack, Kept, OpenBack, OpenFault, SaveFault, restore};
+    pub use kfs_kept::{
+        CallsFault, CreateBack, Early, Judges, Kept, OpenBack, OpenFault, SaveFault, restore,
+    };
 }
 
 /// Workers, scripts of their steps, and a desk that threads share.
