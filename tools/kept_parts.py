@@ -82,7 +82,7 @@ ghost use Rattle.kfs_kept.specs.Keeping.{IsKept};
 use crate::desks::{LIMIT, answer, saved};
 use kfs_desk::Desk;
 use kfs_journal::Disk;
-use kfs_kept::{Kept, OpenFault};
+use kfs_kept::{Early, Kept, OpenFault};
 use std::alloc::Global;
 use std::thread::Threads;
 
@@ -133,7 +133,7 @@ impl<D: Disk + Drop> Keeper<D> {
     /// Makes calls as one group, and adds each answer.
     pub fn group(&mut self, calls: &[&[u8]], answers: &mut Vec<Vec<u8>>) -> Option<()> {
         let alloc = self.alloc;
-        let made = self.kept.call_all(alloc, calls).ok()?;
+        let made = self.kept.call_all(alloc, calls, &Early::none(alloc)).ok()?;
         for it in &made {
             answers.push(answer(alloc, it)?).ok()?;
         }
@@ -142,7 +142,7 @@ impl<D: Disk + Drop> Keeper<D> {
 
     /// Makes calls as one group, and counts those that are answered.
     pub fn count(&mut self, calls: &[&[u8]]) -> Option<usize> {
-        let made = self.kept.call_all(self.alloc, calls).ok()?;
+        let made = self.kept.call_all(self.alloc, calls, &Early::none(self.alloc)).ok()?;
         let mut count = 0usize;
         for it in &made {
             if it.is_ok() {

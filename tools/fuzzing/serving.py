@@ -16,13 +16,14 @@ from frames import frame, replies  # noqa: E402
 CUT, CUT_LENGTH = 0xFFFFFFFF, 17
 
 
-def run_once(program, room, first, limit, data):
+def run_once(program, judges, room, first, limit, data):
     """Has the program answer the bytes. Returns its exit status and its replies."""
     os.mkdir(room)
     with open(f"{room}/clients", "wb") as it:
         it.write(b"".join(line + b"\n" for line in first if line.startswith(b"client ")))
     sizes = next(line for line in first[::-1] if line.startswith(b"new ")).decode().split(" ")[1:]
-    ran = subprocess.run([program, "new", room, str(limit), f"{room}/clients", *sizes], input=data, stdout=subprocess.PIPE, check=False)
+    words = [program, "new", room, str(limit), f"{room}/clients", *sizes, *(["--judges", str(judges)] if judges else [])]
+    ran = subprocess.run(words, input=data, stdout=subprocess.PIPE, check=False)
     found, left = replies(ran.stdout)
     if left:
         sys.exit(f"bytes that are no reply: {left[:40].hex()}")
@@ -35,7 +36,7 @@ def kind_of(due):
     return words[1] if due[0].isdigit() else " ".join(words[:2]) if words[0] == "denied" else words[0]
 
 
-def one_seed(program, seed, lines):
+def one_seed(program, judges, seed, lines):
     """Returns how many frames a seed has, in which ways they are answered, and the first that is answered otherwise."""
     first, limit, calls = opening_and_calls(seed, lines)
     numbers = [int(line.split(b" ")[1]) for line in first if line.startswith(b"client ")]
@@ -43,7 +44,7 @@ def one_seed(program, seed, lines):
     data = b"".join(frame(at, sender, body) for at, (sender, body) in enumerate(frames))
     cut = frame(CUT, [*numbers, FRONT][0], bytes(CUT_LENGTH))[: 12 + seed % CUT_LENGTH]
     with tempfile.TemporaryDirectory(prefix="frames-") as room:
-        status, found = run_once(program, f"{room}/desk", first, limit, data + cut)
+        status, found = run_once(program, judges, f"{room}/desk", first, limit, data + cut)
     session, kinds = FrameSession(), collections.Counter()
     for line in [*first, b"begin %d" % limit]:
         session.expected(line)
@@ -64,7 +65,7 @@ def compare(asked, program):
     """Prints in which ways frames were answered. Returns seeds, how many frames each has, and what is wrong of it."""
     seeds, kinds = range(asked.first, asked.first + asked.scripts), collections.Counter()
     with concurrent.futures.ProcessPoolExecutor(asked.jobs) as pool:
-        found = list(pool.map(one_seed, [program] * len(seeds), seeds, [asked.lines] * len(seeds)))
+        found = list(pool.map(one_seed, [program] * len(seeds), [asked.judges] * len(seeds), seeds, [asked.lines] * len(seeds)))
     for _, some, _ in found:
         kinds.update(some)
     print(", ".join(f"{kind} {count}" for kind, count in kinds.most_common()))

@@ -63,7 +63,7 @@ pub fn call<A: Allocator + Copy, B: Allocator>(
 }
 
 /// Makes a call.
-fn make<A: Allocator + Copy, B: Allocator>(
+pub(crate) fn make<A: Allocator + Copy, B: Allocator>(
     desk: &mut Desk<A>,
     call: Call<'_, B>,
 ) -> Result<Called, CallFault>
@@ -153,7 +153,7 @@ fn migrate<A: Allocator + Copy>(desk: &mut Desk<A>, moves: &[Move]) -> Result<Ca
 }
 
 /// The answer to a submission, or why there is none.
-fn replied(answer: Result<Reply, Why>) -> Result<Called, CallFault>
+pub(crate) fn replied(answer: Result<Reply, Why>) -> Result<Called, CallFault>
     ensures { IsSameReply answer result }
 {
     match answer {

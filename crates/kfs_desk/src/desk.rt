@@ -21,6 +21,7 @@ ghost use Rattle.kfs_desk.specs.Again.{latest};
 ghost use Rattle.kfs_desk.specs.Landing.{AnswersOutcome, CanLand, leases_left};
 ghost use Rattle.kfs_desk.specs.Machine.{AreShown, IsAnswered, IsBackFor, IsCallOf, IsChangeOf, IsCurrent, IsImageOf, IsMigrated, IsViewOf, RunsThrough, SeeTheSame, call_of, done_by, number_of, opened_at, outcome_at, state_at};
 ghost use Rattle.kfs_desk.specs.Docket.{is_rejudged};
+ghost use Rattle.kfs_desk.specs.HandedIn.{handed_in};
 ghost use Rattle.kfs_desk.specs.Opening.{begin_fault};
 
 use crate::back::{BeginBack, ResumeBack};
@@ -330,8 +331,6 @@ impl<A: Allocator + Copy> Desk<A> {
         if self.is_full() {
             return Err(Why::DocketFull);
         }
-        let position = self.docket.len();
-        let before = ShownState::of(&self.image, &self.clients, &self.leases);
         let outcome = outcome(
             self.alloc,
             &self.image,
@@ -341,19 +340,34 @@ impl<A: Allocator + Copy> Desk<A> {
             log,
             plan,
         )?;
-        let reply = land(
-            self.alloc,
-            &mut self.image,
-            &mut self.leases,
-            position,
-            false,
-            log,
-            &outcome,
-        )?;
-        let after = ShownState::of(&self.image, &self.clients, &self.leases);
         let handed_in = HandedIn { client, log, plan };
-        add_answer(&mut self.docket, &before, &handed_in, &reply, &after);
-        Ok(reply)
+        self.answer(&handed_in, false, &outcome)
+    }
+
+    /// The same for a submission that was judged before, against whatever view. The verdict serves where it is up to
+    /// date: the state now has its client, and answers each read as recorded. Else the submission is judged anew.
+    ///
+    /// The answer is that of `submit_bytes`, and doesn't tell which it was. So early judging is a matter of speed alone.
+    /// The verdict stays the caller's.
+    pub fn submit_judged(&mut self, judged: &Judged<A>) -> Result<Reply, Why>
+        ensures full { IsErrOf result Why.DocketFull ↔ (length self.old.docket ≡ self.old.limit) }
+        ensures answered { IfOk result (λ reply. IsAnswered self.old (submission_of judged.now.submission) false reply self.new) }
+        ensures err { OnErr result (self.new ≡ self.old) }
+
+        // The docket is legal, whatever the answer.
+        ensures legal { IsLegalDocket self.new.opening self.new.docket self.new.state }
+    {
+        if self.is_full() {
+            return Err(Why::DocketFull);
+        }
+        let again = found_again(self.alloc, &self.image, &self.leases, &self.clients, judged)?;
+        let submitted = HandedIn::of(judged.submission());
+        self.answer(&submitted, false, latest(judged, &again))
+    }
+
+    /// The allocator that the desk takes its memory from.
+    pub fn allocator(&self) -> A {
+        self.alloc
     }
 
     /// A view of the state now, to be judged against. It shares the desk's tables and copies none of
@@ -406,23 +420,44 @@ impl<A: Allocator + Copy> Desk<A> {
         if self.is_full() {
             return Err(Why::DocketFull);
         }
-        let position = self.docket.len();
-        let before = ShownState::of(&self.image, &self.clients, &self.leases);
         let again = found_again(self.alloc, &self.image, &self.leases, &self.clients, judged)?;
         let rejudged = again.is_some();
+        let handed_in = HandedIn::of(judged.submission());
+        let reply = self.answer(&handed_in, rejudged, latest(judged, &again))?;
+        Ok(Landed { reply, again })
+    }
+
+    /// Answers what was found of a log and a plan in the state now: lands the log where it is a Yes with room, and adds
+    /// the row. The answer says that it was judged again where `rejudged` does. Condition: the docket has room.
+    fn answer(
+        &mut self,
+        submitted: &HandedIn<'_>,
+        rejudged: bool,
+        outcome: &Outcome<A>,
+    ) -> Result<Reply, Why>
+        requires room { length self.old.docket < self.old.limit }
+        requires verdict { IsVerdict self.old.state (handed_in submitted.now) outcome.now }
+        ensures answered { IfOk result (λ reply. IsAnswered self.old (handed_in submitted.now) rejudged reply self.new) }
+        ensures memory { IfErr result (λ why. why ≡ Why.OutOfMemory) }
+        ensures err { OnErr result (self.new ≡ self.old) }
+        ensures legal { IsLegalDocket self.new.opening self.new.docket self.new.state }
+    {
+        // Tells the prover that the image is lawful.
+        let _shape = self.image.shape();
+        let position = self.docket.len();
+        let before = ShownState::of(&self.image, &self.clients, &self.leases);
         let reply = land(
             self.alloc,
             &mut self.image,
             &mut self.leases,
             position,
             rejudged,
-            judged.submission().log.as_slice(),
-            latest(judged, &again),
+            submitted.log,
+            outcome,
         )?;
         let after = ShownState::of(&self.image, &self.clients, &self.leases);
-        let handed_in = HandedIn::of(judged.submission());
-        add_answer(&mut self.docket, &before, &handed_in, &reply, &after);
-        Ok(Landed { reply, again })
+        add_answer(&mut self.docket, &before, submitted, &reply, &after);
+        Ok(reply)
     }
 
     /// Hands in submissions one after another, and answers each in its place: with a reply, or with the

@@ -13,7 +13,7 @@ ghost use Rattle.kfs_kept.specs.Keeping.{IsKept};
 ghost use Rattle.kfs_kept.specs.Renewing.{Finishes, GoesOn, IsBegun, StaysOrEnds};
 ghost use Rattle.kfs_kept.specs.Standing.{HasLongBytes, MeanTheSame, StandFor, StandForAtMost, StandForBeforeOrAfter};
 
-use crate::calls::{Made, room_for};
+use crate::calls::{Early, Judges, Made, judge_early, room_for};
 use crate::fault::{CallsFault, OpenFault, SaveFault};
 use crate::opening::find;
 use crate::renewal::{Renewal, with_group};
@@ -144,6 +144,8 @@ impl<A: Allocator + Copy, D: Disk + Drop> Kept<A, D> {
     /// bytes are no call, the docket is full, or memory is refused for it alone) is as if it hadn't been handed in. Where
     /// none is answered, nothing is written and nothing synced.
     ///
+    /// `early` is `Early::none`, or what `judge_early` tells of these calls. The answers are the same.
+    ///
     /// Where a checkpoint is under way, the group is one more that it has to write. Where memory is refused for that, the
     /// checkpoint is given up, and the calls are answered all the same.
     ///
@@ -153,6 +155,7 @@ impl<A: Allocator + Copy, D: Disk + Drop> Kept<A, D> {
         &mut self,
         alloc: B,
         calls: &[&[u8]],
+        early: &Early<A>,
     ) -> Result<Vec<Result<Called, CallFault>, B>, CallsFault>
         requires kept { IsKept D.seen D.may_leave self.old }
         ensures kept { IsKept D.seen D.may_leave self.new }
@@ -192,7 +195,7 @@ impl<A: Allocator + Copy, D: Disk + Drop> Kept<A, D> {
         let mut made = Made::with_room(alloc, calls.len(), room)?;
         // The desk is open again once the group is kept. Until then nothing takes memory but what a call may lack by itself.
         self.is_open = false;
-        made.make_all(alloc, &mut self.desk, calls);
+        made.make_all(alloc, &mut self.desk, calls, early);
         if made.group.is_empty() {
             self.is_open = true;
             return Ok(made.answers);
@@ -421,5 +424,20 @@ impl<A: Allocator + Copy, D: Disk + Drop> Kept<A, D> {
         ensures { result ≡ self.disk }
     {
         self.disk
+    }
+}
+
+impl<A: Allocator + Copy + Send + Sync, D: Disk + Drop> Kept<A, D> {
+    /// Judges submissions among calls that are to be made together: against one view of the desk, in as many threads as
+    /// there are judges. Hand the verdicts to `call_all` with the calls.
+    ///
+    /// A client's second submission is left to its turn, since its first may change what it rests on. So is one for which
+    /// memory is refused. There is no verdict where fewer than two are to be judged, or there are fewer than two judges.
+    pub fn judge_early<R: Threads + Sync>(
+        &self,
+        judges: &Judges<'_, R>,
+        calls: &[&[u8]],
+    ) -> Early<A> {
+        judge_early(judges, &self.desk, calls)
     }
 }

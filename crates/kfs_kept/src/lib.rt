@@ -13,6 +13,7 @@ mod renewal;
 mod restored;
 mod saving;
 
+pub use calls::{Early, Judges};
 pub use fault::{CallsFault, OpenFault, SaveFault};
 pub use kept::{CreateBack, Kept, OpenBack};
 pub use restored::restore;

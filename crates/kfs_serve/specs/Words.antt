@@ -1,5 +1,5 @@
 -- What the words of the command line ask for.
-use Rattle.std.specs.Prelude.{◌≡◌, ℕ, List, [], length, slice_index_or, codes, Option, Some, None}
+use Rattle.std.specs.Prelude.{◌≡◌, ◌≤◌, ◌+◌, ◌⊎◌, ℕ, List, [], length, slice_index_or, codes, Option, Some, None}
 use Rattle.std.specs.Borrow.{Bor}
 use Rattle.kfs_model.specs.Placement.{TierSizes}
 use Rattle.kfs_program_text.specs.Cut.{cut, space}
@@ -26,16 +26,32 @@ pub record IsSizeOf (first second third : List ℕ) (sizes : TierSizes) : Type 0
   pub second_is : number_of second ≡ Some sizes.second
   pub third_is : number_of third ≡ Some sizes.third
 
+-- the word is this number of judges
+pub record AreJudges (word : List ℕ) (judges : ℕ) : Type 0 where
+  pub number : number_of word ≡ Some judges
+  pub some : 1 ≤ judges
+  pub few : judges ≤ 8
+
+-- `--judges N` behind so many words
+pub record NamesJudges (words : Words) (count judges : ℕ) : Type 0 where
+  pub count_is : length words ≡ count + 2
+  pub name : word_at words count ≡ codes "--judges"
+  pub judges_are : AreJudges (word_at words (count + 1)) judges
+
+-- so many words, and one judge; or `--judges N` behind them
+abbrev pub AsksForJudges : (words : Words) → (count judges : ℕ) → Type 0
+AsksForJudges words count judges = ((length words ≡ count) × (judges ≡ 1)) ⊎ NamesJudges words count judges
+
 -- `open FOLDER LIMIT`
 pub record AsksToOpen (words : Words) (asked : Asked) : Type 0 where
-  pub count : length words ≡ 4
+  pub judges : AsksForJudges words 4 asked.judges
   pub name : word_at words 1 ≡ codes "open"
   pub folder : word_at words 2 ≡ asked.folder.now
   pub limit : number_of (word_at words 3) ≡ Some asked.limit
 
 -- `new FOLDER LIMIT CLIENTS A B C`
 pub record AsksForNew (words : Words) (asked : Asked) (first : FirstStart) : Type 0 where
-  pub count : length words ≡ 8
+  pub judges : AsksForJudges words 8 asked.judges
   pub name : word_at words 1 ≡ codes "new"
   pub folder : word_at words 2 ≡ asked.folder.now
   pub limit : number_of (word_at words 3) ≡ Some asked.limit

@@ -8,14 +8,14 @@ use crate::words::{Asked, FirstStart, asked_of};
 use kfs_desk::{BeginFault, Desk};
 use kfs_image::Image;
 use kfs_journal_files::{OpenedFiles, create_files, open_files};
-use kfs_server::{run_new, run_opened};
+use kfs_server::{Judges, run_new, run_opened};
 use std::alloc::Global;
 use std::io::{Read, Write};
 use std::thread::Threads;
 use std::{fs, io};
 
-/// Does what the words ask for. Nothing is read from `reader` before the files are made or opened. `threads` serves the
-/// opening of files.
+/// Does what the words ask for. Nothing is read from `reader` before the files are made or opened. `threads` serve the
+/// opening of files and the judging.
 pub fn run<T: Threads + Sync, I: Read, O: Write>(
     rt: &HostRuntime,
     threads: &T,
@@ -26,16 +26,20 @@ pub fn run<T: Threads + Sync, I: Read, O: Write>(
     let Some(asked) = asked_of(words) else {
         return Err(ProgramFault::Usage);
     };
+    let judges = Judges {
+        threads,
+        count: asked.judges,
+    };
     match &asked.first {
-        None => serve_files(rt, threads, &asked, reader, writer),
-        Some(first) => serve_new(rt, &asked, first, reader, writer),
+        None => serve_files(rt, &judges, &asked, reader, writer),
+        Some(first) => serve_new(rt, &judges, &asked, first, reader, writer),
     }
 }
 
 /// Opens the two files of the folder, and serves their desk.
 fn serve_files<T: Threads + Sync, I: Read, O: Write>(
     rt: &HostRuntime,
-    threads: &T,
+    judges: &Judges<'_, T>,
     asked: &Asked<'_>,
     reader: &mut I,
     writer: &mut O,
@@ -46,21 +50,14 @@ fn serve_files<T: Threads + Sync, I: Read, O: Write>(
         second,
     } = open_files(rt, asked.folder)?;
     let files = (first.as_slice(), second.as_slice());
-    run_opened(
-        threads,
-        rt.alloc(),
-        disk,
-        files,
-        asked.limit,
-        reader,
-        writer,
-    )?;
+    run_opened(judges, rt.alloc(), disk, files, asked.limit, reader, writer)?;
     Ok(())
 }
 
 /// Makes the two files in the folder, and serves a new desk.
-fn serve_new<I: Read, O: Write>(
+fn serve_new<T: Threads + Sync, I: Read, O: Write>(
     rt: &HostRuntime,
+    judges: &Judges<'_, T>,
     asked: &Asked<'_>,
     first: &FirstStart<'_>,
     reader: &mut I,
@@ -69,7 +66,7 @@ fn serve_new<I: Read, O: Write>(
     // The clients come first, so that no files are left where one is refused.
     let desk = new_desk(rt, first, asked.limit)?;
     let disk = create_files(rt, asked.folder)?;
-    run_new(rt.alloc(), desk, disk, reader, writer)?;
+    run_new(judges, rt.alloc(), desk, disk, reader, writer)?;
     Ok(())
 }
 

@@ -1,7 +1,8 @@
 //! The words of the command line.
 ghost use Rattle.std.specs.Prelude.{◌≡◌, IfSome, Some};
-ghost use Rattle.kfs_serve.specs.Words.{IsAskedFor, IsSizeOf, number_of};
+ghost use Rattle.kfs_serve.specs.Words.{AreJudges, IsAskedFor, IsSizeOf, number_of};
 
+use kfs_desk::WORKERS;
 use kfs_image::TierSizes;
 use kfs_program_text::Words;
 
@@ -23,9 +24,12 @@ pub struct Asked<'a> {
     pub limit: u32,
     /// What a first start takes; none where the files are there.
     pub first: Option<FirstStart<'a>>,
+    /// In how many threads the submissions of a group are judged, 1 to 8.
+    pub judges: usize,
 }
 
-/// What the words ask for: `open FOLDER LIMIT` or `new FOLDER LIMIT CLIENTS A B C`. The first word is the program's name.
+/// What the words ask for: `open FOLDER LIMIT` or `new FOLDER LIMIT CLIENTS A B C`, and behind each `--judges N` or nothing,
+/// which stands for one judge. The first word is the program's name.
 pub fn asked_of<'a>(words: &[&'a str]) -> Option<Asked<'a>>
     ensures { IfSome result (λ asked. IsAskedFor words.now asked) }
 {
@@ -34,6 +38,13 @@ pub fn asked_of<'a>(words: &[&'a str]) -> Option<Asked<'a>>
             folder,
             limit: number_in(limit)?,
             first: None,
+            judges: 1,
+        }),
+        [_, "open", folder, limit, "--judges", judges] => Some(Asked {
+            folder,
+            limit: number_in(limit)?,
+            first: None,
+            judges: judges_in(judges)?,
         }),
         [_, "new", folder, limit, clients, first, second, third] => {
             let limit = number_in(limit)?;
@@ -42,10 +53,43 @@ pub fn asked_of<'a>(words: &[&'a str]) -> Option<Asked<'a>>
                 folder,
                 limit,
                 first: Some(FirstStart { clients, sizes }),
+                judges: 1,
+            })
+        }
+        [
+            _,
+            "new",
+            folder,
+            limit,
+            clients,
+            first,
+            second,
+            third,
+            "--judges",
+            judges,
+        ] => {
+            let limit = number_in(limit)?;
+            let sizes = sizes_in(first, second, third)?;
+            Some(Asked {
+                folder,
+                limit,
+                first: Some(FirstStart { clients, sizes }),
+                judges: judges_in(judges)?,
             })
         }
         _ => None,
     }
+}
+
+/// The word as a number of judges, 1 to 8.
+fn judges_in(word: &str) -> Option<usize>
+    ensures { IfSome result (AreJudges word.now) }
+{
+    let judges = number_in(word)? as usize;
+    if judges == 0 || judges > WORKERS {
+        return None;
+    }
+    Some(judges)
 }
 
 /// Tier sizes, in blocks, in three words.

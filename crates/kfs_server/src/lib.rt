@@ -15,6 +15,7 @@ mod replies;
 mod serving;
 
 pub use frames::{BODY_LIMIT, BodyFault, FRONT, FrameReader, Incoming};
+pub use kfs_kept::Judges;
 pub use look_ups::{
     FOUND_HEAD_LIMIT, FOUND_LIMIT, Figures, Found, LookUp, TierFigures, found_tail, look_up_of,
     spell_found_head,

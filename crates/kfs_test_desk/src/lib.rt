@@ -18,6 +18,8 @@ mod by_number;
 #[cfg(test)]
 mod desks;
 #[cfg(test)]
+mod early;
+#[cfg(test)]
 mod leases;
 #[cfg(test)]
 mod plans;

@@ -7,7 +7,7 @@ ghost use Rattle.kfs_kept.specs.Keeping.{IsKept};
 use crate::journal::disk_of;
 use kfs_call_desk::encode_desk;
 use kfs_journal::{MemoryDisk, Tear};
-use kfs_kept::{CallsFault, Kept, OpenFault, SaveFault};
+use kfs_kept::{CallsFault, Early, Kept, OpenFault, SaveFault};
 use kfs_test_support::refusing::Refusing;
 use std::alloc::Global;
 use std::thread::Threads;
@@ -121,7 +121,9 @@ impl<'a> Keeper<'a> {
         requires { IsKept memory_seen memory_may_leave self.old.kept }
         ensures { IsKept memory_seen memory_may_leave self.new.kept }
     {
-        let answers = self.kept.call_all(self.heap, calls)?;
+        let answers = self
+            .kept
+            .call_all(self.heap, calls, &Early::none(self.heap))?;
         let mut made = 0usize;
         for answer in &answers {
             if answer.is_ok() {

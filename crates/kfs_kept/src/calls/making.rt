@@ -5,11 +5,13 @@ ghost use Rattle.kfs_call.specs.Call.{IsLong};
 ghost use Rattle.kfs_kept.specs.Calls.Group.{IsBrief};
 ghost use Rattle.kfs_kept.specs.Calls.Making.{AreMade, IsNext, IsToldIn};
 
+use crate::calls::early::Early;
 use crate::calls::group::{KeptCall, push_call};
 use arrayvec::ArrayVec;
 use kfs_call::{ANSWER_LIMIT, AnswerRow, spell_answer};
-use kfs_call_desk::{CallFault, Called, call, told};
+use kfs_call_desk::{CallFault, Called, call_judged, told};
 use kfs_desk::Desk;
+use kfs_plan::Judged;
 use std::alloc::{AllocError, Allocator};
 
 /// The most bytes of a group: a journal has four bytes for its length.
@@ -57,12 +59,19 @@ impl<B: Allocator + Copy> Made<B> {
         })
     }
 
-    /// Makes the calls one after another, and writes those that are answered into the group.
+    /// Makes the calls one after another, and writes those that are answered into the group. Each is made beside the
+    /// verdict that stands at its place in `early`, where one does.
     ///
     /// A call that isn't answered is as if it hadn't been handed in: it changes nothing, and isn't in the group. What is
     /// written here has its room already, so a desk that has changed never lacks memory for its group. Conditions: the
     /// room is that of `room_for`.
-    pub fn make_all<A: Allocator + Copy>(&mut self, alloc: B, desk: &mut Desk<A>, calls: &[&[u8]])
+    pub fn make_all<A: Allocator + Copy>(
+        &mut self,
+        alloc: B,
+        desk: &mut Desk<A>,
+        calls: &[&[u8]],
+        early: &Early<A>,
+    )
         requires long { All (λ c. length c.now < 2 ^ 32) calls.now }
         requires none { (self.old.answers.items ≡ []) × (self.old.group.items ≡ []) }
         requires answers { length calls.now ≤ vec_capacity self.old.answers }
@@ -71,7 +80,8 @@ impl<B: Allocator + Copy> Made<B> {
         ensures short { length self.new.group.items ≤ sum_by (λ c. length c.now + 24) calls.now }
     {
         for bytes in calls {
-            let answer = make_call(alloc, desk, bytes, &mut self.group);
+            let judged = early.verdict(self.answers.len());
+            let answer = make_call(alloc, desk, bytes, judged, &mut self.group);
             self.answers.push_reserved(answer);
         }
     }
@@ -82,6 +92,7 @@ fn make_call<A: Allocator + Copy, B: Allocator + Copy>(
     alloc: B,
     desk: &mut Desk<A>,
     bytes: &[u8],
+    judged: Option<&Judged<A>>,
     group: &mut Vec<u8, B>,
 ) -> Result<Called, CallFault>
     requires long { IsLong bytes.now }
@@ -90,7 +101,7 @@ fn make_call<A: Allocator + Copy, B: Allocator + Copy>(
     ensures len { length group.new.items ≤ length group.old.items + (length bytes.now + 24) }
     ensures capacity { vec_capacity group.old ≤ vec_capacity group.new }
 {
-    let answer = call(alloc, desk, bytes);
+    let answer = call_judged(alloc, desk, bytes, judged);
     if let Ok(called) = &answer {
         let row = answer_row(called);
         let kept = KeptCall {

@@ -18,8 +18,9 @@ use crate::replies::NumberedReply;
 use crate::serving::merging::merge;
 use kfs_call_desk::{CallFault, Called};
 use kfs_journal::Disk;
-use kfs_kept::{CallsFault, Kept};
+use kfs_kept::{CallsFault, Judges, Kept};
 use std::alloc::{AllocError, Allocator};
+use std::thread::Threads;
 
 /// Why the calls of a group aren't made and kept.
 #[derive(Clone, Copy, Debug)]
@@ -43,12 +44,19 @@ impl From<AllocError> for Missed {
 /// Makes the calls of a group and keeps them, and answers the replies to all of its frames.
 ///
 /// Conditions as for `answer_group`.
-pub fn make_calls<A: Allocator + Copy, B: Allocator + Copy, C: Allocator, D: Disk + Drop>(
+pub fn make_calls<R, A, B, C, D>(
+    judges: &Judges<'_, R>,
     alloc: B,
     kept: &mut Kept<A, D>,
     group: &[Incoming<C>],
     replies: &mut Vec<NumberedReply, B>,
 ) -> Result<(), Missed>
+where
+    R: Threads + Sync,
+    A: Allocator + Copy + Send + Sync,
+    B: Allocator + Copy,
+    C: Allocator,
+    D: Disk + Drop,
     requires kept { IsKept D.seen D.may_leave kept.old }
     requires open { IsTrue kept.old.is_open }
     requires none { replies.old.items ≡ [] }
@@ -67,7 +75,7 @@ pub fn make_calls<A: Allocator + Copy, B: Allocator + Copy, C: Allocator, D: Dis
 {
     let decided = decide_all(alloc, group)?;
     let calls = calls_in(alloc, &decided)?;
-    let answers = call_some(alloc, kept, &calls)?;
+    let answers = call_some(judges, alloc, kept, &calls)?;
     merge(&decided, &answers, replies);
     Ok(())
 }
@@ -99,12 +107,19 @@ fn push_call<'a, B: Allocator>(
     }
 }
 
-/// Makes calls and keeps them, as `Kept::call_all`. Where there is none, nothing is written to the files.
-fn call_some<A: Allocator + Copy, B: Allocator + Copy, D: Disk + Drop>(
+/// Makes calls and keeps them, as `Kept::call_all`, behind early verdicts. Where there is none, nothing is written to the
+/// files.
+fn call_some<R, A, B, D>(
+    judges: &Judges<'_, R>,
     alloc: B,
     kept: &mut Kept<A, D>,
     calls: &[&[u8]],
 ) -> Result<Vec<Result<Called, CallFault>, B>, Missed>
+where
+    R: Threads + Sync,
+    A: Allocator + Copy + Send + Sync,
+    B: Allocator + Copy,
+    D: Disk + Drop,
     requires kept { IsKept D.seen D.may_leave kept.old }
     requires open { IsTrue kept.old.is_open }
     ensures kept { IsKept D.seen D.may_leave kept.new }
@@ -119,7 +134,10 @@ fn call_some<A: Allocator + Copy, B: Allocator + Copy, D: Disk + Drop>(
     if calls.is_empty() {
         return Ok(Vec::new(alloc));
     }
-    match kept.call_all(alloc, calls) {
+    let early = kept.judge_early(judges, calls);
+    let called = kept.call_all(alloc, calls, &early);
+    drop(early);
+    match called {
         Ok(answers) => Ok(answers),
         Err(CallsFault::OutOfMemory) => Err(Missed::OutOfMemory),
         Err(CallsFault::TooLong) => Err(Missed::OutOfMemory),

@@ -15,19 +15,27 @@ use crate::replies::{NumberedReply, Refusal, Reply};
 use crate::serving::calling::{Missed, make_calls};
 use crate::serving::fault::GroupFault;
 use kfs_journal::Disk;
-use kfs_kept::Kept;
+use kfs_kept::{Judges, Kept};
 use std::alloc::Allocator;
+use std::thread::Threads;
 
 /// Answers a group of frames. Calls are made in the order of the frames, and are kept before this returns.
 ///
 /// Conditions: the desk is open; `replies` is empty, and has room for all; no frame asks for a look-up. A frame that is
 /// refused changes nothing. Where memory is refused before the first call, each frame is refused for that.
-pub fn answer_group<A: Allocator + Copy, B: Allocator + Copy, C: Allocator, D: Disk + Drop>(
+pub fn answer_group<R, A, B, C, D>(
+    judges: &Judges<'_, R>,
     alloc: B,
     kept: &mut Kept<A, D>,
     group: &[Incoming<C>],
     replies: &mut Vec<NumberedReply, B>,
 ) -> Result<(), GroupFault>
+where
+    R: Threads + Sync,
+    A: Allocator + Copy + Send + Sync,
+    B: Allocator + Copy,
+    C: Allocator,
+    D: Disk + Drop,
     requires kept { IsKept D.seen D.may_leave kept.old }
     requires open { IsTrue kept.old.is_open }
     requires none { replies.old.items ≡ [] }
@@ -47,7 +55,7 @@ pub fn answer_group<A: Allocator + Copy, B: Allocator + Copy, C: Allocator, D: D
     ensures failed { IsErrOf result GroupFault.Failed → IsTrue (D.has_failed kept.new.disk) }
     ensures full { IsErrOf result GroupFault.Full → kept.new ≡ kept.old }
 {
-    match make_calls(alloc, kept, group, replies) {
+    match make_calls(judges, alloc, kept, group, replies) {
         Ok(()) => Ok(()),
         Err(Missed::Failed) => Err(GroupFault::Failed),
         Err(Missed::Full) => Err(GroupFault::Full),

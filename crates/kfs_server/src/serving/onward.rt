@@ -16,13 +16,15 @@ use crate::serving::group::answer_group;
 use crate::serving::looking::answer_look_up;
 use crate::serving::room::Said;
 use kfs_journal::Disk;
-use kfs_kept::Kept;
+use kfs_kept::{Judges, Kept};
 use kfs_program_text::{flush, write_whole};
 use std::alloc::Allocator;
 use std::io::Write;
+use std::thread::Threads;
 
 /// Answers the frames of a read, in order. Each look-up is answered from the state behind all frames before it.
-pub fn answer_frames<A, B, D, O>(
+pub fn answer_frames<R, A, B, D, O>(
+    judges: &Judges<'_, R>,
     alloc: B,
     kept: &mut Kept<A, D>,
     frames: &[Incoming<B>],
@@ -30,7 +32,8 @@ pub fn answer_frames<A, B, D, O>(
     writer: &mut O,
 ) -> Result<(), ServeFault>
 where
-    A: Allocator + Copy,
+    R: Threads + Sync,
+    A: Allocator + Copy + Send + Sync,
     B: Allocator + Copy,
     D: Disk + Drop,
     O: Write,
@@ -46,14 +49,15 @@ where
 {
     let mut rest = frames;
     'frames: while !rest.is_empty() {
-        rest = answer_next(alloc, kept, rest, said, writer)?;
+        rest = answer_next(judges, alloc, kept, rest, said, writer)?;
     }
     Ok(())
 }
 
 /// Answers the look-up that the first frame asks for, or all calls up to the next look-up. The frames behind come back.
 /// Condition: there is a frame.
-fn answer_next<'a, A, B, D, O>(
+fn answer_next<'a, R, A, B, D, O>(
+    judges: &Judges<'_, R>,
     alloc: B,
     kept: &mut Kept<A, D>,
     frames: &'a [Incoming<B>],
@@ -61,7 +65,8 @@ fn answer_next<'a, A, B, D, O>(
     writer: &mut O,
 ) -> Result<&'a [Incoming<B>], ServeFault>
 where
-    A: Allocator + Copy,
+    R: Threads + Sync,
+    A: Allocator + Copy + Send + Sync,
     B: Allocator + Copy,
     D: Disk + Drop,
     O: Write,
@@ -84,7 +89,15 @@ where
                 answer_look_up(alloc, kept, first, &look_up, writer)?;
                 Ok(others)
             }
-            None => answer_run(alloc, kept, frames, 1 + calls_before(others), said, writer),
+            None => answer_run(
+                judges,
+                alloc,
+                kept,
+                frames,
+                1 + calls_before(others),
+                said,
+                writer,
+            ),
         },
         // The condition says that there is a frame.
         None => unreachable!(),
@@ -107,7 +120,8 @@ fn calls_before<B: Allocator>(frames: &[Incoming<B>]) -> usize
 }
 
 /// Answers the first of the frames, so many, which are calls. The frames behind come back.
-fn answer_run<'a, A, B, D, O>(
+fn answer_run<'a, R, A, B, D, O>(
+    judges: &Judges<'_, R>,
     alloc: B,
     kept: &mut Kept<A, D>,
     frames: &'a [Incoming<B>],
@@ -116,7 +130,8 @@ fn answer_run<'a, A, B, D, O>(
     writer: &mut O,
 ) -> Result<&'a [Incoming<B>], ServeFault>
 where
-    A: Allocator + Copy,
+    R: Threads + Sync,
+    A: Allocator + Copy + Send + Sync,
     B: Allocator + Copy,
     D: Disk + Drop,
     O: Write,
@@ -136,13 +151,14 @@ where
     ensures served { AreAnsweredTo D.may_leave D.moment D.left_since result (O.contents writer.old) (O.contents writer.new) kept.old kept.new frames.entry.now }
 {
     let (run, behind) = frames.split_at(count);
-    write_answers(alloc, kept, run, said, writer)?;
+    write_answers(judges, alloc, kept, run, said, writer)?;
     said.clear();
     Ok(behind)
 }
 
 /// Answers a group of calls, and writes the replies once the group is kept.
-fn write_answers<A, B, D, O>(
+fn write_answers<R, A, B, D, O>(
+    judges: &Judges<'_, R>,
     alloc: B,
     kept: &mut Kept<A, D>,
     group: &[Incoming<B>],
@@ -150,7 +166,8 @@ fn write_answers<A, B, D, O>(
     writer: &mut O,
 ) -> Result<(), ServeFault>
 where
-    A: Allocator + Copy,
+    R: Threads + Sync,
+    A: Allocator + Copy + Send + Sync,
     B: Allocator + Copy,
     D: Disk + Drop,
     O: Write,
@@ -165,7 +182,7 @@ where
     ensures ample { IsAmpleSaid said.new }
     ensures served { AreAnswered D.may_leave D.moment D.left_since result (O.contents writer.old) (O.contents writer.new) kept.old kept.new group.now }
 {
-    answer_group(alloc, kept, group, &mut said.replies)?;
+    answer_group(judges, alloc, kept, group, &mut said.replies)?;
     write_replies(&mut said.text, &said.replies);
     write_whole(writer, &said.text)?;
     flush(writer)?;

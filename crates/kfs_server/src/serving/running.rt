@@ -11,17 +11,17 @@ use crate::serving::fault::{GroupFault, RunFault, ServeFault};
 use crate::serving::session::serve;
 use kfs_desk::Desk;
 use kfs_journal::Disk;
-use kfs_kept::{Kept, OpenFault, SaveFault};
+use kfs_kept::{Judges, Kept, OpenFault, SaveFault};
 use std::alloc::Allocator;
 use std::io::{Read, Write};
 use std::thread::Threads;
 
 /// Opens the files that a kept desk has left, and serves it from `reader` to `writer`. `first` and `second` are the
-/// bytes of both files; the docket will have at most `limit` rows.
+/// bytes of both files; the docket will have at most `limit` rows. `judges` serve the opening, too.
 ///
 /// `NotOpened` where the files aren't opened: nothing was read or written, and they stand for what they did.
 pub fn run_opened<R, A, D, I, O>(
-    rt: &R,
+    judges: &Judges<'_, R>,
     alloc: A,
     disk: D,
     files: (&[u8], &[u8]),
@@ -31,7 +31,7 @@ pub fn run_opened<R, A, D, I, O>(
 ) -> Result<(), RunFault>
 where
     R: Threads + Sync,
-    A: Allocator + Copy,
+    A: Allocator + Copy + Send + Sync,
     D: Disk + Drop,
     I: Read,
     O: Write,
@@ -40,8 +40,8 @@ where
     requires durable { Only (D.seen disk) (D.may_leave disk) }
     ensures { Exchanges (I.remaining reader.old) (I.remaining reader.new) (O.contents writer.old) (O.contents writer.new) (IsRunFromFiles A D.seen D.may_leave D.moment D.left_since disk result) }
 {
-    match Kept::open(rt, alloc, disk, files.0, files.1, limit) {
-        Ok(kept) => run(alloc, kept, reader, writer),
+    match Kept::open(judges.threads, alloc, disk, files.0, files.1, limit) {
+        Ok(kept) => run(judges, alloc, kept, reader, writer),
         Err(back) => Err(RunFault::NotOpened(back.why)),
     }
 }
@@ -49,7 +49,8 @@ where
 /// Keeps a desk in a new journal on two empty files, and serves it from `reader` to `writer`.
 ///
 /// Condition as for `Kept::create`. `NotMade` where there is no journal: nothing was read or written then.
-pub fn run_new<A, D, I, O>(
+pub fn run_new<R, A, D, I, O>(
+    judges: &Judges<'_, R>,
     alloc: A,
     desk: Desk<A>,
     disk: D,
@@ -57,7 +58,8 @@ pub fn run_new<A, D, I, O>(
     writer: &mut O,
 ) -> Result<(), RunFault>
 where
-    A: Allocator + Copy,
+    R: Threads + Sync,
+    A: Allocator + Copy + Send + Sync,
     D: Disk + Drop,
     I: Read,
     O: Write,
@@ -67,20 +69,22 @@ where
     ensures { Exchanges (I.remaining reader.old) (I.remaining reader.new) (O.contents writer.old) (O.contents writer.new) (IsRunFromNew A D.seen D.may_leave D.moment D.left_since desk disk result) }
 {
     match Kept::create(alloc, desk, disk) {
-        Ok(kept) => run(alloc, kept, reader, writer),
+        Ok(kept) => run(judges, alloc, kept, reader, writer),
         Err(back) => Err(RunFault::NotMade(back.why)),
     }
 }
 
 /// Serves a desk, and gives it up.
-fn run<A, D, I, O>(
+fn run<R, A, D, I, O>(
+    judges: &Judges<'_, R>,
     alloc: A,
     mut kept: Kept<A, D>,
     reader: &mut I,
     writer: &mut O,
 ) -> Result<(), RunFault>
 where
-    A: Allocator + Copy,
+    R: Threads + Sync,
+    A: Allocator + Copy + Send + Sync,
     D: Disk + Drop,
     I: Read,
     O: Write,
@@ -88,7 +92,7 @@ where
     requires open { IsTrue kept.is_open }
     ensures { Exchanges (I.remaining reader.old) (I.remaining reader.new) (O.contents writer.old) (O.contents writer.new) (IsRun A D.seen D.may_leave D.moment D.left_since kept result) }
 {
-    match serve(alloc, &mut kept, reader, writer) {
+    match serve(judges, alloc, &mut kept, reader, writer) {
         Ok(()) => Ok(()),
         Err(fault) => Err(RunFault::Stopped(fault)),
     }

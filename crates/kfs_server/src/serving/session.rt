@@ -17,27 +17,33 @@ use crate::serving::onward::answer_frames;
 use crate::serving::renewal::renew;
 use crate::serving::room::{CHUNK, Room};
 use kfs_journal::Disk;
-use kfs_kept::Kept;
+use kfs_kept::{Judges, Kept};
 use kfs_program_text::{OutputFault, flush, read_some, write_whole};
 use std::alloc::{AllocError, Allocator};
 use std::io::{Read, Write};
+use std::thread::Threads;
 
 /// Serves frames from `reader` to its end, and writes the replies to `writer`. All frames that are whole with one
 /// read are answered together. Calls that stand behind one another there are one group: they are kept together, and
 /// then all of their replies are written. A look-up between them is answered from the desk. Behind the frames of a read
 /// the journal is begun anew where that is due (`Kept::checkpoint_if_due`).
 ///
+/// Where `judges` are two or more, the submissions of a group that don't wait for one another are judged beside each other
+/// before its calls are made. The replies are the same.
+///
 /// Condition: the desk is open. At `Ok` the input has ended, the desk is open, and each crash leaves its state. At
 /// `Err` serving has stopped: what was answered is kept. Memory for reading and writing is taken before the first
 /// read.
-pub fn serve<A, B, D, I, O>(
+pub fn serve<R, A, B, D, I, O>(
+    judges: &Judges<'_, R>,
     alloc: B,
     kept: &mut Kept<A, D>,
     reader: &mut I,
     writer: &mut O,
 ) -> Result<(), ServeFault>
 where
-    A: Allocator + Copy,
+    R: Threads + Sync,
+    A: Allocator + Copy + Send + Sync,
     B: Allocator + Copy,
     D: Disk + Drop,
     I: Read,
@@ -52,7 +58,7 @@ where
 {
     let mut chunk = new_chunk(alloc)?;
     let mut room = Room::new(alloc)?;
-    serve_by_chunks(alloc, kept, reader, &mut chunk, &mut room, writer)
+    serve_by_chunks(judges, alloc, kept, reader, &mut chunk, &mut room, writer)
 }
 
 fn new_chunk<B: Allocator>(alloc: B) -> Result<Vec<u8, B>, AllocError>
@@ -62,7 +68,8 @@ fn new_chunk<B: Allocator>(alloc: B) -> Result<Vec<u8, B>, AllocError>
 }
 
 /// Reads chunk by chunk, and answers the frames that are whole with each.
-fn serve_by_chunks<A, B, D, I, O>(
+fn serve_by_chunks<R, A, B, D, I, O>(
+    judges: &Judges<'_, R>,
     alloc: B,
     kept: &mut Kept<A, D>,
     reader: &mut I,
@@ -71,7 +78,8 @@ fn serve_by_chunks<A, B, D, I, O>(
     writer: &mut O,
 ) -> Result<(), ServeFault>
 where
-    A: Allocator + Copy,
+    R: Threads + Sync,
+    A: Allocator + Copy + Send + Sync,
     B: Allocator + Copy,
     D: Disk + Drop,
     I: Read,
@@ -96,21 +104,23 @@ where
             return Ok(());
         }
         frames.take(&chunk[..count], &mut room.group);
-        answer_read(alloc, kept, room, writer)?;
+        answer_read(judges, alloc, kept, room, writer)?;
         room.clear();
     }
     Err(ServeFault::ReadFault)
 }
 
 /// Answers the frames that are whole with one read, and begins the journal anew where that is due.
-fn answer_read<A, B, D, O>(
+fn answer_read<R, A, B, D, O>(
+    judges: &Judges<'_, R>,
     alloc: B,
     kept: &mut Kept<A, D>,
     room: &mut Room<B>,
     writer: &mut O,
 ) -> Result<(), ServeFault>
 where
-    A: Allocator + Copy,
+    R: Threads + Sync,
+    A: Allocator + Copy + Send + Sync,
     B: Allocator + Copy,
     D: Disk + Drop,
     O: Write,
@@ -126,7 +136,7 @@ where
     if room.group.is_empty() {
         return Ok(());
     }
-    answer_frames(alloc, kept, &room.group, &mut room.said, writer)?;
+    answer_frames(judges, alloc, kept, &room.group, &mut room.said, writer)?;
     renew(alloc, kept)?;
     Ok(())
 }

@@ -79,14 +79,16 @@ pub mod call {
         encode_call, encode_state, spell_answer,
     };
     pub use kfs_call_desk::{
-        CallFault, Called, EncodeFault, RestoreFault, answer_row, call, encode_desk, restore_alone,
-        told,
+        CallFault, Called, EncodeFault, RestoreFault, answer_row, call, call_judged, encode_desk,
+        restore_alone, told,
     };
 }
 
 /// A desk whose answers outlive a crash, and a desk from the bytes of a state in several threads.
 pub mod kept {
-    pub use kfs_kept::{CallsFault, CreateBack, Kept, OpenBack, OpenFault, SaveFault, restore};
+    pub use kfs_kept::{
+        CallsFault, CreateBack, Early, Judges, Kept, OpenBack, OpenFault, SaveFault, restore,
+    };
 }
 
 /// Workers, scripts of their steps, and a desk that threads share.

@@ -1,10 +1,12 @@
-use Rattle.std.proofs.Common.{ℕ, ◌≤◌, ◌+◌, List, [], ◌∷◌, ◌++◌, length, map, take, get_or, Bor, subst, sym, arith, rules}
+use Rattle.std.proofs.Common.{ℕ, ◌≤◌, ◌+◌, List, [], ◌∷◌, ◌++◌, length, map, take, get_or, Bor, ap, refl, subst, sym, arith, rules}
 use Rattle.std.specs.Prelude.{Result}
+use Rattle.std.specs.List.{sum_by}
+use Rattle.std.proofs.lemmas.List.{take_all}
 use Rattle.std.proofs.lemmas.List.Sums.{sum_by_more, sum_by_more_le}
 use Rattle.kfs_call_desk.specs.declared.made.Called.{Called}
 use Rattle.kfs_call_desk.specs.declared.made.CallFault.{CallFault}
 use Rattle.kfs_kept.specs.Calls.Making.{AreMade}
-use Rattle.kfs_kept.proofs.CallsLemmas.OneMore.{calls_so_far, one_more}
+use Rattle.kfs_kept.proofs.CallsLemmas.OneMore.{calls_so_far, none_made, one_more}
 use Rattle.kfs_kept.proofs.calls.making.Made.make_all.Goals as goal
 
 pub loop-bytes-preserved : goal.loop-bytes-preserved
@@ -36,3 +38,30 @@ make_call-answer-requires-clause-room g c =
     let none : Bor (List ℕ) = record { ref_ptr = (0, 0); now = [] } in
     let within = sum_by_more_le (λ (x : Bor (List ℕ)). length x.now + 24) c.args.calls.now at.bytes-index none c.loop-bytes-test.true in
     omega (arith, within, at.invariant.short, at.invariant.room, c.requires.room)
+
+pub loop-bytes-init : goal.loop-bytes-init
+loop-bytes-init g c =
+    let none = c.requires.none in
+    let desk = c.args.desk.now in
+    let made = subst (λ (answers : List (Result Called CallFault)). AreMade desk [] answers c.args.self.now.group.items desk) (sym none.0)
+    (subst (λ (group : List ℕ). AreMade desk [] [] group desk) (sym none.1) (none_made desk)) in
+    let zero = ap length none.1 in
+    record {
+      made = made;
+      short = omega (arith, zero);
+      answers = ap length none.0;
+      answers_room = refl;
+      room = omega arith;
+    }
+
+pub returns-clause-made : goal.returns-clause-made
+returns-clause-made g c =
+    let at = c.loop-bytes in
+    subst (λ (xs : List (Bor (List ℕ))). AreMade c.args.desk.now (map (λ (x : Bor (List ℕ)). x.now) xs) at.self.answers.items at.self.group.items at.desk)
+    (take_all at.bytes-index c.args.calls.now c.loop-bytes-test.false) at.invariant.made
+
+pub returns-clause-short : goal.returns-clause-short
+returns-clause-short g c =
+    let at = c.loop-bytes in
+    subst (λ (xs : List (Bor (List ℕ))). length at.self.group.items ≤ sum_by (λ (x : Bor (List ℕ)). length x.now + 24) xs)
+    (take_all at.bytes-index c.args.calls.now c.loop-bytes-test.false) at.invariant.short
