@@ -1,4 +1,7 @@
-use Rattle.std.proofs.Common.{refl}
+use Rattle.std.proofs.Common.{rules, ◌≡◌, ◌≢◌, Result, Ok, Err, refl, sym, ◌∙◌}
+use Rattle.std.specs.Prelude.{IfErr}
+use Rattle.kfs_shared.specs.declared.want.SharedWant.{SharedWant}
+use Rattle.kfs_shared.specs.declared.want.SharedWant.TheVariants.{OutOfMemory, DocketFull}
 use Rattle.kfs_desk.specs.Beginning.{beginning_of}
 use Rattle.kfs_shared.proofs.TurnsLemmas.Lists.{starts_same, starts_trans}
 use Rattle.kfs_shared.specs.Landings.{KeepsAnswer}
@@ -40,3 +43,10 @@ returns-clause-err g c =
     c.args.landings.now c.land_in-turn.new.landings c.land_in-turn.ensures.landed in
     viewed_err (started beginning_of c.args.self.now) (seen c.args.pass.now) (seen_in c.land_in-turn.result) (seen c.end_turn.new.pass) _ c.view-view.result
     (starts_trans (seen_in c.land_in-turn.result) (seen_in c.in-Some.turn) (seen c.args.pass.now) more c.in-Some.ensures.begins) c.end_turn.ensures.seen c.view-view.ensures.err
+
+memory_alone : {A : Type 0} (r : Result A SharedWant) → IfErr r (λ why. why ≡ OutOfMemory) → IfErr r (λ why. why ≢ DocketFull)
+memory_alone (Ok view) is = is
+memory_alone (Err why) is = λ full. (let clash : OutOfMemory ≡ DocketFull = sym is ∙ full in search rules)
+
+pub returns-clause-not_full : goal.returns-clause-not_full
+returns-clause-not_full g c = memory_alone c.view-view.result c.view-view.ensures.err
