@@ -49,7 +49,7 @@ fn serve_files<T: Threads + Sync, I: Read, O: Write>(
         first,
         second,
     } = open_files(rt, asked.folder)?;
-    let files = (first.as_slice(), second.as_slice());
+    let files = (first, second);
     run_opened(judges, rt.alloc(), disk, files, asked.limit, reader, writer)?;
     Ok(())
 }

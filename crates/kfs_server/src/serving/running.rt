@@ -16,15 +16,16 @@ use std::alloc::Allocator;
 use std::io::{Read, Write};
 use std::thread::Threads;
 
-/// Opens the files that a kept desk has left, and serves it from `reader` to `writer`. `first` and `second` are the
-/// bytes of both files; the docket will have at most `limit` rows. `judges` serve the opening, too.
+/// Opens the files that a kept desk has left, and serves it from `reader` to `writer`. `files` are the bytes of both
+/// files, which are freed once they are read; the docket will have at most `limit` rows. `judges` serve the opening,
+/// too.
 ///
 /// `NotOpened` where the files aren't opened: nothing was read or written, and they stand for what they did.
 pub fn run_opened<R, A, D, I, O>(
     judges: &Judges<'_, R>,
     alloc: A,
     disk: D,
-    files: (&[u8], &[u8]),
+    files: (Vec<u8, A>, Vec<u8, A>),
     limit: u32,
     reader: &mut I,
     writer: &mut O,
@@ -35,12 +36,24 @@ where
     D: Disk + Drop,
     I: Read,
     O: Write,
-    requires bytes { D.seen disk ≡ (files.0.now, files.1.now) }
+    requires bytes { D.seen disk ≡ (files.0.items, files.1.items) }
     // After a restart, what is there is what is on the disk.
     requires durable { Only (D.seen disk) (D.may_leave disk) }
     ensures { Exchanges (I.remaining reader.old) (I.remaining reader.new) (O.contents writer.old) (O.contents writer.new) (IsRunFromFiles A D.seen D.may_leave D.moment D.left_since disk result) }
 {
-    match Kept::open(judges.threads, alloc, disk, files.0, files.1, limit) {
+    let (first, second) = files;
+    let opened = Kept::open(
+        judges.threads,
+        alloc,
+        disk,
+        first.as_slice(),
+        second.as_slice(),
+        limit,
+    );
+    // A server may run for months, and the bytes are as many as the journal's.
+    drop(first);
+    drop(second);
+    match opened {
         Ok(kept) => run(judges, alloc, kept, reader, writer),
         Err(back) => Err(RunFault::NotOpened(back.why)),
     }
