@@ -109,9 +109,8 @@ fn bytes_of(alloc: Global, step: Step) -> Option<Vec<u8>> {
     };
     let mut bytes = vec![in alloc; 1, 0, 0, 0, 7].ok()?;
     for part in [log, plan] {
-        bytes
-            .extend_from_slice(&(part.len() as u32).to_be_bytes())
-            .ok()?;
+        let length = u32::try_from(part.len()).ok()?;
+        bytes.extend_from_slice(&length.to_be_bytes()).ok()?;
         bytes.extend_from_slice(part).ok()?;
     }
     Some(bytes)
