@@ -3,6 +3,7 @@
 //! What it waits for is its own: its reader's bytes, its writer's room, and places of its own user. So it holds up no other user.
 
 use crate::calls::{Note, Wish};
+use crate::cluster::term::Term;
 use crate::config::{Duties, Limits, FRAME_COST};
 use crate::figures::Figures;
 use crate::following::Following;
@@ -41,6 +42,8 @@ pub struct Shared {
     pub duties: Duties,
     /// How the desk stands.
     pub following: Following,
+    /// Until when nobody else leads.
+    pub term: Term,
     /// The users that may be connected now.
     pub table: watch::Receiver<Arc<Table>>,
     /// Whether no frame is read any more.
@@ -245,6 +248,7 @@ impl<R: AsyncRead + Unpin> Reader<'_, R> {
             return self.refuse(head, frame, Refusal::NotYours).await;
         }
         if let Some(said) = self.said_here(head.number, what) {
+            self.shared.term.holds().await;
             return self.put(head, frame, Said::Here(said)).await;
         }
         if let Asked::Wants(behind) = what {

@@ -1,6 +1,7 @@
 //! `kfs_serve`: the process, its two pipes, and a new one where it ends before its time.
 
 use crate::calls::Note;
+use crate::cluster::ClusterFault;
 use crate::connection::Shared;
 use crate::flight::Flight;
 use crate::folder::{Folder, Found};
@@ -55,6 +56,8 @@ pub enum DeskFault {
     Keeping(tokio::task::JoinError),
     #[error("{FRUITLESS} processes of kfs_serve have ended one after another without an answer; the last one: {0}")]
     Fruitless(ExitStatus),
+    #[error(transparent)]
+    Cluster(#[from] ClusterFault),
 }
 
 /// What a start of `kfs_serve` takes.

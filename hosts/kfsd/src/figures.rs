@@ -89,6 +89,8 @@ pub struct Figures {
     pub starts: Count,
     pub process: Count,
     pub opened: Count,
+    /// The number of the next group of a volume.
+    pub group: Count,
     /// From a whole frame to the desk's answer.
     pub times: Times,
 }

@@ -138,10 +138,15 @@ impl Following {
 
     /// Takes over what a call has done. Answers come in the order of the calls.
     pub fn answered(&self, note: &Note, answer: &[u8]) {
+        self.answered_at(note, answer, times::now());
+    }
+
+    /// The same of a call that was answered at this time.
+    pub fn answered_at(&self, note: &Note, answer: &[u8], time: i64) {
         let (mut leases, told) = (self.leases(), Told::of(answer));
         leases.apply(note, told);
         if let (Note::Submit(changes), Told::Landed) = (note, told) {
-            self.times().landed(changes, times::now());
+            self.times().landed(changes, time);
         }
         if told == Told::NoRoom {
             self.short.notify_one();
