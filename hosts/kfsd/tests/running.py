@@ -114,6 +114,12 @@ class Connection:
         assert found == number and said[0] == MOMENT[0], (found, said)
         return struct.unpack(">QQ", said[1:])
 
+    def times(self, node):
+        """The two times of a node, in nanoseconds since 1970; None where none is known."""
+        self.send(0, b"\xf4" + struct.pack(">I", node))
+        _, said = self.next()
+        return struct.unpack(">QQ", said[2:]) if said[1] else None
+
     def is_ended(self):
         """Whether the other end has closed, with nothing more to read."""
         try:

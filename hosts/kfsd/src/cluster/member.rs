@@ -14,7 +14,7 @@ use std::path::PathBuf;
 use std::time::Duration;
 use tokio::sync::watch;
 use tokio::time::sleep;
-use tracing::{info, warn};
+use tracing::{debug, info, warn};
 
 /// How long a member waits before it looks for groups again.
 const POLL: Duration = Duration::from_millis(50);
@@ -89,6 +89,7 @@ impl Member {
         // Its key goes at once. What it has sent before that it was told of, or it is refused.
         self.volume.end(&lead).await;
         replica.end().await;
+        debug!("group {} is next", shared.figures.group.get());
         led
     }
 
@@ -117,6 +118,9 @@ impl Member {
             for (number, group) in seen.groups {
                 replica.feed(number, &group).await?;
                 follower.take(number, &group, shared);
+            }
+            if has_more {
+                debug!("group {} is next", follower.next);
             }
             if seen.leader.is_none() && follower.next == seen.next {
                 match self.volume.lead(follower.next, self.settings.lease_seconds).await {

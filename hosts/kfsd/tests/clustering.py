@@ -1,0 +1,345 @@
+"""Three machines with etcd and kfsd each, and their faults: no answered call is lost, none is made twice, and all desks are the same."""
+import collections
+import os
+import random
+import re
+import signal
+import struct
+import tempfile
+import threading
+import time
+
+from killing import FILES, NO, USERS, YES, answered_by, run_with_kills, say, submission
+from machines import LOST, Cluster, is_possible
+from numbering import AGAIN, UNDER_WAY, UNKNOWN, Numbering, bare
+from running import FRONT, FRONTS, Gone, frame, lease, numbered, user
+
+from frames import Server, checkpoint  # noqa: I001
+
+# kfsd ends with it where its desk differs from the leader's.
+DIFFERS = 6
+TICK, MIGRATE = 4, 5
+
+
+# ---- What is in etcd, and what the files stand for
+
+def groups_of(cluster):
+    """All groups by their numbers: the calls of each, with their answers."""
+    parts, found = collections.defaultdict(list), {}
+    for key, value in cluster.rows("part/"):
+        parts[int(key.split("/")[3], 16)].append(value)
+    for key, row in cluster.rows("group/"):
+        number = int(key.rpartition("/")[2], 16)
+        count = None if row[0] == 1 else int.from_bytes(row[1:], "big")
+        found[number] = calls_in(row[1:] if count is None else b"".join(parts[number][:count]))
+    assert sorted(found) == list(range(cluster.next())), "a group is missing"
+    return found
+
+
+def calls_in(data):
+    at, found = 16, []
+    while at < len(data):
+        end = at + 4 + int.from_bytes(data[at : at + 4], "big")
+        found.append((data[at + 4 : end], data[end + 1 : end + 1 + data[end]]))
+        at = end + 1 + data[end]
+    assert at == len(data)
+    return found
+
+
+def image_in(state):
+    """The image of a state, without moment, clients and leases."""
+    clients, leases = struct.unpack(">II", state[13:21])
+    at = 21
+    for _ in range(clients):
+        at += 22 + 4 * state[at + 21]
+    return state[at + 17 * leases :]
+
+
+def states_by_etcd(cluster, groups, numbers):
+    """The states behind so many groups, of a kfs_serve that was given nothing else."""
+    machine, found, due = cluster.machines[0], {}, []
+    with tempfile.TemporaryDirectory(prefix="kfsd-replay-") as room:
+        server = Server([machine.program, "new", room, str((1 << 32) - 1), f"{machine.replica}/clients", *map(str, machine.tiers)])
+        for number in range(max(numbers) + 1):
+            if number in numbers:
+                found[number] = state_now(server, room)
+            for call, answer in groups.get(number, ()):
+                due.append(answer)
+                server.send(frame(1, FRONT if call[0] in (TICK, MIGRATE) else int.from_bytes(call[1:5], "big"), call))
+            if len(due) > 500 or number + 1 in numbers:
+                assert [it.answer[4:] for it in server.receive(len(due))] == due
+                due = []
+        assert server.close() == 0
+    return found
+
+
+def state_now(server, folder):
+    """The state of a desk that is running, by a checkpoint of its journal."""
+    server.send(frame(1, FRONT, checkpoint()))
+    assert server.receive(1)[0].answer is not None
+    found = []
+    for name in ("first.kdjl", "second.kdjl"):
+        with open(f"{folder}/{name}", "rb") as it:
+            data = it.read()
+        if data[:4] == b"KDJL" and data[12] == 1:
+            found.append((data[4:12], data[21 : 21 + int.from_bytes(data[13:21], "big")]))
+    return max(found)[1]
+
+
+def ends_alike(cluster):
+    """Stops all, and looks whether each has the state of the groups that it has seen, and all have one image. Returns the calls of clients."""
+    cluster.settle()
+    groups = groups_of(cluster)
+    seen = {it: int(re.findall(r"group (\d+) is next", it.said())[-1]) for it in cluster.machines}
+    assert max(seen.values()) == cluster.next()
+    due = states_by_etcd(cluster, groups, set(seen.values()))
+    with tempfile.TemporaryDirectory(prefix="kfsd-states-") as room:
+        states = {it: it.state(room) for it in cluster.machines}
+    for it, state in states.items():
+        assert state == due[seen[it]], f"{it.name} has another state than that of its {seen[it]} groups"
+    assert len({image_in(state) for state in states.values()}) == 1
+    return [call for number in sorted(groups) for call, _ in groups[number] if call[0] not in FRONTS]
+
+
+def each_is_made_once(calls, clients):
+    """Of the calls that were answered each is among these, once; and so is at most each one that was sent."""
+    counts = collections.Counter(calls)
+    assert max(counts.values()) == 1, "a numbered call was made twice"
+    answered = bare(answered_by(clients))
+    lost = [call for call in answered if not counts[call]]
+    assert not lost, f"{len(lost)} of {len(answered)} answered calls are lost"
+    assert set(counts) <= {call for it in clients for call in bare(it.sent)}
+
+
+class Calling(Numbering):
+    most = 30_000
+
+
+def run_with_faults(cluster, faults, fault):
+    """Lets clients work while there are so many faults. Returns them, and how long each fault kept them from being answered."""
+    waits = []
+
+    def one():
+        waits.append(fault())
+
+    clients = run_with_kills(cluster, faults, one, Calling, lambda *_: worked(cluster))
+    return clients, waits
+
+
+def worked(cluster):
+    """Lets the clients go on for a while."""
+    first = cluster.next()
+    cluster.lock.release()
+    try:
+        cluster.wait_for(lambda: cluster.next() > first + 20)
+    finally:
+        cluster.lock.acquire()
+
+
+# ---- Tests
+
+def a_standby_takes_over(made):
+    """The leader is told to stop: another one knows all that was answered, the outcomes of numbered calls among it. Then it is killed."""
+    with Cluster(made) as cluster:
+        first = cluster.leader()
+        assert sum(os.path.exists(f"{it.room}/socket") for it in cluster.machines) == 1, "two of them take connections"
+        seven = first.connect(7)
+        answer = seven.ask(1, numbered(5, lease(7, 1 << 40, writes=True))).answer
+        assert answer[4] == 4 and seven.ask(2, numbered(6, submission(0))).answer[4] == YES
+        moment, began = seven.moment()[0], time.monotonic()
+        assert first.stop()[0] == 0
+        second, quick = cluster.another_leads()
+        seven = second.connect(7)
+        assert seven.ask(1, numbered(5)).answer == AGAIN + answer[4:]
+        assert seven.ask(2, submission(0)).answer[4] == NO and seven.ask(3, numbered(7, submission(1))).answer[4] == YES
+        assert moment <= seven.moment()[0] <= moment + (time.monotonic() - began) + 1
+        assert second.connect(8).ask(1, lease(8, 100, writes=True)).answer[4] == 8
+        told = seven.times(2)
+        second.process.kill()
+        third, took = cluster.another_leads()
+        assert third.connect(7).ask(1, numbered(7)).answer[4] == YES
+        assert third.connect(7).times(2) == told is not None
+        first.begin()
+        ends_alike(cluster)
+        print(f"    told to stop, another one led {quick:.1f} s behind its end; killed, {took:.1f} s")
+
+
+def leaders_killed(made):
+    """The leader is killed 6 times under load of 8 users, who send again what wasn't answered."""
+    with Cluster(made, users=USERS) as cluster:
+
+        def kill():
+            leader = cluster.leader()
+            leader.process.kill()
+            leader.process.wait()
+            return cluster.another_leads()[1]
+
+        clients, waits = run_with_faults(cluster, 6, kill)
+        each_is_made_once(ends_alike(cluster), clients)
+        say("6 kills of the leader", clients)
+        print(f"    another one led after {' '.join(f'{it:.1f}' for it in sorted(waits))} s")
+
+
+def leaders_cut_off(made):
+    """The leader's machine loses its wire 3 times under load, and has it back. Its kfsd stops, and follows again."""
+    with Cluster(made, users=USERS) as cluster:
+
+        def cut():
+            leader, count = cluster.leader(), len(cluster.leader().statuses)
+            leader.cut(True)
+            wait = cluster.another_leads()[1]
+            cluster.wait_for(lambda: len(leader.statuses) > count)
+            assert leader.statuses[-1] == LOST
+            leader.cut(False)
+            return wait
+
+        clients, waits = run_with_faults(cluster, 3, cut)
+        each_is_made_once(ends_alike(cluster), clients)
+        say("3 leaders cut off", clients)
+        print(f"    another one led after {' '.join(f'{it:.1f}' for it in sorted(waits))} s")
+
+
+def leaders_that_stand_still(made):
+    """The leader's kfsd and kfs_serve stand still for longer than its lease, with calls and look-ups before it. It answers none of them when it goes on."""
+    with Cluster(made, users=USERS) as cluster:
+
+        def stand():
+            leader, began = cluster.leader(), time.monotonic()
+            held = leader.connect(20)
+            os.kill(leader.process.pid, signal.SIGSTOP)
+            held.send(1, numbered(1 << 60))
+            held.send(2, numbered((1 << 60) + round(began * 1000), lease(20, 1 << 41)))
+            wait = cluster.another_leads()[1]
+            count = len(leader.statuses)
+            os.kill(leader.process.pid, signal.SIGCONT)
+            said = []
+            try:
+                while True:
+                    said.append(held.reply())
+            except Gone:
+                pass
+            assert all(it.refusal in (UNKNOWN, ("Stopping", 0)) for it in said), said
+            cluster.wait_for(lambda: len(leader.statuses) > count)
+            assert leader.statuses[-1] == LOST
+            return wait
+
+        clients, waits = run_with_faults(cluster, 3, stand)
+        calls = ends_alike(cluster)
+        assert lease(20, 1 << 41) not in calls, "a call was made behind the end of a lease"
+        each_is_made_once(calls, clients)
+        say("3 leaders stood still", clients)
+        print(f"    another one led after {' '.join(f'{it:.1f}' for it in sorted(waits))} s")
+
+
+def members_of_etcd_killed(made):
+    """A member of etcd is killed 3 times under load, the one that the leader asks first among them, and started again."""
+    with Cluster(made, users=USERS) as cluster:
+        chance = random.Random(7)
+
+        def kill():
+            machine = chance.choice([cluster.leader(), *cluster.machines])
+            machine.kill_etcd()
+            began = time.monotonic()
+            cluster.leader()
+            first = cluster.next()
+            cluster.lock.release()
+            try:
+                cluster.wait_for(lambda: cluster.next() > first)
+            finally:
+                cluster.lock.acquire()
+            wait = time.monotonic() - began
+            machine.start_etcd()
+            cluster.wait_for(lambda: cluster.etcdctl("endpoint", "health").returncode == 0)
+            return wait
+
+        clients, waits = run_with_faults(cluster, 3, kill)
+        each_is_made_once(ends_alike(cluster), clients)
+        say("3 members of etcd killed", clients)
+        print(f"    calls went on after {' '.join(f'{it:.1f}' for it in sorted(waits))} s; kfsd ended {sum(len(it.statuses) for it in cluster.machines)} times")
+
+
+def files_created_once_on_machines(made):
+    """200 files are created while the leader is killed 4 times: each is answered Yes, and is in each image once."""
+    with Cluster(made, users=[user(1000, 7, (2, 999)), user(1001, 8)]) as cluster:
+        assert cluster.leader().connect(7).ask(0, lease(7, 1 << 40, writes=True)).answer
+        is_over, faults = threading.Event(), []
+
+        def kill_now_and_then():
+            try:
+                for _ in range(4):
+                    first = cluster.next()
+                    cluster.wait_for(lambda first=first: cluster.next() > first + 25)
+                    leader = cluster.leader()
+                    leader.process.kill()
+                    leader.process.wait()
+                    cluster.another_leads()
+            except BaseException as fault:  # noqa: BLE001
+                faults.append(fault)
+            is_over.set()
+
+        killing = threading.Thread(target=kill_now_and_then)
+        killing.start()
+        again, at = 0, 0
+        while at < FILES or not is_over.is_set():
+            answer, count = asked_until_answered(cluster, at, submission(at))
+            assert answer[4] == YES, (at, answer, count)
+            again += count > 1
+            at += 1
+        killing.join()
+        assert not faults, faults[0]
+        calls = ends_alike(cluster)
+        counts = collections.Counter(calls)
+        assert all(counts[submission(it)] == 1 for it in range(at))
+        print(f"    {again} of {at} files were asked for again, and each was created once")
+
+
+def asked_until_answered(cluster, number, call):
+    """The answer to a numbered call of client 7, over as many connections as it takes; and how often it was asked for."""
+    for count in range(1, 1000):
+        connection = cluster.connect_or_none(7)
+        try:
+            reply = connection.ask(1, numbered(number, call)) if connection else None
+        except (Gone, OSError):
+            reply = None
+        if reply and reply.answer is not None:
+            return reply.answer, count
+        assert reply is None or reply.refusal in (UNKNOWN, UNDER_WAY, ("Stopping", 0)), reply
+        time.sleep(0.02)
+    raise AssertionError("no answer comes")
+
+
+def long_calls_go_in_parts(made):
+    """Calls that are longer than a value of etcd may be are put in parts, and made by all."""
+    with Cluster(made) as cluster:
+        calls = [struct.pack(">BII", 1, 7, length) + bytes(length) + bytes(4) for length in (999_970, 999_990, 3_500_000)]
+        for at, call in enumerate(calls):
+            assert cluster.leader().connect(7).ask(at, numbered(at, call)).answer[4] == NO
+        leader = cluster.leader()
+        leader.process.kill()
+        second, _ = cluster.another_leads()
+        assert all(second.connect(7).ask(1, numbered(at)).answer[4] == NO for at in range(3))
+        assert ends_alike(cluster) == calls
+        assert len(cluster.rows("part/", "--keys-only")) == 6
+
+
+def a_desk_that_differs_stops(made):
+    """A standby whose answer isn't the leader's says so, and ends with a status of its own."""
+    with Cluster(made) as cluster:
+        leader = cluster.leader()
+        assert leader.connect(7).ask(1, lease(7, 10)).answer[4] == 4
+        other = next(it for it in cluster.machines if it is not leader)
+        assert other.stop()[0] == 0
+        key, value = cluster.rows("group/")[0]
+        # The node of the lease is another one.
+        changed = value[:-1] + bytes([value[-1] ^ 1])
+        assert cluster.etcdctl("put", key, "--", changed.decode("latin1")).returncode == 0 and changed.isascii()
+        other.begin()
+        other.is_wanted = False
+        assert other.ended() == DIFFERS and "the two desks differ" in other.said()
+        assert leader.connect(7).ask(2, lease(7, 11)).answer[4] == 4
+
+
+TESTS = [
+    a_standby_takes_over, leaders_killed, leaders_cut_off, leaders_that_stand_still, members_of_etcd_killed, files_created_once_on_machines, long_calls_go_in_parts,
+    a_desk_that_differs_stops,
+] if is_possible() else []

@@ -1,0 +1,249 @@
+"""Machines of one volume: each is a network namespace of its own, with a member of etcd and a kfsd. None of them reaches another network."""
+import base64
+import contextlib
+import json
+import os
+import shutil
+import signal
+import subprocess
+import tempfile
+import threading
+import time
+
+from running import FRONT, SOON, Daemon, frame, kept_in
+
+from frames import Server, checkpoint  # noqa: I001
+
+NETWORK, CLIENTS_PORT, PEERS_PORT = "10.77.0", 2379, 2380
+VOLUME = "volume"
+NAMES = ("a", "b", "c")
+# kfsd ends with it where it leads no more: a new start makes it a member again.
+LOST = 5
+
+
+def ip(*words, check=True):
+    return subprocess.run(["ip", *words], check=check, capture_output=True, text=True)
+
+
+class Machine(Daemon):
+    """A namespace, and what runs in it."""
+
+    def __init__(self, cluster, name, made, **settings):
+        super().__init__(*made, **settings)
+        self.cluster, self.name = cluster, name
+        at = NAMES.index(name)
+        self.space, self.address = f"{cluster.space}-{name}", f"{NETWORK}.{at + 1}"
+        self.etcd, self.is_wanted = None, False
+        self.statuses = []
+
+    @property
+    def replica(self):
+        return f"{self.folder}/replica"
+
+    def put_config(self):
+        super().put_config()
+        settings = {"etcd": [f"{it.address}:{CLIENTS_PORT}" for it in self.cluster.in_order(self)], "volume": VOLUME, "member": self.name, **self.cluster.settings}
+        with open(f"{self.room}/kfsd.toml", "a", encoding="utf-8") as it:
+            it.write("\n".join(["[cluster]", *(f"{name} = {json.dumps(value)}" for name, value in settings.items())]) + "\n")
+
+    def link(self):
+        """Makes the namespace, and its wire to the others."""
+        ip("netns", "add", self.space)
+        ip("-n", self.cluster.space, "link", "add", f"w{self.name}", "type", "veth", "peer", "name", "wire", "netns", self.space)
+        ip("-n", self.cluster.space, "link", "set", f"w{self.name}", "master", "hub", "up")
+        ip("-n", self.space, "addr", "add", f"{self.address}/24", "dev", "wire")
+        for device in ("lo", "wire"):
+            ip("-n", self.space, "link", "set", device, "up")
+
+    def cut(self, is_cut):
+        """Takes the wire away, or gives it back."""
+        ip("-n", self.cluster.space, "link", "set", f"w{self.name}", "down" if is_cut else "up")
+
+    def start_etcd(self):
+        own = f"http://{self.address}"
+        words = {
+            "name": self.name, "data-dir": f"{self.room}/etcd", "listen-client-urls": f"{own}:{CLIENTS_PORT}", "advertise-client-urls": f"{own}:{CLIENTS_PORT}",
+            "listen-peer-urls": f"{own}:{PEERS_PORT}", "initial-advertise-peer-urls": f"{own}:{PEERS_PORT}", "initial-cluster-token": self.cluster.space,
+            "initial-cluster": ",".join(f"{it.name}=http://{it.address}:{PEERS_PORT}" for it in self.cluster.machines),
+        }
+        with open(f"{self.room}/etcd.log", "ab") as log:
+            self.etcd = subprocess.Popen(["ip", "netns", "exec", self.space, "etcd", *(f"--{name}={value}" for name, value in words.items())], stdout=log, stderr=log)
+
+    def kill_etcd(self):
+        self.etcd.kill()
+        self.etcd.wait()
+
+    def begin(self):
+        """Starts kfsd, without waiting."""
+        self.put_config()
+        words = ["ip", "netns", "exec", self.space, f"{self.binaries}/kfsd", "--verbose", "--config", f"{self.room}/kfsd.toml"]
+        with open(self.log, "ab") as log:
+            self.process = subprocess.Popen(words, stdin=subprocess.DEVNULL, stdout=log, stderr=log)
+        self.is_wanted = True
+
+    def look_after(self):
+        """Starts kfsd anew where it has ended, as its unit does where its status lets it."""
+        if self.is_wanted and self.process.poll() is not None:
+            self.statuses.append(self.process.returncode)
+            assert self.process.returncode in (LOST, -signal.SIGKILL), f"kfsd {self.name} has ended with status {self.process.returncode}"
+            self.begin()
+
+    def stop(self):
+        self.is_wanted = False
+        return super().stop()
+
+    def state(self, room):
+        """The bytes of the state that the files stand for. kfsd has ended."""
+        copy = f"{room}/{self.name}"
+        shutil.copytree(self.replica, copy)
+        server = Server([self.program, "open", copy, str((1 << 32) - 1)])
+        server.send(frame(1, FRONT, checkpoint()))
+        assert server.receive(1)[0].answer is not None
+        assert server.close() == 0
+        found = []
+        for name in ("first.kdjl", "second.kdjl"):
+            with open(f"{copy}/{name}", "rb") as it:
+                data = it.read()
+            if data[:4] == b"KDJL" and data[12] == 1:
+                found.append((data[4:12], data[21 : 21 + int.from_bytes(data[13:21], "big")]))
+        return max(found)[1]
+
+    def kept(self):
+        return kept_in(self.replica)[1]
+
+    def __exit__(self, *fault):
+        self.is_wanted = False
+        super().__exit__(*fault)
+        if self.etcd and self.etcd.poll() is None:
+            self.kill_etcd()
+
+
+class Cluster:
+    """Three machines and the wire between them. Threads connect to whichever leads."""
+
+    def __init__(self, made, settings=None, **words):
+        self.space = f"kfsd-{os.getpid()}"
+        self.settings = settings or {}
+        self.lock = threading.Lock()
+        # The revision at which the leader's key came to be that was found last.
+        self.term = 0
+        self.machines = []
+        self.machines = [Machine(self, name, made, **words) for name in NAMES]
+        self.held = contextlib.ExitStack()
+        self.users = self.machines[0].users
+
+    def in_order(self, first):
+        """The machines, this one first."""
+        return [first, *(it for it in self.machines if it is not first)]
+
+    def __enter__(self):
+        try:
+            self.start()
+        except BaseException as fault:
+            self.held.__exit__(type(fault), fault, fault.__traceback__)
+            raise
+        return self
+
+    def start(self):
+        """Makes the namespaces, and starts all in them. Returns when one leads."""
+        self.held.callback(self.unlink)
+        ip("netns", "add", self.space)
+        ip("-n", self.space, "link", "add", "hub", "type", "bridge")
+        ip("-n", self.space, "link", "set", "hub", "up")
+        for it in self.machines:
+            self.held.push(it.__exit__)
+            it.link()
+        for it in self.machines:
+            it.start_etcd()
+        self.wait_for(lambda: self.etcdctl("endpoint", "health").returncode == 0)
+        for it in self.machines:
+            it.begin()
+        self.leader()
+
+    def __exit__(self, *fault):
+        return self.held.__exit__(*fault)
+
+    def unlink(self):
+        for it in (*self.machines, self):
+            ip("netns", "del", it.space, check=False)
+
+    def wait_for(self, is_so, seconds=2 * SOON):
+        end = time.monotonic() + seconds
+        while not is_so():
+            assert time.monotonic() < end, "nothing came in time"
+            self.look_after()
+            time.sleep(0.02)
+
+    def look_after(self):
+        for it in self.machines:
+            if it.process:
+                it.look_after()
+
+    def etcdctl(self, *words):
+        """Asks etcd from a machine whose wire is there."""
+        endpoints = ",".join(f"{it.address}:{CLIENTS_PORT}" for it in self.machines)
+        words = ["ip", "netns", "exec", self.space_of_etcd(), "etcdctl", "--endpoints", endpoints, "--command-timeout=2s", *words]
+        return subprocess.run(words, check=False, capture_output=True, text=True, env={**os.environ, "ETCDCTL_API": "3"})
+
+    def space_of_etcd(self):
+        return next(it for it in self.machines if it.etcd and it.etcd.poll() is None).space
+
+    def asked(self, first, *words):
+        """What etcd has at the keys of the volume that begin so."""
+        end = time.monotonic() + SOON
+        while True:
+            said = self.etcdctl("get", "--prefix", f"kfsd/{VOLUME}/{first}", "-w", "json", *words)
+            if said.returncode == 0:
+                return json.loads(said.stdout).get("kvs", [])
+            # It has no leader of its own for a while.
+            assert time.monotonic() < end, said.stderr
+
+    def rows(self, first, *words):
+        """The keys and values of the volume that begin so."""
+        return [(base64.b64decode(row["key"]).decode(), base64.b64decode(row.get("value", ""))) for row in self.asked(first, *words)]
+
+    def leader(self, behind=0):
+        """The machine that leads by a key that came to be behind this revision, once its socket is there."""
+        found = []
+
+        def is_there():
+            for row in self.asked("leader"):
+                name = base64.b64decode(row["value"]).decode()
+                found[:] = [it for it in self.machines if it.name == name and row["create_revision"] > behind and os.path.exists(f"{it.room}/socket")]
+                self.term = row["create_revision"]
+            return bool(found)
+
+        self.wait_for(is_there)
+        return found[0]
+
+    def another_leads(self):
+        """The machine that leads behind the one that did when it was asked for last, and how long that took."""
+        began = time.monotonic()
+        return self.leader(self.term), time.monotonic() - began
+
+    def next(self):
+        """The number of the next group."""
+        return int(self.rows("next")[0][1], 16)
+
+    def connect_or_none(self, client):
+        """A connection to a kfsd that takes one."""
+        for it in self.machines:
+            with contextlib.suppress(OSError):
+                return it.connect(client)
+        return None
+
+    def settle(self):
+        """Waits until each member has made the calls of all groups, and stops all, the leader last. Returns the states that they have."""
+        leader, last = self.leader(), self.next()
+        with tempfile.TemporaryDirectory(prefix="kfsd-states-") as room:
+            others = [it for it in self.machines if it is not leader]
+            for it in others:
+                it.wait_for(lambda it=it: f"group {last} is next" in it.said())
+                assert it.stop()[0] == 0
+            assert leader.stop()[0] == 0
+            return [it.state(room) for it in self.machines]
+
+
+def is_possible():
+    """Whether there are etcd and namespaces here."""
+    return bool(shutil.which("etcd") and shutil.which("etcdctl")) and ip("netns", "list", check=False).returncode == 0
