@@ -126,13 +126,14 @@ def run_with_faults(cluster, faults, fault):
     return clients, waits
 
 
-def worked(cluster):
-    """Lets the clients go on for a while."""
-    first = cluster.next()
-    cluster.lock.release()
-    try:
-        cluster.wait_for(lambda: cluster.next() > first + 20)
-    finally:
+def worked(cluster, count=20):
+    """Lets the clients go on for so many groups. Who calls it has the lock, and has it again behind it."""
+    last, end = cluster.next() + count, time.monotonic() + 60
+    while cluster.next() < last:
+        assert time.monotonic() < end, "no call is answered"
+        cluster.look_after()
+        cluster.lock.release()
+        time.sleep(0.1)
         cluster.lock.acquire()
 
 
@@ -241,12 +242,7 @@ def members_of_etcd_killed(made):
             machine.kill_etcd()
             began = time.monotonic()
             cluster.leader()
-            first = cluster.next()
-            cluster.lock.release()
-            try:
-                cluster.wait_for(lambda: cluster.next() > first)
-            finally:
-                cluster.lock.acquire()
+            worked(cluster, 1)
             wait = time.monotonic() - began
             machine.start_etcd()
             cluster.wait_for(lambda: cluster.etcdctl("endpoint", "health").returncode == 0)
@@ -267,12 +263,12 @@ def files_created_once_on_machines(made):
         def kill_now_and_then():
             try:
                 for _ in range(4):
-                    first = cluster.next()
-                    cluster.wait_for(lambda first=first: cluster.next() > first + 25)
-                    leader = cluster.leader()
-                    leader.process.kill()
-                    leader.process.wait()
-                    cluster.another_leads()
+                    with cluster.lock:
+                        worked(cluster)
+                        leader = cluster.leader()
+                        leader.process.kill()
+                        leader.process.wait()
+                        cluster.another_leads()
             except BaseException as fault:  # noqa: BLE001
                 faults.append(fault)
             is_over.set()
@@ -296,7 +292,8 @@ def files_created_once_on_machines(made):
 def asked_until_answered(cluster, number, call):
     """The answer to a numbered call of client 7, over as many connections as it takes; and how often it was asked for."""
     for count in range(1, 1000):
-        connection = cluster.connect_or_none(7)
+        with cluster.lock:
+            connection = cluster.connect_or_none(7)
         try:
             reply = connection.ask(1, numbered(number, call)) if connection else None
         except (Gone, OSError):
@@ -311,7 +308,7 @@ def asked_until_answered(cluster, number, call):
 def long_calls_go_in_parts(made):
     """Calls that are longer than a value of etcd may be are put in parts, and made by all."""
     with Cluster(made) as cluster:
-        calls = [struct.pack(">BII", 1, 7, length) + bytes(length) + bytes(4) for length in (999_970, 999_990, 3_500_000)]
+        calls = [struct.pack(">BII", 1, 7, length) + bytes(length) + bytes(4) for length in (999_900, 999_901, 3_500_000)]
         for at, call in enumerate(calls):
             assert cluster.leader().connect(7).ask(at, numbered(at, call)).answer[4] == NO
         leader = cluster.leader()
@@ -319,7 +316,8 @@ def long_calls_go_in_parts(made):
         second, _ = cluster.another_leads()
         assert all(second.connect(7).ask(1, numbered(at)).answer[4] == NO for at in range(3))
         assert ends_alike(cluster) == calls
-        assert len(cluster.rows("part/", "--keys-only")) == 6
+        # with its marker and the answers the second one has 10^6 bytes
+        assert len(cluster.rows("part/", "--keys-only")) == 5
 
 
 def a_desk_that_differs_stops(made):
@@ -332,7 +330,7 @@ def a_desk_that_differs_stops(made):
         key, value = cluster.rows("group/")[0]
         # The node of the lease is another one.
         changed = value[:-1] + bytes([value[-1] ^ 1])
-        assert cluster.etcdctl("put", key, "--", changed.decode("latin1")).returncode == 0 and changed.isascii()
+        assert cluster.etcdctl("put", key, data=changed).returncode == 0
         other.begin()
         other.is_wanted = False
         assert other.ended() == DIFFERS and "the two desks differ" in other.said()

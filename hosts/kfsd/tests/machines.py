@@ -14,7 +14,7 @@ from running import FRONT, SOON, Daemon, frame, kept_in
 
 from frames import Server, checkpoint  # noqa: I001
 
-NETWORK, CLIENTS_PORT, PEERS_PORT = "10.77.0", 2379, 2380
+NETWORK, HUB, CLIENTS_PORT, PEERS_PORT = "10.77.0", 254, 2379, 2380
 VOLUME = "volume"
 NAMES = ("a", "b", "c")
 # kfsd ends with it where it leads no more: a new start makes it a member again.
@@ -33,7 +33,7 @@ class Machine(Daemon):
         self.cluster, self.name = cluster, name
         at = NAMES.index(name)
         self.space, self.address = f"{cluster.space}-{name}", f"{NETWORK}.{at + 1}"
-        self.etcd, self.is_wanted = None, False
+        self.etcd, self.is_wanted, self.is_cut = None, False, False
         self.statuses = []
 
     @property
@@ -57,6 +57,7 @@ class Machine(Daemon):
 
     def cut(self, is_cut):
         """Takes the wire away, or gives it back."""
+        self.is_cut = is_cut
         ip("-n", self.cluster.space, "link", "set", f"w{self.name}", "down" if is_cut else "up")
 
     def start_etcd(self):
@@ -149,6 +150,7 @@ class Cluster:
         self.held.callback(self.unlink)
         ip("netns", "add", self.space)
         ip("-n", self.space, "link", "add", "hub", "type", "bridge")
+        ip("-n", self.space, "addr", "add", f"{NETWORK}.{HUB}/24", "dev", "hub")
         ip("-n", self.space, "link", "set", "hub", "up")
         for it in self.machines:
             self.held.push(it.__exit__)
@@ -179,14 +181,11 @@ class Cluster:
             if it.process:
                 it.look_after()
 
-    def etcdctl(self, *words):
-        """Asks etcd from a machine whose wire is there."""
-        endpoints = ",".join(f"{it.address}:{CLIENTS_PORT}" for it in self.machines)
-        words = ["ip", "netns", "exec", self.space_of_etcd(), "etcdctl", "--endpoints", endpoints, "--command-timeout=2s", *words]
-        return subprocess.run(words, check=False, capture_output=True, text=True, env={**os.environ, "ETCDCTL_API": "3"})
-
-    def space_of_etcd(self):
-        return next(it for it in self.machines if it.etcd and it.etcd.poll() is None).space
+    def etcdctl(self, *words, data=None):
+        """Asks the members of etcd that can be reached."""
+        endpoints = ",".join(f"{it.address}:{CLIENTS_PORT}" for it in self.machines if not it.is_cut and it.etcd.poll() is None)
+        words = ["ip", "netns", "exec", self.space, "etcdctl", "--endpoints", endpoints, "--command-timeout=2s", *words]
+        return subprocess.run(words, check=False, input=data, capture_output=True, env={**os.environ, "ETCDCTL_API": "3"})
 
     def asked(self, first, *words):
         """What etcd has at the keys of the volume that begin so."""
