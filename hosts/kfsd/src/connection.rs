@@ -19,7 +19,6 @@ use std::pin::Pin;
 use std::sync::Arc;
 use std::time::{Duration, Instant};
 use tokio::io::{sink, AsyncRead, AsyncReadExt, AsyncWrite, AsyncWriteExt, BufReader};
-use tokio::net::UnixStream;
 use tokio::sync::{mpsc, oneshot, watch, AcquireError, Semaphore};
 use tokio::time::{sleep, timeout};
 use tracing::debug;
@@ -48,6 +47,14 @@ pub struct Shared {
     pub table: watch::Receiver<Arc<Table>>,
     /// Whether no frame is read any more.
     pub stopping: watch::Receiver<bool>,
+}
+
+impl Shared {
+    /// A place for one more connection of a user, where it is listed and may have one.
+    pub fn place_of(&self, uid: u32) -> Result<Place, Refusal> {
+        let account = self.table.borrow().of(uid).ok_or(Refusal::Unlisted)?;
+        account.connect(self.limits.connections_a_user).ok_or(Refusal::TooMany)
+    }
 }
 
 /// Why no frame is read any more.
@@ -137,9 +144,8 @@ enum Said {
 }
 
 /// Serves a connection to its end.
-pub async fn serve(stream: UnixStream, place: Place, shared: Arc<Shared>) {
+pub async fn serve(from: impl AsyncRead + Unpin, to: impl AsyncWrite + Unpin, place: Place, shared: Arc<Shared>) {
     let limits = &shared.limits;
-    let (from, to) = stream.into_split();
     // There is room for as many as may be under way, so a reader doesn't wait here.
     let (slots, waiting) = mpsc::channel(limits.frames_a_connection as usize);
     let mut reader = Reader {

@@ -151,16 +151,15 @@ impl Place {
             Some(settings) => settings,
         };
         let lines = lines_of(&config.users);
-        let joining = Member::join(settings, config.program.clone(), folder, config.rows, config.tiers, &lines);
-        Ok(Place::Member(joining.await.map_err(DeskFault::Cluster)?))
+        Ok(Place::Member(Member::join(settings, config, folder, &lines).await.map_err(DeskFault::Cluster)?))
     }
 
     /// The lines of the clients of the desk.
     fn clients(&self, config: &Config) -> Result<String, DaemonFault> {
         match self {
-            Place::Alone(folder) => folder
-                .clients(&lines_of(&config.users))
-                .map_err(|fault| DaemonFault::Io(folder.clients_path(), fault)),
+            Place::Alone(folder) => {
+                folder.clients(&lines_of(&config.users)).map_err(|fault| DaemonFault::Io(folder.clients_path(), fault))
+            }
             Place::Member(member) => Ok(member.clients().to_string()),
         }
     }

@@ -21,7 +21,7 @@ use tracing::warn;
 const REST: Duration = Duration::from_millis(100);
 
 /// A socket of a path, which goes with it.
-struct Socket {
+pub struct Socket {
     listener: UnixListener,
     path: PathBuf,
 }
@@ -41,6 +41,16 @@ impl Socket {
         fs::set_permissions(path, Permissions::from_mode(mode)).map_err(failed)?;
         Ok(socket)
     }
+
+    /// Binds the path where clients connect. Who may do what is looked up in the table of users, so each may connect.
+    pub fn for_clients(path: &Path) -> Result<Socket, DaemonFault> {
+        Socket::bind(path, 0o666)
+    }
+
+    /// The next connection.
+    pub async fn accept(&self) -> io::Result<UnixStream> {
+        Ok(self.listener.accept().await?.0)
+    }
 }
 
 impl Drop for Socket {
@@ -59,11 +69,7 @@ pub struct Sockets {
 impl Sockets {
     /// Binds both.
     pub fn bind(config: &Config) -> Result<Sockets, DaemonFault> {
-        Ok(Sockets {
-            // Who may do what is looked up in the table of users, so each may connect.
-            clients: Socket::bind(&config.socket, 0o666)?,
-            control: Socket::bind(&config.control, 0o600)?,
-        })
+        Ok(Sockets { clients: Socket::for_clients(&config.socket)?, control: Socket::bind(&config.control, 0o600)? })
     }
 }
 
@@ -73,16 +79,16 @@ pub async fn accept(sockets: Sockets, shared: Arc<Shared>) {
     let mut tasks = JoinSet::new();
     loop {
         tokio::select! {
-            taken = sockets.clients.listener.accept() => match taken {
-                Ok((stream, _)) => {
+            taken = sockets.clients.accept() => match taken {
+                Ok(stream) => {
                     take(stream, &shared, &mut tasks);
                     // Where one comes after another, the tasks of those that were taken wait for this one else.
                     yield_now().await;
                 }
                 Err(fault) => rest(fault).await,
             },
-            taken = sockets.control.listener.accept() => match taken {
-                Ok((stream, _)) => drop(tokio::spawn(control::serve(stream, Arc::clone(&shared)))),
+            taken = sockets.control.accept() => match taken {
+                Ok(stream) => drop(tokio::spawn(control::serve(stream, Arc::clone(&shared)))),
                 Err(fault) => rest(fault).await,
             },
             Some(_) = tasks.join_next() => {}
@@ -93,19 +99,15 @@ pub async fn accept(sockets: Sockets, shared: Arc<Shared>) {
     while tasks.join_next().await.is_some() {}
 }
 
-async fn rest(fault: io::Error) {
+/// Rests where no connection can be taken.
+pub async fn rest(fault: io::Error) {
     warn!("no connection is taken: {fault}");
     sleep(REST).await;
 }
 
 /// Has a connection served, where its user is listed and may have one more.
 fn take(stream: UnixStream, shared: &Arc<Shared>, tasks: &mut JoinSet<()>) {
-    let account = uid_of(&stream).ok().and_then(|uid| shared.table.borrow().of(uid));
-    let place = match account {
-        None => Err(Refusal::Unlisted),
-        Some(account) => account.connect(shared.limits.connections_a_user).ok_or(Refusal::TooMany),
-    };
-    match place {
+    match uid_of(&stream).map_or(Err(Refusal::Unlisted), |uid| shared.place_of(uid)) {
         Ok(place) => {
             shared.figures.connections.add(1);
             let (wait, shared) = (place.account.arrivals.wait(), Arc::clone(shared));
@@ -113,7 +115,8 @@ fn take(stream: UnixStream, shared: &Arc<Shared>, tasks: &mut JoinSet<()>) {
                 if !wait.is_zero() {
                     sleep(wait).await;
                 }
-                connection::serve(stream, place, shared).await;
+                let (from, to) = stream.into_split();
+                connection::serve(from, to, place, shared).await;
             });
         }
         Err(refusal) => {
@@ -124,7 +127,7 @@ fn take(stream: UnixStream, shared: &Arc<Shared>, tasks: &mut JoinSet<()>) {
 }
 
 /// Tells why, and closes. A new connection has room for it.
-fn turn_away(stream: UnixStream, refusal: Refusal) {
+pub fn turn_away(stream: UnixStream, refusal: Refusal) {
     if let Ok(mut stream) = stream.into_std() {
         // It is told as far as it hears.
         let _ = stream.write_all(&refusal.reply(0));

@@ -34,6 +34,11 @@ impl Times {
         self.of = kept.into_iter().collect();
     }
 
+    /// The stamps of all nodes.
+    pub fn all(&self) -> Vec<(u32, Stamp)> {
+        self.of.iter().map(|(node, stamp)| (*node, *stamp)).collect()
+    }
+
     /// The stamp of a node.
     pub fn of(&self, node: u32) -> Option<Stamp> {
         self.of.get(&node).copied()

@@ -3,6 +3,7 @@ import collections
 import os
 import random
 import re
+import shutil
 import signal
 import struct
 import tempfile
@@ -24,15 +25,18 @@ TICK, MIGRATE = 4, 5
 # ---- What is in etcd, and what the files stand for
 
 def groups_of(cluster):
-    """All groups by their numbers: the calls of each, with their answers."""
-    parts, found = collections.defaultdict(list), {}
-    for key, value in cluster.rows("part/"):
-        parts[int(key.split("/")[3], 16)].append(value)
-    for key, row in cluster.rows("group/"):
-        number = int(key.rpartition("/")[2], 16)
-        count = None if row[0] == 1 else int.from_bytes(row[1:], "big")
-        found[number] = calls_in(row[1:] if count is None else b"".join(parts[number][:count]))
-    assert sorted(found) == list(range(cluster.next())), "a group is missing"
+    """All groups by their numbers, also those that were removed: the calls of each, with their answers. Each was put once, in the order of their numbers."""
+    count = cluster.next()
+    cluster.wait_for(lambda: any(key == f"group/{count - 1:016x}" for _, key, _ in cluster.puts()) or count == 0)
+    parts, found = {}, {}
+    for _, key, value in cluster.puts():
+        if key.startswith("part/"):
+            parts[key] = value
+        if key.startswith("group/"):
+            number = int(key.rpartition("/")[2], 16)
+            assert number == len(found), f"group {number} comes behind group {len(found) - 1}"
+            whole = value[1:] if value[0] == 1 else b"".join(parts[f"part/{number:016x}/{at:08x}"] for at in range(int.from_bytes(value[1:], "big")))
+            found[number] = calls_in(whole)
     return found
 
 
@@ -143,7 +147,7 @@ def a_standby_takes_over(made):
     """The leader is told to stop: another one knows all that was answered, the outcomes of numbered calls among it. Then it is killed."""
     with Cluster(made) as cluster:
         first = cluster.leader()
-        assert sum(os.path.exists(f"{it.room}/socket") for it in cluster.machines) == 1, "two of them take connections"
+        assert sum(it.leads() for it in cluster.machines) == 1
         seven = first.connect(7)
         answer = seven.ask(1, numbered(5, lease(7, 1 << 40, writes=True))).answer
         assert answer[4] == 4 and seven.ask(2, numbered(6, submission(0))).answer[4] == YES
@@ -163,6 +167,65 @@ def a_standby_takes_over(made):
         first.begin()
         ends_alike(cluster)
         print(f"    told to stop, another one led {quick:.1f} s behind its end; killed, {took:.1f} s")
+
+
+def connections_are_handed_on(made):
+    """A member that doesn't lead hands connections on, each as its user's. They end where another one leads, and at the same path there is the next."""
+    with Cluster(made) as cluster:
+        leader = cluster.leader()
+        other, third = (it for it in cluster.machines if it is not leader)
+        seven, eight = other.connect(7), third.connect(8)
+        assert seven.ask(1, numbered(5, lease(7, 1 << 40, writes=True))).answer[4] == 4
+        assert eight.ask(1, lease(8, 10, writes=True)).answer[4] == 8 and eight.ask(2, lease(7, 10), sender=7).refusal == ("NotYours", 0)
+        assert other.stranger(12345).reply().refusal == ("Unlisted", 0)
+        burst = b"".join(frame(at, 7, numbered(100 + at, lease(7, (1 << 40) + at))) for at in range(50))
+        seven.socket.sendall(burst)
+        assert [seven.reply().number for _ in range(50)] == list(range(50))
+        assert leader.status()["frames"]["answered"] >= 52
+        leader.process.kill()
+        assert seven.is_ended() and eight.is_ended()
+        cluster.another_leads()
+        for it in (other, third):
+            answer, _ = asked_until_answered(it, 5, lease(7, 1 << 40, writes=True))
+            assert answer[:4] == AGAIN
+        ends_alike(cluster)
+
+
+def a_new_standby_fetches_a_state(made):
+    """Groups that two members keep a state of are removed. One that was away for long, and one without files, begin with a state of another one."""
+    with Cluster(made, settings={"state_bytes": 20_000}, users=USERS) as cluster:
+        leader = cluster.leader()
+        away, other = (it for it in cluster.machines if it is not leader)
+        cluster.wait_for(lambda: len(cluster.rows("base/")) == 3)
+        assert away.stop()[0] == 0
+        clients = [Calling(cluster, it["client"]) for it in USERS]
+        try:
+            for it in clients:
+                it.thread.start()
+            with cluster.lock:
+                cluster.wait_for(lambda: "are removed from etcd" in leader.said())
+                worked(cluster)
+                assert int(cluster.rows("group/", "--limit=1")[0][0].rpartition("/")[2], 16) > 0
+                away.begin()
+                away.wait_for(lambda: "has come from" in away.said())
+                worked(cluster)
+                assert other.stop()[0] == 0
+                shutil.rmtree(other.folder)
+                os.mkdir(other.folder, 0o700)
+                other.begin()
+                other.wait_for(lambda: "has come from" in other.said())
+                worked(cluster)
+                leader.process.kill()
+                cluster.another_leads()
+                worked(cluster)
+        finally:
+            for it in clients:
+                it.is_over.set()
+            for it in clients:
+                it.thread.join()
+        assert not [it.fault for it in clients if it.fault]
+        each_is_made_once(ends_alike(cluster), clients)
+        say("states were fetched", clients)
 
 
 def leaders_killed(made):
@@ -289,11 +352,10 @@ def files_created_once_on_machines(made):
         print(f"    {again} of {at} files were asked for again, and each was created once")
 
 
-def asked_until_answered(cluster, number, call):
+def asked_until_answered(place, number, call):
     """The answer to a numbered call of client 7, over as many connections as it takes; and how often it was asked for."""
     for count in range(1, 1000):
-        with cluster.lock:
-            connection = cluster.connect_or_none(7)
+        connection = connected(place)
         try:
             reply = connection.ask(1, numbered(number, call)) if connection else None
         except (Gone, OSError):
@@ -303,6 +365,17 @@ def asked_until_answered(cluster, number, call):
         assert reply is None or reply.refusal in (UNKNOWN, UNDER_WAY, ("Stopping", 0)), reply
         time.sleep(0.02)
     raise AssertionError("no answer comes")
+
+
+def connected(place):
+    """A connection of client 7 to a machine, or to any of several; none where none is taken."""
+    if isinstance(place, Cluster):
+        with place.lock:
+            return place.connect_or_none(7)
+    try:
+        return place.connect(7)
+    except OSError:
+        return None
 
 
 def long_calls_go_in_parts(made):
@@ -317,7 +390,7 @@ def long_calls_go_in_parts(made):
         assert all(second.connect(7).ask(1, numbered(at)).answer[4] == NO for at in range(3))
         assert ends_alike(cluster) == calls
         # with its marker and the answers the second one has 10^6 bytes
-        assert len(cluster.rows("part/", "--keys-only")) == 5
+        assert len([key for _, key, _ in cluster.puts() if key.startswith("part/")]) == 5
 
 
 def a_desk_that_differs_stops(made):
@@ -338,6 +411,6 @@ def a_desk_that_differs_stops(made):
 
 
 TESTS = [
-    a_standby_takes_over, leaders_killed, leaders_cut_off, leaders_that_stand_still, members_of_etcd_killed, files_created_once_on_machines, long_calls_go_in_parts,
+    a_standby_takes_over, connections_are_handed_on, a_new_standby_fetches_a_state, leaders_killed, leaders_cut_off, leaders_that_stand_still, members_of_etcd_killed, files_created_once_on_machines, long_calls_go_in_parts,
     a_desk_that_differs_stops,
 ] if is_possible() else []

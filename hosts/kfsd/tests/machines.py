@@ -3,6 +3,7 @@ import base64
 import contextlib
 import json
 import os
+import random
 import shutil
 import signal
 import subprocess
@@ -14,7 +15,7 @@ from running import FRONT, SOON, Daemon, frame, kept_in
 
 from frames import Server, checkpoint  # noqa: I001
 
-NETWORK, HUB, CLIENTS_PORT, PEERS_PORT = "10.77.0", 254, 2379, 2380
+NETWORK, HUB, CLIENTS_PORT, PEERS_PORT, KFSD_PORT = "10.77.0", 254, 2379, 2380, 9470
 VOLUME = "volume"
 NAMES = ("a", "b", "c")
 # kfsd ends with it where it leads no more: a new start makes it a member again.
@@ -42,7 +43,10 @@ class Machine(Daemon):
 
     def put_config(self):
         super().put_config()
-        settings = {"etcd": [f"{it.address}:{CLIENTS_PORT}" for it in self.cluster.in_order(self)], "volume": VOLUME, "member": self.name, **self.cluster.settings}
+        settings = {
+            "etcd": [f"{it.address}:{CLIENTS_PORT}" for it in self.cluster.in_order(self)], "volume": VOLUME, "member": self.name,
+            "peer": f"{self.address}:{KFSD_PORT}", "key_file": f"{self.cluster.room}/key", **self.cluster.settings,
+        }
         with open(f"{self.room}/kfsd.toml", "a", encoding="utf-8") as it:
             it.write("\n".join(["[cluster]", *(f"{name} = {json.dumps(value)}" for name, value in settings.items())]) + "\n")
 
@@ -65,6 +69,8 @@ class Machine(Daemon):
         words = {
             "name": self.name, "data-dir": f"{self.room}/etcd", "listen-client-urls": f"{own}:{CLIENTS_PORT}", "advertise-client-urls": f"{own}:{CLIENTS_PORT}",
             "listen-peer-urls": f"{own}:{PEERS_PORT}", "initial-advertise-peer-urls": f"{own}:{PEERS_PORT}", "initial-cluster-token": self.cluster.space,
+            # what is removed takes room until it is compacted
+            "auto-compaction-mode": "revision", "auto-compaction-retention": "1000",
             "initial-cluster": ",".join(f"{it.name}=http://{it.address}:{PEERS_PORT}" for it in self.cluster.machines),
         }
         with open(f"{self.room}/etcd.log", "ab") as log:
@@ -112,6 +118,11 @@ class Machine(Daemon):
     def kept(self):
         return kept_in(self.replica)[1]
 
+    def leads(self):
+        """Whether it has said that it leads, and not since that it follows."""
+        said = self.said()
+        return self.process.poll() is None and said.rfind("clients may connect") > said.rfind("follows volume")
+
     def __exit__(self, *fault):
         self.is_wanted = False
         super().__exit__(*fault)
@@ -124,7 +135,8 @@ class Cluster:
 
     def __init__(self, made, settings=None, **words):
         self.space = f"kfsd-{os.getpid()}"
-        self.settings = settings or {}
+        self.settings, self.watchers = settings or {}, []
+        self.room = tempfile.mkdtemp(prefix="kfsd-cluster-")
         self.lock = threading.Lock()
         # The revision at which the leader's key came to be that was found last.
         self.term = 0
@@ -148,6 +160,8 @@ class Cluster:
     def start(self):
         """Makes the namespaces, and starts all in them. Returns when one leads."""
         self.held.callback(self.unlink)
+        with open(f"{self.room}/key", "wb", opener=lambda path, flags: os.open(path, flags, 0o600)) as it:
+            it.write(os.urandom(32))
         ip("netns", "add", self.space)
         ip("-n", self.space, "link", "add", "hub", "type", "bridge")
         ip("-n", self.space, "addr", "add", f"{NETWORK}.{HUB}/24", "dev", "hub")
@@ -158,6 +172,7 @@ class Cluster:
         for it in self.machines:
             it.start_etcd()
         self.wait_for(lambda: self.etcdctl("endpoint", "health").returncode == 0)
+        self.watch()
         for it in self.machines:
             it.begin()
         self.leader()
@@ -165,7 +180,32 @@ class Cluster:
     def __exit__(self, *fault):
         return self.held.__exit__(*fault)
 
+    def watch(self):
+        """Has each member of etcd tell all that is put."""
+        for it in self.machines:
+            words = ["ip", "netns", "exec", self.space, "etcdctl", "--endpoints", f"{it.address}:{CLIENTS_PORT}", "watch", "--rev", "1", "--prefix", f"kfsd/{VOLUME}/", "-w", "json"]
+            with open(f"{self.room}/{it.name}", "wb") as to:
+                self.watchers.append(subprocess.Popen(words, stdout=to, stderr=subprocess.DEVNULL, env={**os.environ, "ETCDCTL_API": "3"}))
+
+    def puts(self):
+        """All that was ever put, in its order, each with its revision, its key and its value."""
+        found = {}
+        for it in self.machines:
+            with open(f"{self.room}/{it.name}", "rb") as told:
+                for line in told.read().split(b"\n")[:-1]:
+                    for event in json.loads(line).get("Events", []):
+                        row = event["kv"]
+                        key = base64.b64decode(row["key"]).decode().removeprefix(f"kfsd/{VOLUME}/")
+                        if "type" not in event:
+                            put = base64.b64decode(row.get("value", ""))
+                            assert found.setdefault((row["mod_revision"], key), put) == put
+        return [(revision, key, value) for (revision, key), value in sorted(found.items())]
+
     def unlink(self):
+        for it in self.watchers:
+            it.kill()
+            it.wait()
+        shutil.rmtree(self.room, ignore_errors=True)
         for it in (*self.machines, self):
             ip("netns", "del", it.space, check=False)
 
@@ -207,8 +247,8 @@ class Cluster:
 
         def is_there():
             for row in self.asked("leader"):
-                name = base64.b64decode(row["value"]).decode()
-                found[:] = [it for it in self.machines if it.name == name and row["create_revision"] > behind and os.path.exists(f"{it.room}/socket")]
+                name = base64.b64decode(row["value"]).decode().split()[0]
+                found[:] = [it for it in self.machines if it.name == name and row["create_revision"] > behind and it.leads()]
                 self.term = row["create_revision"]
             return bool(found)
 
@@ -225,8 +265,8 @@ class Cluster:
         return int(self.rows("next")[0][1], 16)
 
     def connect_or_none(self, client):
-        """A connection to a kfsd that takes one."""
-        for it in self.machines:
+        """A connection to a kfsd that takes one, whether it leads or hands it on."""
+        for it in random.sample(self.machines, len(self.machines)):
             with contextlib.suppress(OSError):
                 return it.connect(client)
         return None

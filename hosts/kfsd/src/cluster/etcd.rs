@@ -234,7 +234,8 @@ mod tests {
 
     #[test]
     fn rows_are_read() {
-        let said = json!({ "kvs": [{ "key": "YQ==", "create_revision": "2", "mod_revision": "2", "value": "Yg==", "lease": "-9" }] });
+        let said =
+            json!({ "kvs": [{ "key": "YQ==", "create_revision": "2", "mod_revision": "2", "value": "Yg==", "lease": "-9" }] });
         let row = Row { key: "a".into(), value: b"b".to_vec(), created: 2, lease: -9 };
         assert_eq!(rows_of(&said).unwrap(), [row]);
         assert_eq!(rows_of(&Value::Null).unwrap(), []);

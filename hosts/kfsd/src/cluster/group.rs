@@ -83,7 +83,8 @@ mod tests {
 
     #[test]
     fn a_group_is_read_again() {
-        let group = Group { time: -5, moment: 9, calls: vec![(vec![1, 2], vec![3]), (vec![], vec![]), (vec![7; 300], vec![8; 16])] };
+        let group =
+            Group { time: -5, moment: 9, calls: vec![(vec![1, 2], vec![3]), (vec![], vec![]), (vec![7; 300], vec![8; 16])] };
         let bytes = group.bytes();
         assert_eq!(Group::of(&bytes), Some(group));
         assert_eq!(Group::of(&bytes[..bytes.len() - 1]), None);

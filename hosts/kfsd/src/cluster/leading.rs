@@ -2,83 +2,106 @@
 //!
 //! While a group is put, `kfs_serve` makes the next one. So its files may be ahead of etcd, by calls of which nobody has heard.
 
+use super::base::{Base, Bases};
 use super::group::Group;
 use super::replica::{bodies, Replica};
 use super::volume::{Lead, Volume};
-use super::ClusterFault;
+use super::{blocking, ClusterFault};
 use crate::connection::Shared;
 use crate::frames::Reply;
 use crate::queue::{Answer, Batch, Sent};
 use crate::times;
 use crate::users::FRONT;
+use std::convert::Infallible;
+use std::io::ErrorKind;
 use std::time::{Duration, Instant};
 use tokio::sync::mpsc::{channel, Receiver, Sender};
 use tokio::time::sleep;
-use tracing::warn;
+use tracing::{info, warn};
 
 /// How many bytes of frames go into one group, or one frame more.
 const MOST: usize = 262_144;
 
-/// Calls that were made, and aren't in etcd yet.
-struct Made {
-    group: Group,
-    /// The frames, each with its reply.
-    said: Vec<(Sent, Reply)>,
+/// How often the leader looks which groups may go from etcd.
+const TRIM: Duration = Duration::from_secs(5);
+
+/// What a leader works with.
+#[derive(Clone, Copy, Debug)]
+pub struct Leading<'a> {
+    pub volume: &'a Volume,
+    pub lead: &'a Lead,
+    pub bases: &'a Bases,
+    /// The random number of the volume.
+    pub id: u64,
+    /// A state is kept behind groups of so many bytes.
+    pub state_bytes: u64,
 }
 
-/// Leads until the queue is closed and empty. Behind an error nobody is answered any more.
-pub async fn lead(
-    volume: &Volume,
-    lead: &Lead,
-    next: u64,
-    replica: &mut Replica,
-    shared: &Shared,
-) -> Result<(), ClusterFault> {
+/// What comes next for etcd.
+enum Made {
+    /// Calls that were made, and the frames that they came in, each with its reply.
+    Calls(Group, Vec<(Sent, Reply)>),
+    /// The state behind them is copied.
+    State,
+}
+
+/// Leads until the queue is closed and empty, from the group of this number on. Behind an error nobody is answered any more.
+pub async fn lead(leading: &Leading<'_>, next: u64, replica: &mut Replica, shared: &Shared) -> Result<(), ClusterFault> {
     let (to, made) = channel(1);
-    let working = async {
-        tokio::try_join!(make(replica, to, shared), put(volume, lead, next, made, shared)).map(drop)
-    };
+    let working = async { tokio::try_join!(make(leading, replica, to, shared), put(leading, next, made, shared)).map(drop) };
     tokio::select! {
         worked = working => worked,
-        fault = renew(volume, lead, shared) => Err(fault),
+        fault = renew(leading, shared) => Err(fault),
+        never = trim(leading) => match never {},
     }
 }
 
 /// Has calls made, until there are none any more or nobody takes them.
-async fn make(replica: &mut Replica, to: Sender<Made>, shared: &Shared) -> Result<(), ClusterFault> {
+async fn make(leading: &Leading<'_>, replica: &mut Replica, to: Sender<Made>, shared: &Shared) -> Result<(), ClusterFault> {
+    let mut bytes_since = 0;
     while let Some(Batch { bytes, sent }) = shared.queue.next(MOST).await {
         shared.figures.sent.add(sent.iter().filter(|one| one.client != FRONT).count());
         let replies = replica.talk(&bytes, sent.len()).await?;
+        if replies.iter().zip(&sent).any(|(reply, one)| reply.number != one.number) {
+            return Err(ClusterFault::Ended(ErrorKind::InvalidData.into()));
+        }
         let mut group = Group { time: times::now(), moment: shared.following.clock.now(), calls: vec![] };
-        for ((body, one), reply) in bodies(&bytes).into_iter().zip(&sent).zip(&replies) {
-            if reply.number != one.number {
-                return Err(ClusterFault::Ended(std::io::ErrorKind::InvalidData.into()));
-            }
+        for (body, reply) in bodies(&bytes).into_iter().zip(&replies) {
             // What is refused, and what looks, changes nothing.
             group.calls.extend(reply.answer().map(|answer| (body.to_vec(), answer.to_vec())));
         }
+        bytes_since += bytes.len() as u64;
         let said = sent.into_iter().zip(replies).collect();
-        if to.send(Made { group, said }).await.is_err() {
+        if to.send(Made::Calls(group, said)).await.is_err() {
             break;
+        }
+        if bytes_since >= leading.state_bytes {
+            bytes_since = 0;
+            if replica.copy_state(leading.bases).await? && to.send(Made::State).await.is_err() {
+                break;
+            }
         }
     }
     Ok(())
 }
 
 /// Puts what was made into etcd, each group behind the one before, and hands the answers out.
-async fn put(
-    volume: &Volume,
-    lead: &Lead,
-    mut next: u64,
-    mut made: Receiver<Made>,
-    shared: &Shared,
-) -> Result<(), ClusterFault> {
-    while let Some(Made { group, said }) = made.recv().await {
+async fn put(leading: &Leading<'_>, mut next: u64, mut made: Receiver<Made>, shared: &Shared) -> Result<(), ClusterFault> {
+    let mut moment = shared.following.clock.now();
+    while let Some(made) = made.recv().await {
+        let (group, said) = match made {
+            Made::Calls(group, said) => (group, said),
+            Made::State => {
+                keep(leading, next, moment, shared).await?;
+                continue;
+            }
+        };
         if group.calls.is_empty() {
             shared.term.holds().await;
         } else {
-            volume.put(lead, next, &group).await?;
+            leading.volume.put(leading.lead, next, &group).await?;
             next += 1;
+            moment = group.moment;
             shared.figures.group.set(next);
         }
         for (sent, reply) in said {
@@ -88,6 +111,42 @@ async fn put(
         drop(shared.following.take_unsaved());
     }
     Ok(())
+}
+
+/// Keeps the state that was copied: all groups that it stands for are in etcd.
+async fn keep(leading: &Leading<'_>, next: u64, moment: u64, shared: &Shared) -> Result<(), ClusterFault> {
+    let base = Base::now(leading.id, next, moment, &shared.following);
+    let bases = leading.bases.clone();
+    blocking(move || bases.keep(&base)).await?;
+    match leading.volume.tell_kept(next).await {
+        Err(ClusterFault::Etcd(fault)) => warn!("{fault}"),
+        other => other?,
+    }
+    Ok(())
+}
+
+/// Removes those groups from etcd now and then that are part of the states that two members keep.
+async fn trim(leading: &Leading<'_>) -> Infallible {
+    let mut first = 0;
+    loop {
+        sleep(TRIM).await;
+        let number = match leading.volume.kept().await {
+            Ok(kept) => kept.get(1).map_or(0, |(number, _)| *number),
+            Err(fault) => {
+                warn!("{fault}");
+                continue;
+            }
+        };
+        if number > first {
+            match leading.volume.trim(leading.lead, number).await {
+                Ok(()) => {
+                    first = number;
+                    info!("the groups before {number} are removed from etcd");
+                }
+                Err(fault) => warn!("{fault}"),
+            }
+        }
+    }
 }
 
 /// Takes over what a call has done, and tells who has asked.
@@ -111,7 +170,8 @@ fn hand_out(sent: Sent, reply: Reply, time: i64, shared: &Shared) {
 }
 
 /// Renews the lease, and returns where this one leads no more, or may not.
-async fn renew(volume: &Volume, lead: &Lead, shared: &Shared) -> ClusterFault {
+async fn renew(leading: &Leading<'_>, shared: &Shared) -> ClusterFault {
+    let Leading { volume, lead, .. } = leading;
     let most = lead.time * 2;
     let mut last = Instant::now();
     loop {

@@ -3,11 +3,15 @@
 //! The leader puts each group into etcd before it answers. The others make the same calls, and compare the answers. Begin with
 //! `run` in `member.rs`; docs/CLUSTER.md is for those who run it.
 
+pub mod base;
 pub mod etcd;
 pub mod group;
 pub mod http;
 pub mod leading;
 pub mod member;
+pub mod origin;
+pub mod peer;
+pub mod relay;
 pub mod replica;
 pub mod term;
 pub mod volume;
@@ -15,6 +19,7 @@ pub mod volume;
 use self::etcd::EtcdFault;
 use serde::Deserialize;
 use std::io;
+use std::net::SocketAddr;
 use std::path::PathBuf;
 use thiserror::Error;
 
@@ -46,6 +51,14 @@ pub enum ClusterFault {
     Process(PathBuf, io::Error),
     #[error("the folder: {0}")]
     Folder(io::Error),
+    #[error("{0}: {1}")]
+    Path(PathBuf, io::Error),
+    #[error("{0}")]
+    Socket(String),
+    #[error("{0}: {1}")]
+    Peer(SocketAddr, io::Error),
+    #[error("the state in {0} is of another volume that has had this name: where it isn't needed any more, remove it")]
+    Another(PathBuf),
 }
 
 impl ClusterFault {
@@ -56,9 +69,16 @@ impl ClusterFault {
             ClusterFault::Etcd(EtcdFault::Unreached(_)) => 5,
             ClusterFault::Differs { .. } | ClusterFault::BadGroup(_) | ClusterFault::Unread(_) => 6,
             ClusterFault::Gap(_) | ClusterFault::Ahead { .. } | ClusterFault::Etcd(_) | ClusterFault::Folder(_) => 6,
-            ClusterFault::Process(..) => 1,
+            ClusterFault::Another(_) => 6,
+            ClusterFault::Process(..) | ClusterFault::Path(..) | ClusterFault::Peer(..) | ClusterFault::Socket(_) => 1,
         }
     }
+}
+
+/// Does what may take long with files, beside all else.
+async fn blocking<T: Send + 'static>(work: impl FnOnce() -> io::Result<T> + Send + 'static) -> Result<T, ClusterFault> {
+    let worked = tokio::task::spawn_blocking(work).await;
+    worked.unwrap_or_else(|fault| Err(fault.into())).map_err(ClusterFault::Folder)
 }
 
 /// The table `[cluster]` of a configuration.
@@ -74,10 +94,21 @@ pub struct Settings {
     /// How long a leader's lease lasts behind its last renewal. etcd may make it longer.
     #[serde(default = "lease_seconds")]
     pub lease_seconds: u64,
+    /// Where the other members reach this one.
+    pub peer: SocketAddr,
+    /// The file with the key that all members know.
+    pub key_file: PathBuf,
+    /// A state is kept behind groups of so many bytes.
+    #[serde(default = "state_bytes")]
+    pub state_bytes: u64,
 }
 
 fn lease_seconds() -> u64 {
     2
+}
+
+fn state_bytes() -> u64 {
+    16 << 20
 }
 
 impl Settings {
@@ -108,7 +139,15 @@ mod tests {
 
     #[test]
     fn wrong_settings_are_told() {
-        let right = Settings { etcd: vec!["127.0.0.1:2379".into()], volume: "a-1".into(), member: "b".into(), lease_seconds: 2 };
+        let right = Settings {
+            etcd: vec!["127.0.0.1:2379".into()],
+            volume: "a-1".into(),
+            member: "b".into(),
+            lease_seconds: 2,
+            peer: ([127, 0, 0, 1], 9470).into(),
+            key_file: "/etc/key".into(),
+            state_bytes: 1,
+        };
         assert_eq!(right.fault(), None);
         for endpoint in ["127.0.0.1", "http://127.0.0.1:2379", "", "a b:1"] {
             assert!(Settings { etcd: vec![endpoint.into()], ..right.clone() }.fault().is_some(), "{endpoint}");

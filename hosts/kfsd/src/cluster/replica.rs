@@ -1,8 +1,9 @@
 //! A `kfs_serve` that is given the groups of a volume. What it answers has to be what the leader's has answered.
 
+use super::base::Bases;
 use super::group::Group;
-use super::ClusterFault;
-use crate::frames::{read_reply, Head, Reply, HEAD};
+use super::{blocking, ClusterFault};
+use crate::frames::{read_reply, Head, Reply, CHECKPOINT, HEAD};
 use crate::users::FRONT;
 use std::ffi::OsString;
 use std::fs;
@@ -13,6 +14,7 @@ use std::time::Duration;
 use tokio::io::{AsyncWriteExt, BufReader};
 use tokio::process::{Child, ChildStdin, ChildStdout, Command};
 use tokio::time::timeout;
+use tracing::warn;
 
 /// The folder of its files, in kfsd's own. What is in it goes at each start.
 pub const FOLDER: &str = "replica";
@@ -32,6 +34,8 @@ pub struct Replica {
     from: BufReader<ChildStdout>,
     /// The number of the next frame.
     number: u32,
+    /// The folder of its files.
+    folder: PathBuf,
 }
 
 /// Begins a folder without files in another one: what an earlier kfsd has left may have calls that etcd hasn't.
@@ -47,7 +51,7 @@ pub fn begin_anew(parent: &Path) -> io::Result<PathBuf> {
 
 impl Replica {
     /// Starts a process, and waits until it has opened its files.
-    pub async fn start(program: &Path, words: &[OsString]) -> Result<Replica, ClusterFault> {
+    pub async fn start(program: &Path, words: &[OsString], folder: PathBuf) -> Result<Replica, ClusterFault> {
         let failed = |fault| ClusterFault::Process(program.to_path_buf(), fault);
         let mut child = Command::new(program)
             .args(words)
@@ -60,7 +64,7 @@ impl Replica {
             (Some(to), Some(from)) => (to, BufReader::new(from)),
             _ => return Err(failed(ErrorKind::BrokenPipe.into())),
         };
-        let mut replica = Replica { child, to, from, number: 0 };
+        let mut replica = Replica { child, to, from, number: 0, folder };
         // An empty frame is refused and changes nothing.
         let head = Head { length: 0, number: FRONT, from: FRONT };
         replica.talk(&head.bytes(), 1).await?;
@@ -113,6 +117,19 @@ impl Replica {
             }
             None => Ok(()),
         }
+    }
+
+    /// Has it begin its journal anew, and copies the state that it begins with. False where it refuses that.
+    pub async fn copy_state(&mut self, bases: &Bases) -> Result<bool, ClusterFault> {
+        let head = Head { length: 1, number: FRONT, from: FRONT };
+        let replies = self.talk(&[&head.bytes()[..], &[CHECKPOINT]].concat(), 1).await?;
+        if replies.iter().any(|reply| reply.found().is_none()) {
+            warn!("no state is kept: kfs_serve refuses to begin its journal anew");
+            return Ok(false);
+        }
+        let (bases, folder) = (bases.clone(), self.folder.clone());
+        blocking(move || bases.copy(&folder)).await?;
+        Ok(true)
     }
 
     /// Ends it by the end of its input.

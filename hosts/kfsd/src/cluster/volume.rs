@@ -5,7 +5,8 @@
 
 use super::etcd::{Do, Done, Etcd, EtcdFault, If, Row};
 use super::group::{Group, Held, PART};
-use super::ClusterFault;
+use super::{ClusterFault, Settings};
+use std::net::SocketAddr;
 use std::time::{Duration, Instant};
 
 /// How long a look may take, and how long a group may take to be put.
@@ -18,18 +19,23 @@ const LAST: Duration = Duration::from_millis(500);
 /// How many groups are read at once, each of which has at most `PART` bytes and one more.
 const AT_ONCE: usize = 16;
 
+/// How many members a volume has at most.
+const MEMBERS: usize = 1000;
+
 /// A volume, as one member sees it.
 #[derive(Debug)]
 pub struct Volume {
     etcd: Etcd,
     prefix: String,
     member: String,
+    /// Where the others reach this member.
+    address: SocketAddr,
 }
 
 /// How a volume stands.
 #[derive(Debug)]
 pub struct Seen {
-    /// Who leads it.
+    /// Where the member is that leads it.
     pub leader: Option<String>,
     /// The number of the next group that is put.
     pub next: u64,
@@ -48,9 +54,14 @@ pub struct Lead {
 }
 
 impl Volume {
-    /// The volume of a name, for a member of a name.
-    pub fn new(endpoints: &[String], name: &str, member: &str) -> Volume {
-        Volume { etcd: Etcd::new(endpoints), prefix: format!("kfsd/{name}"), member: member.to_string() }
+    /// The volume of these settings.
+    pub fn new(settings: &Settings) -> Volume {
+        Volume {
+            etcd: Etcd::new(&settings.etcd),
+            prefix: format!("kfsd/{}", settings.volume),
+            member: settings.member.clone(),
+            address: settings.peer,
+        }
     }
 
     fn key(&self, name: &str) -> String {
@@ -77,14 +88,11 @@ impl Volume {
 
     /// Looks who leads, and for groups from a number on.
     pub async fn look(&self, from: u64) -> Result<Seen, ClusterFault> {
-        let steps = [
-            Do::Get(self.key("leader")),
-            Do::Get(self.key("next")),
-            Do::Range(self.group(from), self.key("group0"), AT_ONCE),
-        ];
+        let steps =
+            [Do::Get(self.key("leader")), Do::Get(self.key("next")), Do::Range(self.group(from), self.key("group0"), AT_ONCE)];
         let done = self.etcd.transact(&[], &steps, &[], Instant::now() + LOOK).await?;
         let next = number_in(&done, 1).ok_or(ClusterFault::Unread("the number of the next group"))?;
-        let leader = first(&done, 0).map(|row| String::from_utf8_lossy(&row.value).into_owned());
+        let leader = first(&done, 0).and_then(|row| Some(second_word(row)?.to_string()));
         if next < from {
             return Err(ClusterFault::Ahead { own: from, next });
         }
@@ -124,7 +132,8 @@ impl Volume {
         let (lease, seconds) = self.etcd.grant(seconds, end).await?;
         let key = self.key("leader");
         let ifs = [If::Created(key.clone(), 0), If::Is(self.key("next"), text_of(next))];
-        let put = [Do::Put(key.clone(), self.member.as_bytes().to_vec(), lease), Do::Get(key.clone())];
+        let value = format!("{} {}", self.member, self.address);
+        let put = [Do::Put(key.clone(), value.into(), lease), Do::Get(key.clone())];
         let done = self.etcd.transact(&ifs, &put, &[Do::Get(key)], end).await?;
         // Where an answer was lost, the key is there already.
         let own = done.found.into_iter().flatten().find(|row| row.lease == lease);
@@ -132,6 +141,34 @@ impl Volume {
             self.resign(lease).await;
         }
         Ok(own.map(|row| Lead { revision: row.created, lease, time: Duration::from_secs(seconds) }))
+    }
+
+    /// Says that this member keeps a state that stands for all groups before this number.
+    pub async fn tell_kept(&self, number: u64) -> Result<(), ClusterFault> {
+        let key = self.key(&format!("base/{}", self.member));
+        let put = [Do::Put(key, format!("{number:016x} {}", self.address).into(), 0)];
+        self.etcd.transact(&[], &put, &[], Instant::now() + LOOK).await?;
+        Ok(())
+    }
+
+    /// What all members keep: the number of each state and where it is, the latest first.
+    pub async fn kept(&self) -> Result<Vec<(u64, String)>, ClusterFault> {
+        let range = [Do::Range(self.key("base/"), self.key("base0"), MEMBERS)];
+        let done = self.etcd.transact(&[], &range, &[], Instant::now() + LOOK).await?;
+        let wrong = || ClusterFault::Unread("the number of a state");
+        let one = |row: &Row| Some((number_of(row)?, second_word(row)?.to_string()));
+        let rows = done.found.iter().flatten();
+        let mut found = rows.map(|row| one(row).ok_or_else(wrong)).collect::<Result<Vec<_>, _>>()?;
+        found.sort();
+        found.reverse();
+        Ok(found)
+    }
+
+    /// Removes the groups before this number, where this one leads still.
+    pub async fn trim(&self, lead: &Lead, number: u64) -> Result<(), ClusterFault> {
+        let removals = [Do::Remove(self.group(0), self.group(number)), Do::Remove(self.part(0, 0), self.part(number, 0))];
+        self.etcd.transact(&[self.leads(lead)], &removals, &[], Instant::now() + LOOK).await?;
+        Ok(())
     }
 
     /// Renews a leader's lease. Answers whether it leads still.
@@ -193,8 +230,17 @@ fn first(done: &Done, step: usize) -> Option<&Row> {
 
 /// The number in the first row that a step has read.
 fn number_in(done: &Done, step: usize) -> Option<u64> {
-    let row = first(done, step)?;
-    u64::from_str_radix(std::str::from_utf8(&row.value).ok()?, 16).ok()
+    number_of(first(done, step)?)
+}
+
+/// The number that a value is, or begins with.
+fn number_of(row: &Row) -> Option<u64> {
+    u64::from_str_radix(std::str::from_utf8(&row.value).ok()?.split(' ').next()?, 16).ok()
+}
+
+/// What stands behind a value's first word.
+fn second_word(row: &Row) -> Option<&str> {
+    Some(std::str::from_utf8(&row.value).ok()?.split_once(' ')?.1)
 }
 
 /// A number as the value of a key.
