@@ -102,11 +102,11 @@ pub async fn run(path: &Path) -> Result<(), DaemonFault> {
         _ = signals.stop() => return Ok(()),
     };
     let (daemon, mut ready) = Daemon::start(config, path, place)?;
+    daemon.tell_figures().await?;
     if !is_opened(&mut ready, &mut signals).await {
         return daemon.end_desk().await;
     }
-    let sockets = Sockets::bind(&daemon.config)?;
-    daemon.tell_figures().await?;
+    let sockets = Sockets::bind(&daemon.config.socket, &daemon.config.control)?;
     info!("clients may connect to {}", daemon.config.socket.display());
     daemon.serve(sockets, signals).await
 }
@@ -134,13 +134,13 @@ async fn is_opened(ready: &mut watch::Receiver<bool>, signals: &mut Signals) -> 
 /// Where the desk is: on this machine alone, or on several.
 enum Place {
     Alone(Folder),
-    Member(Member),
+    Member(Box<Member>),
 }
 
 /// The desk, before it runs.
 enum Begun {
     Alone(Desk),
-    Member(Member),
+    Member(Box<Member>),
 }
 
 impl Place {
@@ -151,7 +151,8 @@ impl Place {
             Some(settings) => settings,
         };
         let lines = lines_of(&config.users);
-        Ok(Place::Member(Member::join(settings, config, folder, &lines).await.map_err(DeskFault::Cluster)?))
+        let member = Member::join(settings, config, folder, &lines).await.map_err(DeskFault::Cluster)?;
+        Ok(Place::Member(Box::new(member)))
     }
 
     /// The lines of the clients of the desk.

@@ -1,6 +1,5 @@
 //! The two sockets, and the connections that are taken there.
 
-use crate::config::Config;
 use crate::connection::{self, Shared};
 use crate::control;
 use crate::daemon::DaemonFault;
@@ -42,11 +41,6 @@ impl Socket {
         Ok(socket)
     }
 
-    /// Binds the path where clients connect. Who may do what is looked up in the table of users, so each may connect.
-    pub fn for_clients(path: &Path) -> Result<Socket, DaemonFault> {
-        Socket::bind(path, 0o666)
-    }
-
     /// The next connection.
     pub async fn accept(&self) -> io::Result<UnixStream> {
         Ok(self.listener.accept().await?.0)
@@ -62,14 +56,18 @@ impl Drop for Socket {
 
 /// Where clients connect, and where `kfsctl` does.
 pub struct Sockets {
-    clients: Socket,
-    control: Socket,
+    pub clients: Socket,
+    pub control: Socket,
 }
 
 impl Sockets {
     /// Binds both.
-    pub fn bind(config: &Config) -> Result<Sockets, DaemonFault> {
-        Ok(Sockets { clients: Socket::for_clients(&config.socket)?, control: Socket::bind(&config.control, 0o600)? })
+    pub fn bind(clients: &Path, control: &Path) -> Result<Sockets, DaemonFault> {
+        Ok(Sockets {
+            // Who may do what is looked up in the table of users, so each may connect.
+            clients: Socket::bind(clients, 0o666)?,
+            control: Socket::bind(control, 0o600)?,
+        })
     }
 }
 

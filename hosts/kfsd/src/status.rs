@@ -17,6 +17,8 @@ pub struct Status {
     pub desk: Standing,
     pub connections: ConnectionStatus,
     pub frames: FrameStatus,
+    /// None where the desk is on this machine alone.
+    pub volume: Option<VolumeStatus>,
     #[serde(default)]
     pub user: Vec<UserStatus>,
 }
@@ -52,6 +54,12 @@ pub struct FrameStatus {
     pub answered_here: u64,
     pub own: u64,
     pub mean_micros: u64,
+}
+
+#[derive(Debug, Deserialize, Serialize)]
+pub struct VolumeStatus {
+    pub leads: bool,
+    pub next_group: u64,
 }
 
 #[derive(Debug, Deserialize, Serialize)]
@@ -95,6 +103,10 @@ pub fn status(shared: &Shared) -> Status {
             own: figures.own.get(),
             mean_micros: micros.checked_div(figures.times.count()).unwrap_or(0),
         },
+        volume: shared
+            .term
+            .has_end()
+            .then(|| VolumeStatus { leads: figures.opened.get() == 1, next_group: figures.group.get() }),
         user: user.collect(),
     }
 }

@@ -4,14 +4,13 @@ import os
 import random
 import re
 import shutil
-import signal
 import struct
 import tempfile
 import threading
 import time
 
 from killing import FILES, NO, USERS, YES, answered_by, run_with_kills, say, submission
-from machines import LOST, Cluster, is_possible
+from machines import LOST, NETWORK, Cluster, is_possible
 from numbering import AGAIN, UNDER_WAY, UNKNOWN, Numbering, bare
 from running import FRONT, FRONTS, Gone, frame, lease, numbered, user
 
@@ -27,7 +26,6 @@ TICK, MIGRATE = 4, 5
 def groups_of(cluster):
     """All groups by their numbers, also those that were removed: the calls of each, with their answers. Each was put once, in the order of their numbers."""
     count = cluster.next()
-    cluster.wait_for(lambda: any(key == f"group/{count - 1:016x}" for _, key, _ in cluster.puts()) or count == 0)
     parts, found = {}, {}
     for _, key, value in cluster.puts():
         if key.startswith("part/"):
@@ -37,6 +35,7 @@ def groups_of(cluster):
             assert number == len(found), f"group {number} comes behind group {len(found) - 1}"
             whole = value[1:] if value[0] == 1 else b"".join(parts[f"part/{number:016x}/{at:08x}"] for at in range(int.from_bytes(value[1:], "big")))
             found[number] = calls_in(whole)
+    assert len(found) == count
     return found
 
 
@@ -91,7 +90,7 @@ def state_now(server, folder):
 
 
 def ends_alike(cluster):
-    """Stops all, and looks whether each has the state of the groups that it has seen, and all have one image. Returns the calls of clients."""
+    """Stops all, and looks whether each has the state of the groups that it has seen, and all have one image. Returns all groups."""
     cluster.settle()
     groups = groups_of(cluster)
     seen = {it: int(re.findall(r"group (\d+) is next", it.said())[-1]) for it in cluster.machines}
@@ -102,12 +101,17 @@ def ends_alike(cluster):
     for it, state in states.items():
         assert state == due[seen[it]], f"{it.name} has another state than that of its {seen[it]} groups"
     assert len({image_in(state) for state in states.values()}) == 1
-    return [call for number in sorted(groups) for call, _ in groups[number] if call[0] not in FRONTS]
+    return groups
 
 
-def each_is_made_once(calls, clients):
-    """Of the calls that were answered each is among these, once; and so is at most each one that was sent."""
-    counts = collections.Counter(calls)
+def calls_of(groups):
+    """The calls of clients in their order, each with its answer."""
+    return [it for number in sorted(groups) for it in groups[number] if it[0][0] not in FRONTS]
+
+
+def each_is_made_once(groups, clients):
+    """Of the calls that were answered each is in these groups, once; and so is at most each one that was sent."""
+    counts = collections.Counter(call for call, _ in calls_of(groups))
     assert max(counts.values()) == 1, "a numbered call was made twice"
     answered = bare(answered_by(clients))
     lost = [call for call in answered if not counts[call]]
@@ -182,12 +186,19 @@ def connections_are_handed_on(made):
         seven.socket.sendall(burst)
         assert [seven.reply().number for _ in range(50)] == list(range(50))
         assert leader.status()["frames"]["answered"] >= 52
+        # whoever doesn't lead tells how it stands, and has no answer of the desk
+        assert leader.status()["volume"] == {"leads": True, "next_group": cluster.next()}
+        assert other.status()["volume"]["leads"] is False and "refuses it" in other.refused("free")
+        assert seven.ask(1, numbered(6, lease(7, 1 << 40))).answer[4] == 4
         leader.process.kill()
         assert seven.is_ended() and eight.is_ended()
         cluster.another_leads()
         for it in (other, third):
-            answer, _ = asked_until_answered(it, 5, lease(7, 1 << 40, writes=True))
+            answer, _ = Own(it).answer(5, lease(7, 1 << 40, writes=True))
             assert answer[:4] == AGAIN
+        name, who, address, first, count, *members = cluster.volumes().splitlines()[1].split()
+        assert (name, who, int(first), int(count)) == ("volume", cluster.leader().name, 0, cluster.next()) and address.startswith(NETWORK)
+        assert " ".join(members) == "a 0, b 0, c 0"
         ends_alike(cluster)
 
 
@@ -270,12 +281,12 @@ def leaders_that_stand_still(made):
         def stand():
             leader, began = cluster.leader(), time.monotonic()
             held = leader.connect(20)
-            os.kill(leader.process.pid, signal.SIGSTOP)
+            leader.stand_still()
             held.send(1, numbered(1 << 60))
             held.send(2, numbered((1 << 60) + round(began * 1000), lease(20, 1 << 41)))
             wait = cluster.another_leads()[1]
             count = len(leader.statuses)
-            os.kill(leader.process.pid, signal.SIGCONT)
+            leader.go_on()
             said = []
             try:
                 while True:
@@ -288,9 +299,9 @@ def leaders_that_stand_still(made):
             return wait
 
         clients, waits = run_with_faults(cluster, 3, stand)
-        calls = ends_alike(cluster)
-        assert lease(20, 1 << 41) not in calls, "a call was made behind the end of a lease"
-        each_is_made_once(calls, clients)
+        groups = ends_alike(cluster)
+        assert lease(20, 1 << 41) not in dict(calls_of(groups)), "a call was made behind the end of a lease"
+        each_is_made_once(groups, clients)
         say("3 leaders stood still", clients)
         print(f"    another one led after {' '.join(f'{it:.1f}' for it in sorted(waits))} s")
 
@@ -321,7 +332,7 @@ def files_created_once_on_machines(made):
     """200 files are created while the leader is killed 4 times: each is answered Yes, and is in each image once."""
     with Cluster(made, users=[user(1000, 7, (2, 999)), user(1001, 8)]) as cluster:
         assert cluster.leader().connect(7).ask(0, lease(7, 1 << 40, writes=True)).answer
-        is_over, faults = threading.Event(), []
+        is_over, faults, own = threading.Event(), [], Own(cluster)
 
         def kill_now_and_then():
             try:
@@ -340,31 +351,15 @@ def files_created_once_on_machines(made):
         killing.start()
         again, at = 0, 0
         while at < FILES or not is_over.is_set():
-            answer, count = asked_until_answered(cluster, at, submission(at))
+            answer, count = own.answer(at, submission(at))
             assert answer[4] == YES, (at, answer, count)
             again += count > 1
             at += 1
         killing.join()
         assert not faults, faults[0]
-        calls = ends_alike(cluster)
-        counts = collections.Counter(calls)
+        counts = collections.Counter(call for call, _ in calls_of(ends_alike(cluster)))
         assert all(counts[submission(it)] == 1 for it in range(at))
         print(f"    {again} of {at} files were asked for again, and each was created once")
-
-
-def asked_until_answered(place, number, call):
-    """The answer to a numbered call of client 7, over as many connections as it takes; and how often it was asked for."""
-    for count in range(1, 1000):
-        connection = connected(place)
-        try:
-            reply = connection.ask(1, numbered(number, call)) if connection else None
-        except (Gone, OSError):
-            reply = None
-        if reply and reply.answer is not None:
-            return reply.answer, count
-        assert reply is None or reply.refusal in (UNKNOWN, UNDER_WAY, ("Stopping", 0)), reply
-        time.sleep(0.02)
-    raise AssertionError("no answer comes")
 
 
 def connected(place):
@@ -378,6 +373,27 @@ def connected(place):
         return None
 
 
+class Own:
+    """A connection of client 7 to a machine, or to any of several, kept as long as it lasts: who connects waits for the lock."""
+
+    def __init__(self, place):
+        self.place, self.connection = place, None
+
+    def answer(self, number, call):
+        """The answer to a numbered call, and how often it was asked for."""
+        for count in range(1, 1000):
+            self.connection = self.connection or connected(self.place)
+            try:
+                reply = self.connection.ask(1, numbered(number, call)) if self.connection else None
+            except (Gone, OSError):
+                reply = self.connection = None
+            if reply and reply.answer is not None:
+                return reply.answer, count
+            assert reply is None or reply.refusal in (UNKNOWN, UNDER_WAY, ("Stopping", 0)), reply
+            time.sleep(0.02)
+        raise AssertionError("no answer comes")
+
+
 def long_calls_go_in_parts(made):
     """Calls that are longer than a value of etcd may be are put in parts, and made by all."""
     with Cluster(made) as cluster:
@@ -388,7 +404,7 @@ def long_calls_go_in_parts(made):
         leader.process.kill()
         second, _ = cluster.another_leads()
         assert all(second.connect(7).ask(1, numbered(at)).answer[4] == NO for at in range(3))
-        assert ends_alike(cluster) == calls
+        assert [call for call, _ in calls_of(ends_alike(cluster))] == calls
         # with its marker and the answers the second one has 10^6 bytes
         assert len([key for _, key, _ in cluster.puts() if key.startswith("part/")]) == 5
 

@@ -118,6 +118,35 @@ class Machine(Daemon):
     def kept(self):
         return kept_in(self.replica)[1]
 
+    def next_group(self):
+        """The number of the next group that it makes the calls of; None where it isn't there."""
+        try:
+            return self.status()["volume"]["next_group"]
+        except subprocess.CalledProcessError:
+            return None
+
+    def refused(self, *words):
+        """What kfsctl says where kfsd has no answer."""
+        said = subprocess.run([f"{self.binaries}/kfsctl", "--control", f"{self.room}/control", *words], check=False, capture_output=True, text=True, timeout=SOON)
+        assert said.returncode != 0, said
+        return said.stderr
+
+    def stand_still(self):
+        """Stops kfsd, and returns once all of its threads stand."""
+        os.kill(self.process.pid, signal.SIGSTOP)
+        tasks = f"/proc/{self.process.pid}/task"
+        while True:
+            states = set()
+            for task in os.listdir(tasks):
+                with open(f"{tasks}/{task}/stat", encoding="ascii", errors="replace") as it:
+                    states.add(it.read().rpartition(")")[2].split()[0])
+            if states == {"T"}:
+                return
+            time.sleep(0.001)
+
+    def go_on(self):
+        os.kill(self.process.pid, signal.SIGCONT)
+
     def leads(self):
         """Whether it has said that it leads, and not since that it follows."""
         said = self.said()
@@ -188,17 +217,17 @@ class Cluster:
                 self.watchers.append(subprocess.Popen(words, stdout=to, stderr=subprocess.DEVNULL, env={**os.environ, "ETCDCTL_API": "3"}))
 
     def puts(self):
-        """All that was ever put, in its order, each with its revision, its key and its value."""
-        found = {}
+        """All that was ever put, in its order, each with its revision, its key and its value: what was told, and what is there now."""
+        rows = self.asked("")
         for it in self.machines:
             with open(f"{self.room}/{it.name}", "rb") as told:
-                for line in told.read().split(b"\n")[:-1]:
-                    for event in json.loads(line).get("Events", []):
-                        row = event["kv"]
-                        key = base64.b64decode(row["key"]).decode().removeprefix(f"kfsd/{VOLUME}/")
-                        if "type" not in event:
-                            put = base64.b64decode(row.get("value", ""))
-                            assert found.setdefault((row["mod_revision"], key), put) == put
+                events = [event for line in told.read().split(b"\n")[:-1] for event in json.loads(line)["Events"] or ()]
+            rows += [event["kv"] for event in events if "type" not in event]
+        found = {}
+        for row in rows:
+            key = base64.b64decode(row["key"]).decode().removeprefix(f"kfsd/{VOLUME}/")
+            put = base64.b64decode(row.get("value", ""))
+            assert found.setdefault((row["mod_revision"], key), put) == put
         return [(revision, key, value) for (revision, key), value in sorted(found.items())]
 
     def unlink(self):
@@ -260,6 +289,12 @@ class Cluster:
         began = time.monotonic()
         return self.leader(self.term), time.monotonic() - began
 
+    def volumes(self):
+        """What kfsctl prints of the volumes in etcd."""
+        endpoints = ",".join(f"{it.address}:{CLIENTS_PORT}" for it in self.machines)
+        words = ["ip", "netns", "exec", self.space, f"{self.machines[0].binaries}/kfsctl", "volumes", "--etcd", endpoints]
+        return subprocess.run(words, check=True, capture_output=True, text=True, timeout=SOON).stdout
+
     def next(self):
         """The number of the next group."""
         return int(self.rows("next")[0][1], 16)
@@ -272,15 +307,15 @@ class Cluster:
         return None
 
     def settle(self):
-        """Waits until each member has made the calls of all groups, and stops all, the leader last. Returns the states that they have."""
-        leader, last = self.leader(), self.next()
-        with tempfile.TemporaryDirectory(prefix="kfsd-states-") as room:
-            others = [it for it in self.machines if it is not leader]
-            for it in others:
-                it.wait_for(lambda it=it: f"group {last} is next" in it.said())
+        """Waits until each member has made the calls of all groups, and stops all. Nothing comes while those stop that follow."""
+        self.wait_for(lambda: [it.next_group() for it in self.machines] == [self.next()] * len(self.machines))
+        leader = self.leader()
+        leader.stand_still()
+        for it in self.machines:
+            if it is not leader:
                 assert it.stop()[0] == 0
-            assert leader.stop()[0] == 0
-            return [it.state(room) for it in self.machines]
+        leader.go_on()
+        assert leader.stop()[0] == 0
 
 
 def is_possible():

@@ -16,6 +16,7 @@ use std::convert::Infallible;
 use std::io::ErrorKind;
 use std::time::{Duration, Instant};
 use tokio::sync::mpsc::{channel, Receiver, Sender};
+use tokio::sync::oneshot;
 use tokio::time::sleep;
 use tracing::{info, warn};
 
@@ -41,8 +42,8 @@ pub struct Leading<'a> {
 enum Made {
     /// Calls that were made, and the frames that they came in, each with its reply.
     Calls(Group, Vec<(Sent, Reply)>),
-    /// The state behind them is copied.
-    State,
+    /// The state behind them is copied. The other end is told when it is kept.
+    State(oneshot::Sender<()>),
 }
 
 /// Leads until the queue is closed and empty, from the group of this number on. Behind an error nobody is answered any more.
@@ -59,6 +60,8 @@ pub async fn lead(leading: &Leading<'_>, next: u64, replica: &mut Replica, share
 /// Has calls made, until there are none any more or nobody takes them.
 async fn make(leading: &Leading<'_>, replica: &mut Replica, to: Sender<Made>, shared: &Shared) -> Result<(), ClusterFault> {
     let mut bytes_since = 0;
+    // Nobody keeps a state yet, so its end comes at once.
+    let mut under_way = oneshot::channel().1;
     while let Some(Batch { bytes, sent }) = shared.queue.next(MOST).await {
         shared.figures.sent.add(sent.iter().filter(|one| one.client != FRONT).count());
         let replies = replica.talk(&bytes, sent.len()).await?;
@@ -77,7 +80,11 @@ async fn make(leading: &Leading<'_>, replica: &mut Replica, to: Sender<Made>, sh
         }
         if bytes_since >= leading.state_bytes {
             bytes_since = 0;
-            if replica.copy_state(leading.bases).await? && to.send(Made::State).await.is_err() {
+            // The one before is kept by then: the next copy takes its place.
+            let _ = under_way.await;
+            let (kept, next) = oneshot::channel();
+            under_way = next;
+            if replica.copy_state(leading.bases).await? && to.send(Made::State(kept)).await.is_err() {
                 break;
             }
         }
@@ -91,8 +98,10 @@ async fn put(leading: &Leading<'_>, mut next: u64, mut made: Receiver<Made>, sha
     while let Some(made) = made.recv().await {
         let (group, said) = match made {
             Made::Calls(group, said) => (group, said),
-            Made::State => {
+            Made::State(kept) => {
                 keep(leading, next, moment, shared).await?;
+                // Where nothing is made any more nobody waits.
+                let _ = kept.send(());
                 continue;
             }
         };

@@ -13,7 +13,8 @@ use crate::config::Config;
 use crate::connection::Shared;
 use crate::folder::Folder;
 use crate::outcomes::Finder;
-use crate::sockets::Socket;
+use crate::queue::Queue;
+use crate::sockets::Sockets;
 use std::ffi::OsString;
 use std::fs;
 use std::io;
@@ -42,8 +43,9 @@ pub struct Member {
     bases: Bases,
     /// Where other members ask.
     listener: Arc<TcpListener>,
-    /// Where clients connect.
+    /// Where clients connect, and where kfsctl does.
     socket: PathBuf,
+    control: PathBuf,
     program: PathBuf,
     folder: Folder,
     rows: u32,
@@ -84,6 +86,7 @@ impl Member {
             bases: Bases::new(folder.path()),
             listener: Arc::new(listener),
             socket: config.socket.clone(),
+            control: config.control.clone(),
             program: config.program.clone(),
             folder,
             rows: config.rows,
@@ -99,17 +102,17 @@ impl Member {
     /// this one leads.
     pub async fn run(self, shared: &Arc<Shared>, ready: &watch::Sender<bool>) -> Result<(), ClusterFault> {
         let (tell, leader) = watch::channel(None);
-        let socket = Socket::for_clients(&self.socket).map_err(|fault| ClusterFault::Socket(fault.to_string()))?;
+        let sockets = Sockets::bind(&self.socket, &self.control);
+        let sockets = sockets.map_err(|fault| ClusterFault::Socket(fault.to_string()))?;
         let mut serving = JoinSet::new();
         let (listener, key, bases) = (Arc::clone(&self.listener), self.key.clone(), self.bases.clone());
         serving.spawn(peer::serve(listener, key, bases, Arc::clone(shared)));
         let followed = tokio::select! {
             followed = self.follow(shared, &tell) => followed?,
-            never = relay(&socket, shared, leader, &self.key) => match never {},
-            // Nobody asks yet, so there is nothing before the end.
-            _ = shared.queue.next(0) => return Ok(()),
+            never = relay(&sockets, shared, leader, &self.key) => match never {},
+            () = turned_away(&shared.queue) => return Ok(()),
         };
-        drop(socket);
+        drop(sockets);
         self.lead(followed, shared, ready).await
     }
 
@@ -293,6 +296,13 @@ impl Member {
         replica.end().await;
         debug!("group {} is next", shared.figures.group.get());
         led
+    }
+}
+
+/// Takes the questions of `kfsctl`, which a member that doesn't lead has no answer to, until the queue is closed.
+async fn turned_away(queue: &Queue) {
+    while let Some(batch) = queue.next(0).await {
+        drop(batch);
     }
 }
 

@@ -8,6 +8,7 @@ pub mod etcd;
 pub mod group;
 pub mod http;
 pub mod leading;
+pub mod listing;
 pub mod member;
 pub mod origin;
 pub mod peer;

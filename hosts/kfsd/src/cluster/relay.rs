@@ -2,12 +2,14 @@
 
 use super::peer::{connect_user, Key};
 use crate::connection::Shared;
+use crate::control;
 use crate::frames::Refusal;
 use crate::peer::uid_of;
-use crate::sockets::{rest, turn_away, Socket};
+use crate::sockets::{rest, turn_away, Sockets};
 use crate::users::Place;
 use std::convert::Infallible;
 use std::future::pending;
+use std::sync::Arc;
 use std::time::Duration;
 use tokio::io::copy_bidirectional;
 use tokio::net::UnixStream;
@@ -23,12 +25,16 @@ const WAIT: Duration = Duration::from_secs(10);
 pub type Leader = watch::Receiver<Option<String>>;
 
 /// Takes connections until it is dropped. Those that it has end then, and where another one leads.
-pub async fn relay(socket: &Socket, shared: &Shared, leader: Leader, key: &Key) -> Infallible {
+pub async fn relay(sockets: &Sockets, shared: &Arc<Shared>, leader: Leader, key: &Key) -> Infallible {
     let mut tasks = JoinSet::new();
     loop {
         tokio::select! {
-            taken = socket.accept() => match taken {
+            taken = sockets.clients.accept() => match taken {
                 Ok(stream) => take(stream, shared, &leader, key, &mut tasks),
+                Err(fault) => rest(fault).await,
+            },
+            taken = sockets.control.accept() => match taken {
+                Ok(stream) => drop(tokio::spawn(control::serve(stream, Arc::clone(shared)))),
                 Err(fault) => rest(fault).await,
             },
             Some(_) = tasks.join_next() => {}

@@ -18,6 +18,11 @@ impl Term {
         Term(watch::channel(Some(Instant::now())).0)
     }
 
+    /// Whether others may lead.
+    pub fn has_end(&self) -> bool {
+        self.0.borrow().is_some()
+    }
+
     /// Nobody else leads before this instant.
     pub fn lasts_until(&self, end: Instant) {
         self.0.send_replace(Some(end));

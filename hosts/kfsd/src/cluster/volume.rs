@@ -20,12 +20,16 @@ const LAST: Duration = Duration::from_millis(500);
 const AT_ONCE: usize = 16;
 
 /// How many members a volume has at most.
-const MEMBERS: usize = 1000;
+pub(super) const MEMBERS: usize = 1000;
+
+/// What stands before the name of each volume that there is.
+pub(super) const INDEX: &str = "kfsd-volumes/";
 
 /// A volume, as one member sees it.
 #[derive(Debug)]
 pub struct Volume {
     etcd: Etcd,
+    name: String,
     prefix: String,
     member: String,
     /// Where the others reach this member.
@@ -58,6 +62,7 @@ impl Volume {
     pub fn new(settings: &Settings) -> Volume {
         Volume {
             etcd: Etcd::new(&settings.etcd),
+            name: settings.volume.clone(),
             prefix: format!("kfsd/{}", settings.volume),
             member: settings.member.clone(),
             address: settings.peer,
@@ -80,7 +85,12 @@ impl Volume {
     pub async fn begin(&self, origin: &str) -> Result<String, ClusterFault> {
         let (key, next) = (self.key("origin"), self.key("next"));
         let ifs = [If::Created(key.clone(), 0)];
-        let puts = [Do::Put(key.clone(), origin.into(), 0), Do::Put(next, text_of(0), 0), Do::Get(key.clone())];
+        let puts = [
+            Do::Put(format!("{INDEX}{}", self.name), vec![], 0),
+            Do::Put(key.clone(), origin.into(), 0),
+            Do::Put(next, text_of(0), 0),
+            Do::Get(key.clone()),
+        ];
         let done = self.etcd.transact(&ifs, &puts, &[Do::Get(key)], Instant::now() + LOOK).await?;
         let found = done.found.into_iter().flatten().next().ok_or(EtcdFault::Nonsense("no origin is found"))?;
         String::from_utf8(found.value).map_err(|_| ClusterFault::Unread("the origin"))
@@ -234,12 +244,12 @@ fn number_in(done: &Done, step: usize) -> Option<u64> {
 }
 
 /// The number that a value is, or begins with.
-fn number_of(row: &Row) -> Option<u64> {
+pub(super) fn number_of(row: &Row) -> Option<u64> {
     u64::from_str_radix(std::str::from_utf8(&row.value).ok()?.split(' ').next()?, 16).ok()
 }
 
 /// What stands behind a value's first word.
-fn second_word(row: &Row) -> Option<&str> {
+pub(super) fn second_word(row: &Row) -> Option<&str> {
     Some(std::str::from_utf8(&row.value).ok()?.split_once(' ')?.1)
 }
 
