@@ -162,9 +162,9 @@ class Machine(Daemon):
 class Cluster:
     """Three machines and the wire between them. Threads connect to whichever leads."""
 
-    def __init__(self, made, settings=None, **words):
+    def __init__(self, made, settings=None, is_watched=True, **words):
         self.space = f"kfsd-{os.getpid()}"
-        self.settings, self.watchers = settings or {}, []
+        self.settings, self.is_watched, self.watchers = settings or {}, is_watched, []
         self.room = tempfile.mkdtemp(prefix="kfsd-cluster-")
         self.lock = threading.Lock()
         # The revision at which the leader's key came to be that was found last.
@@ -201,7 +201,8 @@ class Cluster:
         for it in self.machines:
             it.start_etcd()
         self.wait_for(lambda: self.etcdctl("endpoint", "health").returncode == 0)
-        self.watch()
+        if self.is_watched:
+            self.watch()
         for it in self.machines:
             it.begin()
         self.leader()

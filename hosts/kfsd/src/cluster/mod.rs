@@ -38,7 +38,7 @@ pub enum ClusterFault {
          the two desks differ"
     )]
     Differs { number: u64, place: usize, theirs: Vec<u8>, own: Vec<u8> },
-    #[error("group {0} isn't in etcd any more, and this kfsd has no state behind it")]
+    #[error("group {0} isn't in etcd any more, and this kfsd hasn't made its calls: a new start has another member send its state")]
     Gap(u64),
     #[error("etcd is at group {next}, and this kfsd has seen {own}: etcd has lost some")]
     Ahead { own: u64, next: u64 },
@@ -66,10 +66,10 @@ impl ClusterFault {
     /// The exit status: 5 where a new start makes it a member again, 6 where someone has to look first, and else 1.
     pub fn status(&self) -> u8 {
         match self {
-            ClusterFault::Lost | ClusterFault::Cut(_) | ClusterFault::Ended(_) => 5,
+            ClusterFault::Lost | ClusterFault::Cut(_) | ClusterFault::Gap(_) | ClusterFault::Ended(_) => 5,
             ClusterFault::Etcd(EtcdFault::Unreached(_)) => 5,
             ClusterFault::Differs { .. } | ClusterFault::BadGroup(_) | ClusterFault::Unread(_) => 6,
-            ClusterFault::Gap(_) | ClusterFault::Ahead { .. } | ClusterFault::Etcd(_) | ClusterFault::Folder(_) => 6,
+            ClusterFault::Ahead { .. } | ClusterFault::Etcd(_) | ClusterFault::Folder(_) => 6,
             ClusterFault::Another(_) => 6,
             ClusterFault::Process(..) | ClusterFault::Path(..) | ClusterFault::Peer(..) | ClusterFault::Socket(_) => 1,
         }

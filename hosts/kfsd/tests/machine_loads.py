@@ -1,0 +1,166 @@
+"""Load on three machines and their faults, for long or for figures: hosts/load machines."""
+import random
+import time
+
+from clustering import image_in
+from fuzzing.codec import decode_image
+from fuzzing.images import contents_of, finding, tree_of
+from loading import FILES, load_users, make_directory, said_by, start_load
+from machines import Cluster, is_possible
+from running import Daemon
+
+# How long a fault stands, and the calls go on behind it.
+BETWEEN = (0.5, 3)
+
+
+class Part:
+    """The users of a load whose clients connect to one machine."""
+
+    def __init__(self, machine, users):
+        self.room, self.binaries, self.users, self.machine = machine.room, machine.binaries, users, machine
+
+    def connect(self, client):
+        return self.machine.connect(client)
+
+    def prepare(self):
+        """Makes their directories, and writes what kfsload reads of them."""
+        with open(f"{self.room}/users.toml", "w", encoding="ascii") as file:
+            for it in self.users:
+                make_directory(self, it)
+                first = it["grant"][0]
+                file.write(f"[[user]]\nuid = {it['uid']}\ngid = {it['gid']}\nclient = {it['client']}\ndirectory = {first}\nfirst = {first + 1}\n")
+
+
+def kill(cluster, _chance):
+    leader = cluster.leader()
+    leader.process.kill()
+    leader.process.wait()
+    return cluster.another_leads()[1]
+
+
+def cut(cluster, _chance):
+    leader, count = cluster.leader(), len(cluster.leader().statuses)
+    leader.cut(True)
+    took = cluster.another_leads()[1]
+    cluster.wait_for(lambda: len(leader.statuses) > count)
+    leader.cut(False)
+    return took
+
+
+def stand_still(cluster, _chance):
+    leader = cluster.leader()
+    leader.stand_still()
+    took = cluster.another_leads()[1]
+    leader.go_on()
+    return took
+
+
+def kill_etcd(cluster, chance):
+    machine, began, first = chance.choice(cluster.machines), time.monotonic(), cluster.next()
+    machine.kill_etcd()
+    cluster.wait_for(lambda: cluster.next() > first + 1)
+    took = time.monotonic() - began
+    machine.start_etcd()
+    cluster.wait_for(lambda: cluster.etcdctl("endpoint", "health").returncode == 0)
+    return took
+
+
+def compare(image, users, files):
+    """Looks whether an image keeps the ten rules, and has those files of the clients, and no other."""
+    raw = decode_image(image)
+    assert finding(raw) is None, finding(raw)
+    tree, contents = tree_of(raw), contents_of(raw)
+    expected = {(1, b"d%d" % it["client"]): it["grant"][0] for it in users}
+    expected |= {(it["directory"], it["name"].encode()): it["number"] for it in files}
+    assert tree.names == expected, "the names are others"
+    for it in files:
+        assert contents[it["number"]].read(0, it["size"]) == bytes([it["fill"]]) * it["size"], it
+
+
+def run(made, connections, calls, faults, **settings):
+    """Has connections make so many calls, a third of them at each machine, beside so many faults of each kind. Looks at all images at the end."""
+    users = load_users(30, connections)
+    limits = {"connections_a_user": -(-connections // len(users)) + 8}
+    with Cluster(made, settings=settings, is_watched=False, users=users, tiers=(4 * FILES * connections, 16, 16), **limits) as cluster:
+        parts = [Part(machine, users[at::3]) for at, machine in enumerate(cluster.machines)]
+        for it in parts:
+            it.prepare()
+        began, chance = time.monotonic(), random.Random(connections)
+        loads = [start_load(it, "--connections", connections // 3, "--calls", calls // 3) for it in parts]
+        try:
+            took = with_faults(cluster, loads, faults, chance)
+        finally:
+            for it in loads:
+                it.kill()
+        seconds = time.monotonic() - began
+        assert [it.returncode for it in loads] == [0, 0, 0], "a call was answered otherwise than is right"
+        said = [said_by(it) for it in parts]
+        cluster.settle()
+        images = {image_in(it.state(cluster.room)) for it in cluster.machines}
+        assert len(images) == 1, "the images differ"
+        compare(images.pop(), users, [file for _, files in said for file in files])
+        answered, again = (sum(figures[name] for figures, _ in said) for name in ("answered", "again"))
+        print(f"    {answered} calls of {connections} connections in {seconds:.0f} s, {again} handed in again; three images are the same, keep the ten rules, and have the clients' files")
+        for fault, times in took.items():
+            if times:
+                print(f"    {fault.__name__}: {len(times)} times; calls went on after {min(times):.1f} to {max(times):.1f} s, in the middle {sorted(times)[len(times) // 2]:.1f}")
+        print(f"    kfsd ended {sum(len(it.statuses) for it in cluster.machines)} times, and has removed the groups before {cluster_first(cluster)} of {cluster.next()}")
+
+
+def with_faults(cluster, loads, faults, chance):
+    """Waits for the end of loads, beside so many faults of each kind. Returns how long each kept calls from being answered."""
+    order = [fault for fault, count in faults.items() for _ in range(count)]
+    chance.shuffle(order)
+    took = {fault: [] for fault in faults}
+    for fault in order:
+        sleep(cluster, chance.uniform(*BETWEEN))
+        if all(it.poll() is not None for it in loads):
+            break
+        took[fault].append(fault(cluster, chance))
+    while any(it.poll() is None for it in loads):
+        sleep(cluster, 0.5)
+    return took
+
+
+def cluster_first(cluster):
+    rows = cluster.rows("group/", "--limit=1")
+    return int(rows[0][0].rpartition("/")[2], 16) if rows else cluster.next()
+
+
+def sleep(cluster, seconds):
+    end = time.monotonic() + seconds
+    while time.monotonic() < end:
+        cluster.look_after()
+        time.sleep(0.1)
+
+
+def figures(made, seconds):
+    """Prints how many calls a second connections make at a leader, and at a kfsd without etcd."""
+    print("connections                calls/s    median 99 of 100      most, in microseconds")
+    for connections in (1, 10, 100, 1000):
+        users = load_users(min(30, connections), connections)
+        words = {"users": users, "tiers": (8192, 16, 16), "connections_a_user": 64}
+        with Daemon(*made, **words).start() as alone:
+            show(connections, "alone", alone, users, seconds)
+        with Cluster(made, is_watched=False, **words) as cluster:
+            leader = cluster.leader()
+            show(connections, "at the leader", leader, users, seconds)
+        with Cluster(made, is_watched=False, **words) as cluster:
+            leader = cluster.leader()
+            show(connections, "handed on", next(it for it in cluster.machines if it is not leader), users, seconds)
+
+
+def show(connections, name, machine, users, seconds):
+    part = Part(machine, users)
+    part.prepare()
+    assert start_load(part, "--connections", connections, "--seconds", seconds).wait(timeout=seconds + 120) == 0
+    found = said_by(part)[0]
+    print(f"{connections:>11} {name:<14} {found['calls_a_second']:>8.0f} {found['median_micros']:>9} {found['micros_of_99_in_100']:>9} {found['most_micros']:>9}", flush=True)
+
+
+def load_on_machines(made):
+    """90 connections of 30 users make 30,000 calls, a third of them at each machine, beside faults of each kind."""
+    run(made, 90, 30_000, {kill: 2, cut: 1, stand_still: 1, kill_etcd: 1}, state_bytes=300_000)
+
+
+TESTS = [load_on_machines] if is_possible() else []
