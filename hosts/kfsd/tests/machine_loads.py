@@ -65,6 +65,11 @@ def kill_etcd(cluster, chance):
     return took
 
 
+def faults_of(kills, cuts, stands, etcd_kills):
+    """So many faults of each kind."""
+    return {kill: kills, cut: cuts, stand_still: stands, kill_etcd: etcd_kills}
+
+
 def compare(image, users, files):
     """Looks whether an image keeps the ten rules, and has those files of the clients, and no other."""
     raw = decode_image(image)

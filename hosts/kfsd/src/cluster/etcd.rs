@@ -127,7 +127,9 @@ impl Etcd {
         let text = question.to_string();
         let mut tried = 0;
         loop {
-            let left = end.saturating_duration_since(Instant::now()).min(ATTEMPT);
+            // Where all are slow, the same isn't asked ever more often.
+            let most = ATTEMPT * (1 + tried / self.members.len() as u32);
+            let left = end.saturating_duration_since(Instant::now()).min(most);
             let place = self.first.load(Ordering::Relaxed) % self.members.len();
             let member = &self.members[place];
             let fault = match timeout(left, ask_one(member, path, &text)).await {
@@ -144,7 +146,7 @@ impl Etcd {
             if Instant::now() >= end {
                 return Err(EtcdFault::Unreached(fault));
             }
-            if tried % self.members.len() == 0 {
+            if tried % self.members.len() as u32 == 0 {
                 sleep(AGAIN).await;
             }
         }

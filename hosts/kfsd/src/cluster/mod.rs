@@ -38,7 +38,9 @@ pub enum ClusterFault {
          the two desks differ"
     )]
     Differs { number: u64, place: usize, theirs: Vec<u8>, own: Vec<u8> },
-    #[error("group {0} isn't in etcd any more, and this kfsd hasn't made its calls: a new start has another member send its state")]
+    #[error(
+        "group {0} isn't in etcd any more, and this kfsd hasn't made its calls: a new start has another member send its state"
+    )]
     Gap(u64),
     #[error("etcd is at group {next}, and this kfsd has seen {own}: etcd has lost some")]
     Ahead { own: u64, next: u64 },
