@@ -1,5 +1,6 @@
 """Three machines with etcd and kfsd each, and their faults: no answered call is lost, none is made twice, and all desks are the same."""
 import collections
+import contextlib
 import os
 import random
 import re
@@ -10,7 +11,7 @@ import threading
 import time
 
 from killing import FILES, NO, USERS, YES, answered_by, run_with_kills, say, submission
-from machines import LOST, NETWORK, Cluster, is_possible
+from machines import LOST, NETWORK, Cluster, Machine
 from numbering import AGAIN, UNDER_WAY, UNKNOWN, Numbering, bare
 from running import FRONT, FRONTS, Gone, frame, lease, numbered, user
 
@@ -199,6 +200,27 @@ def connections_are_handed_on(made):
         name, who, address, first, count, *members = cluster.volumes().splitlines()[1].split()
         assert (name, who, int(first), int(count)) == ("volume", cluster.leader().name, 0, cluster.next()) and address.startswith(NETWORK)
         assert " ".join(members) == "a 0, b 0, c 0"
+        ends_alike(cluster)
+
+
+def two_volumes_beside_each_other(made):
+    """Two volumes on the same machines, over one etcd: each has its leader, its calls and its desk."""
+    with Cluster(made) as cluster, contextlib.ExitStack() as held:
+        others = [held.enter_context(Machine(cluster, it.name, made, volume="another", port=9471)) for it in cluster.machines]
+        for it in others:
+            it.begin()
+        cluster.wait_for(lambda: any(it.leads() for it in others))
+        assert cluster.leader().connect(7).ask(1, numbered(5, lease(7, 1 << 40, writes=True))).answer[4] == 4
+        leader = next(it for it in others if it.leads())
+        assert leader.connect(8).ask(1, numbered(5, lease(8, 1 << 40, writes=True))).answer[4] == 4
+        assert leader.connect(7).ask(1, numbered(5)).refusal == ("NotThere", 0)
+        lines = [line.split() for line in cluster.volumes().splitlines()[1:]]
+        assert [line[:2] for line in lines] == [["another", leader.name], ["volume", cluster.leader().name]], lines
+        leader.process.kill()
+        cluster.wait_for(lambda: any(it.leads() for it in others if it is not leader))
+        second = next(it for it in others if it.leads())
+        assert second.connect(8).ask(1, numbered(5)).answer[:4] == AGAIN
+        assert cluster.leader().connect(7).ask(2, numbered(5)).answer[:4] == AGAIN
         ends_alike(cluster)
 
 
@@ -427,6 +449,6 @@ def a_desk_that_differs_stops(made):
 
 
 TESTS = [
-    a_standby_takes_over, connections_are_handed_on, a_new_standby_fetches_a_state, leaders_killed, leaders_cut_off, leaders_that_stand_still, members_of_etcd_killed, files_created_once_on_machines, long_calls_go_in_parts,
+    a_standby_takes_over, connections_are_handed_on, two_volumes_beside_each_other, a_new_standby_fetches_a_state, leaders_killed, leaders_cut_off, leaders_that_stand_still, members_of_etcd_killed, files_created_once_on_machines, long_calls_go_in_parts,
     a_desk_that_differs_stops,
-] if is_possible() else []
+]

@@ -5,7 +5,7 @@ import time
 
 from clustering import calls_of, ends_alike, worked
 from killing import YES, submission
-from machines import Cluster, is_possible
+from machines import Cluster
 from numbering import UNDER_WAY, UNKNOWN
 from running import Gone, lease, numbered, user
 
@@ -171,4 +171,4 @@ def one_serial_history(made):
     history(made, 300, {kill: 2, cut: 1, stand_still: 1, kill_etcd: 1})
 
 
-TESTS = [one_serial_history] if is_possible() else []
+TESTS = [one_serial_history]

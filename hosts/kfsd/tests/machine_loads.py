@@ -6,7 +6,7 @@ from clustering import image_in
 from fuzzing.codec import decode_image
 from fuzzing.images import contents_of, finding, tree_of
 from loading import FILES, load_users, make_directory, said_by, start_load
-from machines import Cluster, is_possible
+from machines import Cluster
 from running import Daemon
 
 # How long a fault stands, and the calls go on behind it.
@@ -65,9 +65,22 @@ def kill_etcd(cluster, chance):
     return took
 
 
-def faults_of(kills, cuts, stands, etcd_kills):
+def slow_disks(cluster, chance):
+    """For some seconds a member of etcd or a kfs_serve stands still for a while, again and again."""
+    began = time.monotonic()
+    while time.monotonic() - began < 5:
+        machine = chance.choice(cluster.machines)
+        if machine.process.poll() is None:
+            machine.hesitate(chance.uniform(0.05, 0.6))
+        cluster.look_after()
+    first = cluster.next()
+    cluster.wait_for(lambda: cluster.next() > first + 1)
+    return time.monotonic() - began - 5
+
+
+def faults_of(kills, cuts, stands, etcd_kills, slows):
     """So many faults of each kind."""
-    return {kill: kills, cut: cuts, stand_still: stands, kill_etcd: etcd_kills}
+    return {kill: kills, cut: cuts, stand_still: stands, kill_etcd: etcd_kills, slow_disks: slows}
 
 
 def compare(image, users, files):
@@ -165,7 +178,7 @@ def show(connections, name, machine, users, seconds):
 
 def load_on_machines(made):
     """90 connections of 30 users make 30,000 calls, a third of them at each machine, beside faults of each kind."""
-    run(made, 90, 30_000, {kill: 2, cut: 1, stand_still: 1, kill_etcd: 1}, state_bytes=300_000)
+    run(made, 90, 30_000, faults_of(2, 1, 1, 1, 1), state_bytes=300_000)
 
 
-TESTS = [load_on_machines] if is_possible() else []
+TESTS = [load_on_machines]

@@ -11,7 +11,7 @@ import tempfile
 import threading
 import time
 
-from running import FRONT, SOON, Daemon, frame, kept_in
+from running import FRONT, SOON, Daemon, children_of, frame, kept_in
 
 from frames import Server, checkpoint  # noqa: I001
 
@@ -29,8 +29,9 @@ def ip(*words, check=True):
 class Machine(Daemon):
     """A namespace, and what runs in it."""
 
-    def __init__(self, cluster, name, made, **settings):
+    def __init__(self, cluster, name, made, volume=VOLUME, port=KFSD_PORT, **settings):
         super().__init__(*made, **settings)
+        self.volume, self.port = volume, port
         self.cluster, self.name = cluster, name
         at = NAMES.index(name)
         self.space, self.address = f"{cluster.space}-{name}", f"{NETWORK}.{at + 1}"
@@ -44,8 +45,8 @@ class Machine(Daemon):
     def put_config(self):
         super().put_config()
         settings = {
-            "etcd": [f"{it.address}:{CLIENTS_PORT}" for it in self.cluster.in_order(self)], "volume": VOLUME, "member": self.name,
-            "peer": f"{self.address}:{KFSD_PORT}", "key_file": f"{self.cluster.room}/key", **self.cluster.settings,
+            "etcd": [f"{it.address}:{CLIENTS_PORT}" for it in self.cluster.in_order(self)], "volume": self.volume, "member": self.name,
+            "peer": f"{self.address}:{self.port}", "key_file": f"{self.cluster.room}/key", **self.cluster.settings,
         }
         with open(f"{self.room}/kfsd.toml", "a", encoding="utf-8") as it:
             it.write("\n".join(["[cluster]", *(f"{name} = {json.dumps(value)}" for name, value in settings.items())]) + "\n")
@@ -147,6 +148,15 @@ class Machine(Daemon):
     def go_on(self):
         os.kill(self.process.pid, signal.SIGCONT)
 
+    def hesitate(self, seconds):
+        """Lets the member of etcd, and then kfs_serve, stand for so long, as where a disk is slow."""
+        for held in [os.pidfd_open(self.etcd.pid), *children_of(self.process.pid)]:
+            with contextlib.suppress(ProcessLookupError):
+                signal.pidfd_send_signal(held, signal.SIGSTOP)
+                time.sleep(seconds)
+                signal.pidfd_send_signal(held, signal.SIGCONT)
+            os.close(held)
+
     def leads(self):
         """Whether it has said that it leads, and not since that it follows."""
         said = self.said()
@@ -188,6 +198,7 @@ class Cluster:
 
     def start(self):
         """Makes the namespaces, and starts all in them. Returns when one leads."""
+        assert shutil.which("etcd") and shutil.which("etcdctl"), "hosts/setup installs etcd"
         self.held.callback(self.unlink)
         with open(f"{self.room}/key", "wb", opener=lambda path, flags: os.open(path, flags, 0o600)) as it:
             it.write(os.urandom(32))
@@ -317,8 +328,3 @@ class Cluster:
                 assert it.stop()[0] == 0
         leader.go_on()
         assert leader.stop()[0] == 0
-
-
-def is_possible():
-    """Whether there are etcd and namespaces here."""
-    return bool(shutil.which("etcd") and shutil.which("etcdctl")) and ip("netns", "list", check=False).returncode == 0
