@@ -251,9 +251,13 @@ class Cluster:
             ip("netns", "del", it.space, check=False)
 
     def wait_for(self, is_so, seconds=2 * SOON):
-        end = time.monotonic() + seconds
+        now = time.monotonic()
+        end = now + seconds
         while not is_so():
-            assert time.monotonic() < end, "nothing came in time"
+            before, now = now, time.monotonic()
+            # Where all of this stood still meanwhile, that doesn't count.
+            end += now - before if now - before > 10 else 0
+            assert now < end, "nothing came in time"
             self.look_after()
             time.sleep(0.02)
 
