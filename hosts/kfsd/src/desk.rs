@@ -1,6 +1,6 @@
 //! `kfs_serve`: the process, its two pipes, and a new one where it ends before its time.
 
-use crate::calls::Note;
+use crate::calls::Told;
 use crate::connection::Shared;
 use crate::flight::Flight;
 use crate::folder::{Folder, Found};
@@ -112,7 +112,7 @@ impl Desk {
             following.times().begin_with(store.stamps()?);
             if store.begin()? {
                 // The kfsd before may not have kept these.
-                found.recent.iter().for_each(|changes| following.times().landed(changes, times::now()));
+                found.recent.iter().for_each(|changes| following.times().changed(changes, times::now()));
             }
             drop(store);
             self.keep(shared)
@@ -144,11 +144,10 @@ impl Desk {
             if let Some(number) = sent.numbered {
                 following.outcomes.end(sent.client, number, answer_of(sent).map(Vec::as_slice));
             }
-            if let Note::Submit(changes) = &sent.note {
-                // One that is like it may have landed before. Then its time is later than it was.
-                if found.recent.contains(changes) {
-                    following.times().landed(changes, times::now());
-                }
+            // One that is like it may have been made before. Then its time is later than it was.
+            let changes = sent.note.changes();
+            if !changes.is_empty() && found.recent.iter().any(|made| changes == *made) {
+                following.times().changed(&changes, times::now());
             }
         }
         self.keep(shared)?;
@@ -172,6 +171,7 @@ impl Desk {
         figures.process.set(child.id().map_or(0, u64::from));
         let mut from = BufReader::new(from);
         let flight = Flight::default();
+        shared.queue.begin_anew();
         let has_begun = is_open(&mut to, &mut from).await;
         let mut is_done = false;
         if has_begun {
@@ -316,6 +316,10 @@ async fn read_replies(from: &mut (impl AsyncRead + Unpin), shared: &Shared, flig
         }
         if let Some(own) = sent.numbered {
             shared.following.outcomes.end(sent.client, own, reply.answer());
+        }
+        if sent.is_long() {
+            let is_done = matches!(reply.answer().map(Told::of), Some(Told::Landed | Told::Leased(_)));
+            shared.queue.long_answered(sent.client, sent.length, is_done);
         }
         if sent.is_kept() {
             flight.ended();

@@ -5,20 +5,28 @@ use crate::connection::{self, Shared};
 use crate::control;
 use crate::daemon::DaemonFault;
 use crate::frames::Refusal;
+use crate::pace::Pace;
 use crate::peer::uid_of;
+use crate::users::Place;
 use std::fs::{self, Permissions};
 use std::io::{self, Write};
 use std::os::unix::fs::{FileTypeExt, PermissionsExt};
 use std::path::{Path, PathBuf};
 use std::sync::Arc;
-use std::time::Duration;
+use std::time::{Duration, Instant};
+use tokio::net::unix::SocketAddr;
 use tokio::net::{UnixListener, UnixStream};
 use tokio::task::{yield_now, JoinSet};
-use tokio::time::sleep;
+use tokio::time::{sleep, sleep_until};
 use tracing::warn;
 
 /// How long a listener rests where the system has no descriptor left.
 const REST: Duration = Duration::from_millis(100);
+
+/// How many connections kfsd refuses a second, and how many at once. Behind more of them it takes none for a while, and who
+/// connects again and again waits in the kernel's line.
+const REFUSALS: u32 = 1_000;
+const REFUSED_AT_ONCE: u32 = 10;
 
 /// A socket of a path, which goes with it.
 struct Socket {
@@ -71,11 +79,14 @@ impl Sockets {
 pub async fn accept(sockets: Sockets, shared: Arc<Shared>) {
     let mut stopping = shared.stopping.clone();
     let mut tasks = JoinSet::new();
+    let (refusals, mut next) = (Pace::new(REFUSALS, REFUSED_AT_ONCE), Instant::now());
     loop {
         tokio::select! {
-            taken = sockets.clients.listener.accept() => match taken {
+            taken = accept_at(&sockets.clients.listener, next) => match taken {
                 Ok((stream, _)) => {
-                    take(stream, &shared, &mut tasks);
+                    if !take(stream, &shared, &mut tasks) {
+                        next = Instant::now() + refusals.wait();
+                    }
                     // Where one comes after another, the tasks of those that were taken wait for this one else.
                     yield_now().await;
                 }
@@ -93,19 +104,22 @@ pub async fn accept(sockets: Sockets, shared: Arc<Shared>) {
     while tasks.join_next().await.is_some() {}
 }
 
+/// The next connection, from this moment on.
+async fn accept_at(listener: &UnixListener, moment: Instant) -> io::Result<(UnixStream, SocketAddr)> {
+    if moment > Instant::now() {
+        sleep_until(moment.into()).await;
+    }
+    listener.accept().await
+}
+
 async fn rest(fault: io::Error) {
     warn!("no connection is taken: {fault}");
     sleep(REST).await;
 }
 
-/// Has a connection served, where its user is listed and may have one more.
-fn take(stream: UnixStream, shared: &Arc<Shared>, tasks: &mut JoinSet<()>) {
-    let account = uid_of(&stream).ok().and_then(|uid| shared.table.borrow().of(uid));
-    let place = match account {
-        None => Err(Refusal::Unlisted),
-        Some(account) => account.connect(shared.limits.connections_a_user).ok_or(Refusal::TooMany),
-    };
-    match place {
+/// Has a connection served, where its user is listed and may have one more. Answers whether it is.
+fn take(stream: UnixStream, shared: &Arc<Shared>, tasks: &mut JoinSet<()>) -> bool {
+    match place_of(&stream, shared) {
         Ok(place) => {
             shared.figures.connections.add(1);
             let (wait, shared) = (place.account.arrivals.wait(), Arc::clone(shared));
@@ -115,11 +129,24 @@ fn take(stream: UnixStream, shared: &Arc<Shared>, tasks: &mut JoinSet<()>) {
                 }
                 connection::serve(stream, place, shared).await;
             });
+            true
         }
         Err(refusal) => {
             shared.figures.turned_away.add(1);
             turn_away(stream, refusal);
+            false
         }
+    }
+}
+
+/// The place of a connection among those of its user.
+fn place_of(stream: &UnixStream, shared: &Shared) -> Result<Place, Refusal> {
+    let uid = uid_of(stream).map_err(|_| Refusal::Unlisted)?;
+    let table = shared.table.borrow();
+    match table.of(uid) {
+        Some(account) => account.connect(shared.limits.connections_a_user).ok_or(Refusal::TooMany),
+        None if table.is_stranger(uid) => Err(Refusal::NoClient),
+        None => Err(Refusal::Unlisted),
     }
 }
 

@@ -106,13 +106,16 @@ fn standing(shared: &Shared) -> Standing {
     Standing { moment: following.clock.now(), leases, wanted_leases, moved_blocks: shared.figures.moved.get() }
 }
 
-/// A line for each user that may connect.
+/// A line for each user that may connect, and then one for each that is listed and may not.
 pub fn users(shared: &Shared) -> String {
     let mut text = String::from("     uid   client connections frames_left bytes_left\n");
     for user in status(shared).user {
         let UserStatus { uid, client, connections, frames_left, bytes_left } = user;
         // Nothing is refused where a String is written to, here and below.
         let _ = writeln!(text, "{uid:>8} {client:>8} {connections:>11} {frames_left:>11} {bytes_left:>10}");
+    }
+    for user in shared.table.borrow().strangers() {
+        let _ = writeln!(text, "{:>8} {:>8} is kept out: the desk has no such client", user.uid, user.client);
     }
     text
 }

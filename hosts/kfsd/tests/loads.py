@@ -19,7 +19,7 @@ def load_of(daemon, connections, seconds, *words):
     """The figures of a load."""
     running = start_load(daemon, "--connections", connections, "--seconds", seconds, *words)
     assert running.wait(timeout=seconds + 120) == 0, "a call was answered otherwise than is right"
-    return said_by(daemon)[0]
+    return said_by(daemon)
 
 
 def line(figures):
