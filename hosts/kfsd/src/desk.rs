@@ -293,7 +293,9 @@ fn say_why(read: io::Result<()>) {
 /// Sends calls until the queue has ended. Then the input of `kfs_serve` ends, too.
 async fn write_calls(mut to: ChildStdin, shared: &Shared, flight: &Flight) -> io::Result<()> {
     while let Some(Batch { bytes, sent }) = shared.queue.next(flight.room().await).await {
-        shared.figures.sent.add(sent.iter().filter(|one| one.client != FRONT).count());
+        let of_clients = || sent.iter().filter(|one| one.client != FRONT);
+        shared.figures.sent.add(of_clients().count());
+        shared.figures.waited.add(of_clients().map(|one| one.came.elapsed().as_micros() as usize).sum());
         flight.add(sent).await;
         to.write_all(&bytes).await?;
     }

@@ -25,7 +25,7 @@ const REST: Duration = Duration::from_millis(100);
 
 /// How many connections kfsd refuses a second, and how many at once. Behind more of them it takes none for a while, and who
 /// connects again and again waits in the kernel's line.
-const REFUSALS: u32 = 1_000;
+const REFUSALS: u32 = 4_000;
 const REFUSED_AT_ONCE: u32 = 10;
 
 /// A socket of a path, which goes with it.

@@ -51,7 +51,9 @@ pub struct FrameStatus {
     pub unknown: u64,
     pub answered_here: u64,
     pub own: u64,
+    /// From a whole frame to the answer, and how much of that frames waited in line.
     pub mean_micros: u64,
+    pub mean_waiting_micros: u64,
 }
 
 #[derive(Debug, Deserialize, Serialize)]
@@ -94,6 +96,7 @@ pub fn status(shared: &Shared) -> Status {
             answered_here: figures.answered_here.get(),
             own: figures.own.get(),
             mean_micros: micros.checked_div(figures.times.count()).unwrap_or(0),
+            mean_waiting_micros: figures.waited.get().checked_div(figures.sent.get()).unwrap_or(0),
         },
         user: user.collect(),
     }

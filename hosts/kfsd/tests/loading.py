@@ -103,9 +103,10 @@ class Sizes(threading.Thread):
                 self.found.append((time.monotonic() - began, self.room.resident(), serve_resident(self.room)))
 
     def parts(self, at, count=4):
-        """The most that was seen in each part of the time, in MiB."""
+        """The median and the most that were seen in each part of the time, in MiB."""
         size = max(1, -(-len(self.found) // count))
-        return [max(it[at] for it in self.found[first : first + size]) >> 20 for first in range(0, len(self.found), size)]
+        parts = [sorted(it[at] >> 20 for it in self.found[first : first + size]) for first in range(0, len(self.found), size)]
+        return ", ".join(f"{part[len(part) // 2]} to {part[-1]}" for part in parts)
 
 
 def serve_resident(daemon):
@@ -192,7 +193,7 @@ def load_with_kills(made, connections, users, seconds, kills, kfsd_kills, calls=
         sizes.is_over.set()
         figures, unknown = said_by(daemon), daemon.status()["frames"]["unknown"]
         print(f"    {figures['answered']} calls of {connections} connections in {figures['seconds']:.0f} s, {figures['again']} handed in again; {done[0]} kills of kfs_serve and {done[1]} of kfsd")
-        print(f"    memory in quarters of the time, {len(sizes.found)} times looked at: kfsd {sizes.parts(1)} MiB, kfs_serve {sizes.parts(2)} MiB", flush=True)
+        print(f"    memory in quarters of the time, {len(sizes.found)} times looked at, median to most: kfsd {sizes.parts(1)} MiB; kfs_serve {sizes.parts(2)} MiB", flush=True)
         began = time.monotonic()
         count, files = compare(daemon, follower)
         print(f"    a model made the {count} calls of the journal in {time.monotonic() - began:.0f} s, with the answers that it has; it was begun anew {follower.renewals} times")

@@ -7,6 +7,7 @@
 
 #![forbid(unsafe_code)]
 
+mod kernel;
 mod making;
 mod steps;
 
@@ -18,6 +19,7 @@ use nix::unistd::{geteuid, seteuid, Uid};
 use serde::{Deserialize, Serialize};
 use std::fs::File as Disk;
 use std::io::{BufWriter, Write};
+use std::os::unix::fs::FileExt;
 use std::path::{Path, PathBuf};
 use std::sync::atomic::{AtomicU64, Ordering};
 use std::sync::{Arc, Mutex, PoisonError};
@@ -42,11 +44,14 @@ const ASK_AGAIN: [u8; 3] = [128, 129, 133];
 /// Makes calls until so many are answered, or so many seconds are over.
 #[derive(Debug, Parser)]
 struct Words {
-    #[arg(long)]
+    #[arg(long, default_value = "/run/kfsd/socket")]
     socket: PathBuf,
     /// The users, as TOML.
-    #[arg(long)]
+    #[arg(long, default_value = "users.toml")]
     users: PathBuf,
+    /// Does the same with files of this folder through the kernel, in as many threads; without leases.
+    #[arg(long)]
+    kernel: Option<PathBuf>,
     #[arg(long)]
     connections: u32,
     #[arg(long, default_value_t = u64::MAX)]
@@ -117,6 +122,7 @@ struct Figures {
     again: u64,
     seconds: f64,
     calls_a_second: f64,
+    mean_micros: f64,
     median_micros: u32,
     micros_of_99_in_100: u32,
     most_micros: u32,
@@ -137,10 +143,10 @@ impl Shared {
         Ok(())
     }
 
-    /// Tells the count of answers, without end.
-    async fn tell(&self, path: &Path) -> Result<()> {
+    /// Tells the count of answers, without end. The file is open: as another user it couldn't be opened.
+    async fn tell(&self, file: Disk) -> Result<()> {
         loop {
-            std::fs::write(path, self.answered.load(Ordering::Relaxed).to_string())?;
+            file.write_all_at(format!("{:>20}", self.answered.load(Ordering::Relaxed)).as_bytes(), 0)?;
             sleep(TELLING).await;
         }
     }
@@ -251,18 +257,25 @@ fn users_in(path: &Path) -> Result<Vec<User>> {
     Ok(toml::from_str::<Users>(&std::fs::read_to_string(path)?)?.user)
 }
 
-fn figures(shared: &Shared, mut micros: Vec<u32>, seconds: f64) -> Figures {
+fn figures(again: u64, mut micros: Vec<u32>, seconds: f64) -> Figures {
     micros.sort_unstable();
     let at = |share: f64| micros.get((micros.len() as f64 * share) as usize).copied().unwrap_or(0);
     Figures {
         answered: micros.len() as u64,
-        again: shared.again.load(Ordering::Relaxed),
+        again,
         seconds,
         calls_a_second: micros.len() as f64 / seconds,
+        mean_micros: micros.iter().map(|it| f64::from(*it)).sum::<f64>() / micros.len().max(1) as f64,
         median_micros: at(0.5),
         micros_of_99_in_100: at(0.99),
         most_micros: micros.last().copied().unwrap_or(0),
     }
+}
+
+fn say(again: u64, micros: Vec<u32>, began: Instant) -> Result<()> {
+    let said = Said { figures: figures(again, micros, began.elapsed().as_secs_f64()) };
+    println!("{}", toml::to_string(&said)?);
+    Ok(())
 }
 
 fn shared_of(words: &Words) -> Result<Shared> {
@@ -283,12 +296,16 @@ fn shared_of(words: &Words) -> Result<Shared> {
 #[tokio::main(worker_threads = 2)]
 async fn main() -> Result<()> {
     let words = Words::parse();
+    if let Some(folder) = &words.kernel {
+        let began = Instant::now();
+        return say(0, kernel::run(folder, words.connections, Duration::from_secs_f64(words.seconds))?, began);
+    }
     let users = users_in(&words.users)?;
     ensure!(!users.is_empty(), "there are no users");
     let (began, shared) = (Instant::now(), Arc::new(shared_of(&words)?));
     if let Some(path) = words.progress {
-        let shared = Arc::clone(&shared);
-        tokio::spawn(async move { shared.tell(&path).await });
+        let (shared, file) = (Arc::clone(&shared), Disk::create(path)?);
+        tokio::spawn(async move { shared.tell(file).await });
     }
     let count = users.len() as u32;
     let running: Vec<_> = (0..words.connections)
@@ -301,7 +318,5 @@ async fn main() -> Result<()> {
     if let Some(record) = &shared.record {
         record.lock().unwrap_or_else(PoisonError::into_inner).flush()?;
     }
-    let said = Said { figures: figures(&shared, micros, began.elapsed().as_secs_f64()) };
-    println!("{}", toml::to_string(&said)?);
-    Ok(())
+    say(shared.again.load(Ordering::Relaxed), micros, began)
 }

@@ -87,7 +87,7 @@ impl Making {
     }
 
     /// A file that isn't there behind the log.
-    pub fn is_gone(mut self, number: u32) -> Making {
+    pub fn gone(mut self, number: u32) -> Making {
         self.nodes.insert(number, None);
         self
     }

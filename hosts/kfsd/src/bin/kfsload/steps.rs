@@ -99,7 +99,8 @@ impl File {
             _ => {}
         }
         let making = next.log(step, place);
-        let due = (step != Step::Race).then_some(YES);
+        // What others do tells whether these are done: their plans are right in some states alone.
+        let due = (!matches!(step, Step::Race | Step::ChmodShared)).then_some(YES);
         (next, making.call(), due)
     }
 
@@ -129,7 +130,8 @@ impl File {
                 making.create(directory, &name, number, self.header).write(number, 0, size, self.fill)
             }
             Step::Chmod => {
-                self.header.mode = 0o600 | u16::from(self.fill & 0o77);
+                // Another one than that with which it was created: else the plan has no row.
+                self.header.mode = 0o600 | u16::from(self.fill & 0o33);
                 making.chmod(number, self.header.mode).has(number, self.header)
             }
             Step::Rename => making.rename(number, directory, &name, &other),
@@ -151,9 +153,9 @@ impl File {
                 making.chmod(place.shared, header.mode).has(place.shared, header)
             }
             Step::Race => making.create(directory, RACE, place.spare, Header { mode: 0o600, links: 1, size: 0 }),
-            Step::EndRace => making.unlink(directory, RACE).is_gone(place.spare),
-            Step::Unlink if self.header.links == 2 => making.unlink(directory, &name).unlink(directory, &other).is_gone(number),
-            Step::Unlink => making.unlink(directory, &name).is_gone(number),
+            Step::EndRace => making.unlink(directory, RACE).gone(place.spare),
+            Step::Unlink if self.header.links == 2 => making.unlink(directory, &name).unlink(directory, &other).gone(number),
+            Step::Unlink => making.unlink(directory, &name).gone(number),
             _ => making.write(number, 0, size, self.fill),
         }
     }
