@@ -72,29 +72,59 @@ def figures(made, seconds, folder=None):
             print(f"{threads:>11} {'tmpfs':>8} {line(found)} {found['mean_micros']:>9.1f}", flush=True)
 
 
-def in_library(made, bench, seconds):
-    """Hands the calls of a load to the library in one process, without frames and sockets: on a desk that isn't kept, and on one
-    that is, on a tmpfs and on the disk of /tmp, with so many calls in a group. `bench` is the program of tools/bench-kept."""
-    with Daemon(*made, users=load_users(10, 10), tiers=(8192, 16, 16)).start() as daemon:
+def calls_of_load(made, connections, seconds):
+    """The calls of a load, in the order in which they were kept; its users, and the sizes of the tiers."""
+    with Daemon(*made, users=load_users(10, connections), tiers=(8192, 16, 16)).start() as daemon:
         follower = Follower(daemon.folder, f"{daemon.room}/copy")
         follower.start()
         prepare(daemon)
-        load_of(daemon, 10, seconds, "--plain")
+        load_of(daemon, connections, seconds, "--plain")
         follower.end()
-        calls = [call for call, _ in calls_in(f"{daemon.room}/copy")]
-        users, sizes = daemon.users, daemon.tiers
+        return [call for call, _ in calls_in(f"{daemon.room}/copy")], daemon.users, daemon.tiers
+
+
+def through_pipes(program, folder, calls, users, sizes):
+    """How many seconds kfs_serve takes for all of these calls, where they are there at once."""
+    with open(f"{folder}/clients", "w", encoding="ascii") as file:
+        file.writelines(f"client {it['client']} {it['uid']} {it['gid']} 0 {it['grant'][0]} {it['grant'][1]}\n" for it in users)
+    data = b"".join(frame(at & 0xFFFFFFFF, int.from_bytes(call[1:5], "big"), call) for at, call in enumerate(calls))
+    words = [program, "new", folder, str((1 << 32) - 1), f"{folder}/clients", *map(str, sizes)]
+    with open(f"{folder}/frames", "w+b") as file, open("/dev/null", "wb") as nowhere:
+        file.write(data)
+        file.seek(0)
+        began = time.monotonic()
+        subprocess.run(words, stdin=file, stdout=nowhere, check=True)
+        return time.monotonic() - began
+
+
+def in_library(made, bench, seconds):
+    """Hands the calls of a load to kfs_serve alone, in one stream, and where `bench` is the program of tools/bench-kept, to the
+    library: to a desk that isn't kept, and to one that is, with so many calls in a group. On a tmpfs, and on the disk of /tmp."""
+    calls, users, sizes = calls_of_load(made, 10, seconds)
+    print(f"{len(calls)} calls, {sum(map(len, calls)) / len(calls):.0f} bytes each")
+    for where in ("/dev/shm", "/tmp"):
+        with tempfile.TemporaryDirectory(dir=where) as folder:
+            taken = through_pipes(made[1], folder, calls, users, sizes)
+            print(f"{where:>9} kfs_serve alone {len(calls) / taken:>9.0f} calls/s {taken / len(calls) * 1e6:>6.2f} us", flush=True)
+    if not bench:
+        return
     clients = [client_bytes([it["client"], it["uid"], it["gid"], 0, *it["grant"]]) for it in users]
     state = b"KDSK\x01" + bytes(8) + struct.pack(">II", len(clients), 0) + b"".join(clients) + fresh_image(sizes)
-    print(f"{len(calls)} calls, {sum(map(len, calls)) / len(calls):.0f} bytes each")
     for where in ("-", "/dev/shm", "/tmp"):
         for size in (1, 8, 64, 512):
-            with tempfile.TemporaryDirectory() as room, tempfile.TemporaryDirectory(dir=where if where != "-" else "/tmp") as folder:
-                # of single calls on the disk fewer do
-                some = calls[: 5000 * size] if where == "/tmp" else calls
-                put_files(room, {"state": state, "steps": b"".join(step_bytes(some[at : at + size]) for at in range(0, len(some), size))})
-                said = subprocess.run([bench, where if where == "-" else folder, "state", "steps"], cwd=room, check=True, capture_output=True)
-                nanos = sum(map(int, said.stdout.split()))
-                print(f"{where:>9} {size:>4} in a group {len(some) / nanos * 1e9:>9.0f} calls/s {nanos / len(some) / 1000:>6.2f} us", flush=True)
+            # of single calls on the disk fewer do
+            some = calls[: 5000 * size] if where == "/tmp" else calls
+            taken = by_library(bench, where, state, [some[at : at + size] for at in range(0, len(some), size)])
+            print(f"{where:>9} {size:>4} in a group {len(some) / taken:>9.0f} calls/s {taken / len(some) * 1e6:>6.2f} us", flush=True)
+
+
+def by_library(bench, where, state, groups):
+    """How many seconds the library takes for these groups, kept in a folder there, or not at all."""
+    kept = where != "-"
+    with tempfile.TemporaryDirectory() as room, tempfile.TemporaryDirectory(dir=where if kept else None) as folder:
+        put_files(room, {"state": state, "steps": b"".join(map(step_bytes, groups))})
+        said = subprocess.run([bench, folder if kept else where, "state", "steps"], cwd=room, check=True, capture_output=True)
+        return sum(map(int, said.stdout.split())) / 1e9
 
 
 # ---- Clients that would harm others. Each goes on until it is killed, in a process of its own.
