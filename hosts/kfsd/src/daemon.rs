@@ -296,8 +296,8 @@ impl Daemon {
 
 /// The table of a configuration's users. Those who aren't clients of the desk are named in the log, and kept out.
 fn table_of(config: &Config, clients: &str, before: &Table) -> Table {
-    let (table, strangers) = Table::new(&config.users, clients, &config.limits, before);
-    for user in strangers {
+    let table = Table::new(&config.users, clients, &config.limits, before);
+    for user in table.strangers() {
         warn!("user {} is kept out: the desk was begun without `{}`, and takes no new client", user.uid, user.line());
     }
     table

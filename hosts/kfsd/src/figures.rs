@@ -93,6 +93,8 @@ pub struct Figures {
     pub group: Count,
     /// From a whole frame to the desk's answer.
     pub times: Times,
+    /// How many microseconds of that frames waited in line, all together.
+    pub waited: Count,
 }
 
 #[cfg(test)]

@@ -4,20 +4,26 @@ use crate::connection::{self, Shared};
 use crate::control;
 use crate::daemon::DaemonFault;
 use crate::frames::Refusal;
+use crate::pace::Pace;
 use crate::peer::uid_of;
 use std::fs::{self, Permissions};
 use std::io::{self, Write};
 use std::os::unix::fs::{FileTypeExt, PermissionsExt};
 use std::path::{Path, PathBuf};
 use std::sync::Arc;
-use std::time::Duration;
+use std::time::{Duration, Instant};
 use tokio::net::{UnixListener, UnixStream};
 use tokio::task::{yield_now, JoinSet};
-use tokio::time::sleep;
+use tokio::time::{sleep, sleep_until};
 use tracing::warn;
 
 /// How long a listener rests where the system has no descriptor left.
 const REST: Duration = Duration::from_millis(100);
+
+/// How many connections kfsd refuses a second, and how many at once. Behind more of them it takes none for a while, and who
+/// connects again and again waits in the kernel's line.
+const REFUSALS: u32 = 4_000;
+const REFUSED_AT_ONCE: u32 = 10;
 
 /// A socket of a path, which goes with it.
 pub struct Socket {
@@ -75,11 +81,14 @@ impl Sockets {
 pub async fn accept(sockets: Sockets, shared: Arc<Shared>) {
     let mut stopping = shared.stopping.clone();
     let mut tasks = JoinSet::new();
+    let (refusals, mut next) = (Pace::new(REFUSALS, REFUSED_AT_ONCE), Instant::now());
     loop {
         tokio::select! {
-            taken = sockets.clients.accept() => match taken {
+            taken = accept_at(&sockets.clients, next) => match taken {
                 Ok(stream) => {
-                    take(stream, &shared, &mut tasks);
+                    if !take(stream, &shared, &mut tasks) {
+                        next = Instant::now() + refusals.wait();
+                    }
                     // Where one comes after another, the tasks of those that were taken wait for this one else.
                     yield_now().await;
                 }
@@ -97,15 +106,23 @@ pub async fn accept(sockets: Sockets, shared: Arc<Shared>) {
     while tasks.join_next().await.is_some() {}
 }
 
+/// The next connection, from this moment on.
+async fn accept_at(socket: &Socket, moment: Instant) -> io::Result<UnixStream> {
+    if moment > Instant::now() {
+        sleep_until(moment.into()).await;
+    }
+    socket.accept().await
+}
+
 /// Rests where no connection can be taken.
 pub async fn rest(fault: io::Error) {
     warn!("no connection is taken: {fault}");
     sleep(REST).await;
 }
 
-/// Has a connection served, where its user is listed and may have one more.
-fn take(stream: UnixStream, shared: &Arc<Shared>, tasks: &mut JoinSet<()>) {
-    match uid_of(&stream).map_or(Err(Refusal::Unlisted), |uid| shared.place_of(uid)) {
+/// Has a connection served, where its user is listed and may have one more. Answers whether it is.
+fn take(stream: UnixStream, shared: &Arc<Shared>, tasks: &mut JoinSet<()>) -> bool {
+    match shared.place_of(uid_of(&stream)) {
         Ok(place) => {
             shared.figures.connections.add(1);
             let (wait, shared) = (place.account.arrivals.wait(), Arc::clone(shared));
@@ -116,10 +133,12 @@ fn take(stream: UnixStream, shared: &Arc<Shared>, tasks: &mut JoinSet<()>) {
                 let (from, to) = stream.into_split();
                 connection::serve(from, to, place, shared).await;
             });
+            true
         }
         Err(refusal) => {
             shared.figures.turned_away.add(1);
             turn_away(stream, refusal);
+            false
         }
     }
 }

@@ -24,10 +24,9 @@ TICK, MIGRATE = 4, 5
 
 # ---- What is in etcd, and what the files stand for
 
-def groups_of(cluster):
-    """All groups by their numbers, also those that were removed: the calls of each, with their answers. Each was put once, in the order of their numbers."""
-    count = cluster.next()
-    parts, found = {}, {}
+def raw_groups_of(cluster):
+    """The bytes of all groups without time and moment, also of those that were removed. Each was put once, in the order of their numbers."""
+    parts, found = {}, []
     for _, key, value in cluster.puts():
         if key.startswith("part/"):
             parts[key] = value
@@ -35,13 +34,18 @@ def groups_of(cluster):
             number = int(key.rpartition("/")[2], 16)
             assert number == len(found), f"group {number} comes behind group {len(found) - 1}"
             whole = value[1:] if value[0] == 1 else b"".join(parts[f"part/{number:016x}/{at:08x}"] for at in range(int.from_bytes(value[1:], "big")))
-            found[number] = calls_in(whole)
-    assert len(found) == count
+            found.append(whole[16:])
+    assert len(found) == cluster.next()
     return found
 
 
+def groups_of(cluster):
+    """All groups by their numbers: the calls of each, with their answers."""
+    return {number: calls_in(group) for number, group in enumerate(raw_groups_of(cluster))}
+
+
 def calls_in(data):
-    at, found = 16, []
+    at, found = 0, []
     while at < len(data):
         end = at + 4 + int.from_bytes(data[at : at + 4], "big")
         found.append((data[at + 4 : end], data[end + 1 : end + 1 + data[end]]))
@@ -164,11 +168,14 @@ def a_standby_takes_over(made):
         assert seven.ask(2, submission(0)).answer[4] == NO and seven.ask(3, numbered(7, submission(1))).answer[4] == YES
         assert moment <= seven.moment()[0] <= moment + (time.monotonic() - began) + 1
         assert second.connect(8).ask(1, lease(8, 100, writes=True)).answer[4] == 8
+        seven.send(4, struct.pack(">BIq", 0xF5, 2, -5))
+        assert seven.next() == (4, bytes([0xF5, 1]))
         told = seven.times(2)
+        assert told is not None
         second.process.kill()
         third, took = cluster.another_leads()
         assert third.connect(7).ask(1, numbered(7)).answer[4] == YES
-        assert third.connect(7).times(2) == told is not None
+        assert third.connect(7).times(2) == told
         first.begin()
         ends_alike(cluster)
         print(f"    told to stop, another one led {quick:.1f} s behind its end; killed, {took:.1f} s")

@@ -2,11 +2,12 @@
 import random
 import time
 
-from clustering import image_in
+from clustering import image_in, raw_groups_of
 from fuzzing.codec import decode_image
-from fuzzing.images import contents_of, finding, tree_of
-from loading import FILES, load_users, make_directory, said_by, start_load
+from fuzzing.images import finding
+from loading import NUMBERS, load_users, prepare, said_by, start_load
 from machines import Cluster
+from replaying import of_image, recorded, replayed, same
 from running import Daemon
 
 # How long a fault stands, and the calls go on behind it.
@@ -21,14 +22,6 @@ class Part:
 
     def connect(self, client):
         return self.machine.connect(client)
-
-    def prepare(self):
-        """Makes their directories, and writes what kfsload reads of them."""
-        with open(f"{self.room}/users.toml", "w", encoding="ascii") as file:
-            for it in self.users:
-                make_directory(self, it)
-                first = it["grant"][0]
-                file.write(f"[[user]]\nuid = {it['uid']}\ngid = {it['gid']}\nclient = {it['client']}\ndirectory = {first}\nfirst = {first + 1}\n")
 
 
 def kill(cluster, _chance):
@@ -83,28 +76,33 @@ def faults_of(kills, cuts, stands, etcd_kills, slows):
     return {kill: kills, cut: cuts, stand_still: stands, kill_etcd: etcd_kills, slow_disks: slows}
 
 
-def compare(image, users, files):
-    """Looks whether an image keeps the ten rules, and has those files of the clients, and no other."""
-    raw = decode_image(image)
-    assert finding(raw) is None, finding(raw)
-    tree, contents = tree_of(raw), contents_of(raw)
-    expected = {(1, b"d%d" % it["client"]): it["grant"][0] for it in users}
-    expected |= {(it["directory"], it["name"].encode()): it["number"] for it in files}
-    assert tree.names == expected, "the names are others"
-    for it in files:
-        assert contents[it["number"]].read(0, it["size"]) == bytes([it["fill"]]) * it["size"], it
+def compare(cluster, parts, images):
+    """Has a model make the calls of all groups. Each call that was answered has to be among them, once and with its answer, and the image to be
+    the model's. Returns how many calls there are, and how many files."""
+    with open(f"{cluster.room}/copy", "wb") as copy:
+        for group in raw_groups_of(cluster):
+            copy.write(len(group).to_bytes(4, "big") + group)
+    model, numbered = replayed(f"{cluster.room}/copy", cluster.users, cluster.machines[0].tiers)
+    answered = {}
+    for it in parts:
+        answered |= recorded(f"{it.room}/record")
+    assert numbered.made == answered, "a call was lost, or answered otherwise than it was made"
+    due = model.all()
+    same(of_image(decode_image(images.pop())), due)
+    return model.count, len(due[2])
 
 
-def run(made, connections, calls, faults, **settings):
-    """Has connections make so many calls, a third of them at each machine, beside so many faults of each kind. Looks at all images at the end."""
+def run(made, connections, calls, faults, is_watched=False, **settings):
+    """Has connections make so many calls of all kinds, a third of them at each machine, beside so many faults of each kind. Looks at all images at
+    the end, and where all groups are watched at all calls."""
     users = load_users(30, connections)
     limits = {"connections_a_user": -(-connections // len(users)) + 8}
-    with Cluster(made, settings=settings, is_watched=False, users=users, tiers=(4 * FILES * connections, 16, 16), **limits) as cluster:
+    with Cluster(made, settings=settings, is_watched=is_watched, users=users, tiers=(4 * NUMBERS * connections, 16, 16), **limits) as cluster:
         parts = [Part(machine, users[at::3]) for at, machine in enumerate(cluster.machines)]
         for it in parts:
-            it.prepare()
+            prepare(it)
         began, chance = time.monotonic(), random.Random(connections)
-        loads = [start_load(it, "--connections", connections // 3, "--calls", calls // 3) for it in parts]
+        loads = [start_load(it, "--connections", connections // 3, "--calls", calls // 3, "--mixed", "--record", f"{it.room}/record") for it in parts]
         try:
             took = with_faults(cluster, loads, faults, chance)
         finally:
@@ -112,17 +110,20 @@ def run(made, connections, calls, faults, **settings):
                 it.kill()
         seconds = time.monotonic() - began
         assert [it.returncode for it in loads] == [0, 0, 0], "a call was answered otherwise than is right"
-        said = [said_by(it) for it in parts]
         cluster.settle()
         images = {image_in(it.state(cluster.room)) for it in cluster.machines}
         assert len(images) == 1, "the images differ"
-        compare(images.pop(), users, [file for _, files in said for file in files])
-        answered, again = (sum(figures[name] for figures, _ in said) for name in ("answered", "again"))
-        print(f"    {answered} calls of {connections} connections in {seconds:.0f} s, {again} handed in again; three images are the same, keep the ten rules, and have the clients' files")
+        assert all(finding(decode_image(it)) is None for it in images)
+        figures = [said_by(it) for it in parts]
+        answered, again = (sum(it[name] for it in figures) for name in ("answered", "again"))
+        print(f"    {answered} calls of {connections} connections in {seconds:.0f} s, {again} handed in again; three images are the same, and keep the ten rules")
         for fault, times in took.items():
             if times:
                 print(f"    {fault.__name__}: {len(times)} times; calls went on after {min(times):.1f} to {max(times):.1f} s, in the middle {sorted(times)[len(times) // 2]:.1f}")
         print(f"    kfsd ended {sum(len(it.statuses) for it in cluster.machines)} times, and has removed the groups before {cluster_first(cluster)} of {cluster.next()}")
+        if is_watched:
+            count, files = compare(cluster, parts, images)
+            print(f"    a model made the {count} calls with the same answers, each that was answered once, and has the {files} files of the image")
 
 
 def with_faults(cluster, loads, faults, chance):
@@ -170,15 +171,15 @@ def figures(made, seconds):
 
 def show(connections, name, machine, users, seconds):
     part = Part(machine, users)
-    part.prepare()
+    prepare(part)
     assert start_load(part, "--connections", connections, "--seconds", seconds).wait(timeout=seconds + 120) == 0
-    found = said_by(part)[0]
+    found = said_by(part)
     print(f"{connections:>11} {name:<14} {found['calls_a_second']:>8.0f} {found['median_micros']:>9} {found['micros_of_99_in_100']:>9} {found['most_micros']:>9}", flush=True)
 
 
 def load_on_machines(made):
     """90 connections of 30 users make 30,000 calls, a third of them at each machine, beside faults of each kind."""
-    run(made, 90, 30_000, faults_of(2, 1, 1, 1, 1), state_bytes=300_000)
+    run(made, 90, 30_000, faults_of(2, 1, 1, 1, 1), is_watched=True, state_bytes=300_000)
 
 
 TESTS = [load_on_machines]

@@ -56,6 +56,8 @@ impl Base {
             bytes.extend_from_slice(&node.to_be_bytes());
             bytes.extend_from_slice(&stamp.modified.to_be_bytes());
             bytes.extend_from_slice(&stamp.changed.to_be_bytes());
+            bytes.push(u8::from(stamp.set.is_some()));
+            bytes.extend_from_slice(&stamp.set.unwrap_or(0).to_be_bytes());
         }
         bytes
     }
@@ -70,7 +72,8 @@ impl Base {
         }
         while !bytes.0.is_empty() {
             let (node, modified, changed) = (bytes.word()?, bytes.long()? as i64, bytes.long()? as i64);
-            base.stamps.push((node, Stamp { modified, changed, moved: 0 }));
+            let (is_set, time) = (bytes.byte()? == 1, bytes.long()? as i64);
+            base.stamps.push((node, Stamp { modified, changed, moved: 0, set: is_set.then_some(time) }));
         }
         Some(base)
     }
@@ -184,9 +187,14 @@ mod tests {
         fs::write(from.0.join(FILES[0]), file(3, b"ab")).unwrap();
         fs::write(from.0.join(FILES[1]), [file(4, b"cde"), vec![1, 0, 0, 0, 1, 9]].concat()).unwrap();
         let outcome = |number| Outcome { client: 7, number, answer: vec![1, 2, 3] };
-        let stamp = Stamp { modified: -1, changed: 5, moved: 0 };
-        let base =
-            Base { volume: 1, number: 2, moment: 3, outcomes: vec![outcome(9), outcome(u64::MAX)], stamps: vec![(5, stamp)] };
+        let stamp = |set| Stamp { modified: -1, changed: 5, moved: 0, set };
+        let base = Base {
+            volume: 1,
+            number: 2,
+            moment: 3,
+            outcomes: vec![outcome(9), outcome(u64::MAX)],
+            stamps: vec![(5, stamp(None)), (6, stamp(Some(-9)))],
+        };
         bases.copy(&from.0).unwrap();
         assert_eq!(bases.read().unwrap(), None);
         bases.keep(&base).unwrap();

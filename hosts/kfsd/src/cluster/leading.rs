@@ -8,10 +8,10 @@ use super::replica::{bodies, Replica};
 use super::volume::{Lead, Volume};
 use super::{blocking, ClusterFault};
 use crate::connection::Shared;
+use crate::desk::{count_sent, take_over};
 use crate::frames::Reply;
 use crate::queue::{Answer, Batch, Sent};
 use crate::times;
-use crate::users::FRONT;
 use std::convert::Infallible;
 use std::io::ErrorKind;
 use std::time::{Duration, Instant};
@@ -63,7 +63,7 @@ async fn make(leading: &Leading<'_>, replica: &mut Replica, to: Sender<Made>, sh
     // Nobody keeps a state yet, so its end comes at once.
     let mut under_way = oneshot::channel().1;
     while let Some(Batch { bytes, sent }) = shared.queue.next(MOST).await {
-        shared.figures.sent.add(sent.iter().filter(|one| one.client != FRONT).count());
+        count_sent(&sent, shared);
         let replies = replica.talk(&bytes, sent.len()).await?;
         if replies.iter().zip(&sent).any(|(reply, one)| reply.number != one.number) {
             return Err(ClusterFault::Ended(ErrorKind::InvalidData.into()));
@@ -114,7 +114,11 @@ async fn put(leading: &Leading<'_>, mut next: u64, mut made: Receiver<Made>, sha
             shared.figures.group.set(next);
         }
         for (sent, reply) in said {
-            hand_out(sent, reply, group.time, shared);
+            take_over(&sent, &reply, group.time, shared);
+            if let Some(asker) = sent.asker {
+                // Where the connection is gone nobody hears it.
+                let _ = asker.to.send(Answer::Said(reply));
+            }
         }
         // All of it is in etcd.
         drop(shared.following.take_unsaved());
@@ -155,26 +159,6 @@ async fn trim(leading: &Leading<'_>) -> Infallible {
                 Err(fault) => warn!("{fault}"),
             }
         }
-    }
-}
-
-/// Takes over what a call has done, and tells who has asked.
-fn hand_out(sent: Sent, reply: Reply, time: i64, shared: &Shared) {
-    if sent.client == FRONT {
-        shared.figures.own.add(1);
-    } else {
-        shared.figures.answered.add(1);
-        shared.figures.times.add(sent.came.elapsed());
-    }
-    if let Some(answer) = reply.answer() {
-        shared.following.answered_at(&sent.note, answer, time);
-    }
-    if let Some(own) = sent.numbered {
-        shared.following.outcomes.end(sent.client, own, reply.answer());
-    }
-    if let Some(asker) = sent.asker {
-        // Where the connection is gone nobody hears it.
-        let _ = asker.to.send(Answer::Said(reply));
     }
 }
 

@@ -311,7 +311,7 @@ impl Follower {
     fn take(&mut self, number: u64, group: &super::group::Group, shared: &Shared) {
         let following = &shared.following;
         for (call, answer) in &group.calls {
-            following.answered_at(&Note::of(call), answer, group.time);
+            following.answered(&Note::of(call), answer, group.time);
             if let Some(outcome) = self.finder.next(call, answer) {
                 following.outcomes.end(outcome.client, outcome.number, Some(answer));
             }

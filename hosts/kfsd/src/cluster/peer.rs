@@ -181,7 +181,7 @@ async fn serve_user(mut stream: TcpStream, uid: u32, shared: Arc<Shared>) -> io:
     if shared.figures.opened.get() != 1 {
         return Ok(());
     }
-    match shared.place_of(uid) {
+    match shared.place_of(Ok(uid)) {
         Ok(place) => {
             shared.figures.connections.add(1);
             let (from, to) = stream.into_split();

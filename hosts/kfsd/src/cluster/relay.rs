@@ -3,7 +3,6 @@
 use super::peer::{connect_user, Key};
 use crate::connection::Shared;
 use crate::control;
-use crate::frames::Refusal;
 use crate::peer::uid_of;
 use crate::sockets::{rest, turn_away, Sockets};
 use crate::users::Place;
@@ -44,7 +43,7 @@ pub async fn relay(sockets: &Sockets, shared: &Arc<Shared>, leader: Leader, key:
 
 /// Hands a connection on, where its user is listed and may have one more.
 fn take(stream: UnixStream, shared: &Shared, leader: &Leader, key: &Key, tasks: &mut JoinSet<()>) {
-    match uid_of(&stream).map_or(Err(Refusal::Unlisted), |uid| shared.place_of(uid)) {
+    match shared.place_of(uid_of(&stream)) {
         Ok(place) => drop(tasks.spawn(hand_on(stream, place, leader.clone(), key.clone()))),
         Err(refusal) => turn_away(stream, refusal),
     }
