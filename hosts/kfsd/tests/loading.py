@@ -181,6 +181,8 @@ def load_with_kills(made, connections, users, seconds, kills, kfsd_kills, calls=
     """Has so many connections make calls of all kinds while kfs_serve and kfsd are killed, and looks at what is there at the end."""
     limits = {"connections_a_user": -(-connections // users) + 8}
     with Shared(*made, users=load_users(users, connections), tiers=(4 * NUMBERS * connections, 16, 16), **limits).start() as daemon:
+        # a journal of much load takes long to open, beside other work
+        daemon.patience = max(daemon.patience, seconds / 4)
         follower = Follower(daemon.folder, f"{daemon.room}/copy")
         follower.start()
         prepare(daemon)
@@ -188,8 +190,11 @@ def load_with_kills(made, connections, users, seconds, kills, kfsd_kills, calls=
         sizes.start()
         words = ["--mixed", "--record", f"{daemon.room}/record", "--progress", f"{daemon.room}/progress"]
         running = start_load(daemon, "--connections", connections, "--seconds", seconds, *words, *(["--calls", calls] if calls else []))
-        done = kill_on(daemon, running, kills, kfsd_kills, share_of(daemon, seconds, calls), chance)
-        assert running.wait(timeout=seconds + 600) == 0, "a call was answered otherwise than is right"
+        try:
+            done = kill_on(daemon, running, kills, kfsd_kills, share_of(daemon, seconds, calls), chance)
+            assert running.wait(timeout=seconds + 600) == 0, "a call was answered otherwise than is right"
+        finally:
+            running.kill()
         sizes.is_over.set()
         figures, unknown = said_by(daemon), daemon.status()["frames"]["unknown"]
         print(f"    {figures['answered']} calls of {connections} connections in {figures['seconds']:.0f} s, {figures['again']} handed in again; {done[0]} kills of kfs_serve and {done[1]} of kfsd")

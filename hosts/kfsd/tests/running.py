@@ -154,7 +154,7 @@ class Daemon:
         self.folder, self.program = f"{self.room}/desk", program
         os.mkdir(self.folder, 0o700)
         self.log = f"{self.room}/log"
-        self.process, self.runs_as = None, None
+        self.process, self.runs_as, self.patience = None, None, SOON
 
     def __enter__(self):
         return self
@@ -199,7 +199,7 @@ class Daemon:
         return self
 
     def wait_for(self, is_so):
-        end = time.monotonic() + SOON
+        end = time.monotonic() + self.patience
         while not is_so():
             assert self.process.poll() is None, f"kfsd has ended with status {self.process.poll()}"
             assert time.monotonic() < end, "nothing came in time"
