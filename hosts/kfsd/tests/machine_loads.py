@@ -1,4 +1,5 @@
 """Load on three machines and their faults, for long or for figures: hosts/load machines."""
+import os
 import random
 import time
 
@@ -21,6 +22,8 @@ class Part:
         self.room, self.binaries, self.users, self.machine = machine.room, machine.binaries, users, machine
 
     def connect(self, client):
+        # where it begins to lead, its socket isn't there for a moment
+        self.machine.cluster.wait_for(lambda: os.path.exists(f"{self.room}/socket"))
         return self.machine.connect(client)
 
 
@@ -111,7 +114,7 @@ def run(made, connections, calls, faults, is_watched=False, **settings):
         seconds = time.monotonic() - began
         assert [it.returncode for it in loads] == [0, 0, 0], "a call was answered otherwise than is right"
         cluster.settle()
-        images = {image_in(it.state(cluster.room)) for it in cluster.machines}
+        images = {image_in(it.state(f"{cluster.room}/states")) for it in cluster.machines}
         assert len(images) == 1, "the images differ"
         assert all(finding(decode_image(it)) is None for it in images)
         figures = [said_by(it) for it in parts]
@@ -160,6 +163,7 @@ def figures(made, seconds):
         users = load_users(min(30, connections), connections)
         words = {"users": users, "tiers": (8192, 16, 16), "connections_a_user": 64}
         with Daemon(*made, **words).start() as alone:
+            alone.cluster = alone
             show(connections, "alone", alone, users, seconds)
         with Cluster(made, is_watched=False, **words) as cluster:
             leader = cluster.leader()
