@@ -13,6 +13,7 @@ from running import Daemon
 
 # How long a fault stands, and the calls go on behind it.
 BETWEEN = (0.5, 3)
+COUNTS = (1, 10, 100, 1000)
 
 
 class Part:
@@ -159,7 +160,7 @@ def sleep(cluster, seconds):
 def figures(made, seconds):
     """Prints how many calls a second connections make at a leader, and at a kfsd without etcd."""
     print("connections                calls/s    median 99 of 100      most, in microseconds")
-    for connections in (1, 10, 100, 1000):
+    for connections in COUNTS:
         users = load_users(min(30, connections), connections)
         words = {"users": users, "tiers": (8192, 16, 16), "connections_a_user": 64}
         with Daemon(*made, **words).start() as alone:
