@@ -1,12 +1,17 @@
 //! Calls of a desk and their answers as bytes (docs/FORMATS.md), as far as kfsd follows what the desk does.
 
 use crate::bytes::Bytes;
+use std::borrow::Cow;
 
 const SUBMIT: u8 = 1;
 const LEASE: u8 = 2;
 const DROP: u8 = 3;
 const TICK: u8 = 4;
+const MIGRATE: u8 = 5;
 const LEASE_BY_NUMBER: u8 = 6;
+
+/// No block has this tier: it says that a call of moves sets a time.
+const TIME_TIER: u8 = 0xfe;
 
 /// What a lease is asked on.
 #[derive(Clone, Debug, PartialEq, Eq, Hash)]
@@ -34,6 +39,17 @@ pub enum Change {
     Header,
     /// It isn't there any more.
     Gone,
+    /// Its owner sets when it was modified.
+    Time(Setting),
+}
+
+/// When a node was modified, as its owner sets it.
+#[derive(Clone, Copy, Debug, PartialEq, Eq)]
+pub struct Setting {
+    /// In nanoseconds since 1970.
+    pub time: i64,
+    /// No time of the node was known. Else one that isn't known any more is that of a node which is gone.
+    pub is_first: bool,
 }
 
 /// What kfsd follows of a call.
@@ -45,6 +61,8 @@ pub enum Note {
     },
     /// A log and its plan. A plan that is right names all that the log changes.
     Submit(Vec<(u32, Change)>),
+    /// kfsd's own call that keeps the time which an owner sets on a node.
+    Time(u32, Setting),
     /// Nothing is followed, or it is told by the answer.
     Nothing,
 }
@@ -55,9 +73,21 @@ impl Note {
         Note::read(body).unwrap_or(Note::Nothing)
     }
 
+    /// What it changes where it is done.
+    pub fn changes(&self) -> Cow<'_, [(u32, Change)]> {
+        match self {
+            Note::Submit(changes) => Cow::Borrowed(changes),
+            Note::Time(node, set) => Cow::Owned(vec![(*node, Change::Time(*set))]),
+            _ => Cow::Borrowed(&[]),
+        }
+    }
+
     fn read(body: &[u8]) -> Option<Note> {
         let mut bytes = Bytes(body);
         let tag = bytes.byte()?;
+        if tag == MIGRATE {
+            return time_in(body);
+        }
         let client = bytes.word()?;
         match tag {
             SUBMIT => {
@@ -115,6 +145,26 @@ fn put(found: &mut Vec<(u32, Change)>, node: u32, change: Change) {
     if found.last() != Some(&(node, change)) {
         found.push((node, change));
     }
+}
+
+/// The call that keeps the time which an owner sets on a node: a call of moves that the desk refuses and keeps, since no node
+/// has the number 0.
+pub fn time_call(node: u32, set: Setting) -> Vec<u8> {
+    let mut body = vec![MIGRATE, 0, 2, 0, 0, 0, 0];
+    body.extend_from_slice(&node.to_be_bytes());
+    body.push(TIME_TIER);
+    body.extend_from_slice(&u32::from(set.is_first).to_be_bytes());
+    body.extend_from_slice(&set.time.to_be_bytes());
+    body.push(TIME_TIER);
+    body.extend_from_slice(&[0; 4]);
+    body
+}
+
+fn time_in(body: &[u8]) -> Option<Note> {
+    let mut bytes = Bytes(body.get(7..)?);
+    let (node, _tier, first, time) = (bytes.word()?, bytes.byte()?, bytes.word()?, bytes.long()? as i64);
+    let set = Setting { time, is_first: first == 1 };
+    (body == time_call(node, set)).then_some(Note::Time(node, set))
 }
 
 /// The call that sets the moment.
@@ -186,6 +236,22 @@ mod tests {
         assert_eq!(Note::of(&by_path[..16]), Note::Nothing);
         assert_eq!(Note::of(&[]), Note::Nothing);
         assert_eq!(tick(258), [4, 0, 0, 0, 0, 0, 0, 1, 2]);
+    }
+
+    #[test]
+    fn times_that_owners_set_are_read() {
+        for time in [i64::MIN, -1, 0, 258, i64::MAX] {
+            let set = Setting { time, is_first: time < 0 };
+            let call = time_call(7, set);
+            assert_eq!(Note::of(&call), Note::Time(7, set));
+            for at in (0..7).chain([11, 15, 24, 28]) {
+                let mut other = call.clone();
+                other[at] ^= 2;
+                assert_eq!(Note::of(&other), Note::Nothing);
+            }
+            assert_eq!(Note::of(&call[..28]), Note::Nothing);
+        }
+        assert_eq!(Note::of(&crate::outcomes::Marker::new(7, 9, &[]).bytes()), Note::Nothing);
     }
 
     #[test]

@@ -20,6 +20,11 @@ impl Clock {
         base.saturating_add(since.elapsed().as_secs())
     }
 
+    /// Goes on from this moment, whatever is now. Nobody has asked for a moment yet.
+    pub fn go_on_from(&self, moment: u64) {
+        *self.0.lock().unwrap_or_else(PoisonError::into_inner) = (moment, Instant::now());
+    }
+
     /// Goes on from this moment, where it is later than now.
     pub fn at_least(&self, moment: u64) {
         if moment > self.now() {

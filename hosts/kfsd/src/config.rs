@@ -1,5 +1,6 @@
 //! The file that an administrator writes.
 
+use crate::cluster::Settings;
 use crate::frames::{BODY_LIMIT, FOUND_BYTES};
 use crate::users::{User, UsersFault};
 use serde::Deserialize;
@@ -53,6 +54,8 @@ pub struct Config {
     pub duties: Duties,
     #[serde(default, rename = "user")]
     pub users: Vec<User>,
+    /// Where the desk is one of several alike. None where it is on this machine alone.
+    pub cluster: Option<Settings>,
 }
 
 fn most_rows() -> u32 {
@@ -181,6 +184,9 @@ impl Config {
         if let Some(address) = config.figures.filter(|address| !address.ip().is_loopback()) {
             return Err(ConfigFault::NotLocal(address));
         }
+        if let Some(fault) = config.cluster.as_ref().and_then(Settings::fault) {
+            return Err(ConfigFault::Limit(fault));
+        }
         crate::users::check(&config.users)?;
         Ok(config)
     }
@@ -196,6 +202,7 @@ impl Config {
             && self.rows == other.rows
             && self.limits == other.limits
             && self.duties == other.duties
+            && self.cluster == other.cluster
     }
 }
 

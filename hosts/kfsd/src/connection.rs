@@ -2,12 +2,14 @@
 //!
 //! What it waits for is its own: its reader's bytes, its writer's room, and places of its own user. So it holds up no other user.
 
-use crate::calls::{Note, Wish};
+use crate::calls::{time_call, Note, Setting, Wish};
+use crate::cluster::term::Term;
 use crate::config::{Duties, Limits, FRAME_COST};
 use crate::figures::Figures;
 use crate::following::Following;
 use crate::frames::{
-    asked, found_in, moment, reply, times, told_again, wanted, welcome, Asked, Head, Refusal, HEAD, NUMBERED_HEAD,
+    asked, found_in, moment, node_look_up, owner_in, reply, times, told_again, wanted, welcome, Asked, Head, Refusal, Reply,
+    TimeSet, HEAD, NUMBERED_HEAD,
 };
 use crate::outcomes::Stands;
 use crate::queue::{Answer, Asker, Call, Permits, Queue};
@@ -18,7 +20,6 @@ use std::pin::Pin;
 use std::sync::Arc;
 use std::time::{Duration, Instant};
 use tokio::io::{sink, AsyncRead, AsyncReadExt, AsyncWrite, AsyncWriteExt, BufReader};
-use tokio::net::UnixStream;
 use tokio::sync::{mpsc, oneshot, watch, AcquireError, Semaphore};
 use tokio::time::{sleep, timeout};
 use tracing::debug;
@@ -41,10 +42,25 @@ pub struct Shared {
     pub duties: Duties,
     /// How the desk stands.
     pub following: Following,
+    /// Until when nobody else leads.
+    pub term: Term,
     /// The users that may be connected now.
     pub table: watch::Receiver<Arc<Table>>,
     /// Whether no frame is read any more.
     pub stopping: watch::Receiver<bool>,
+}
+
+impl Shared {
+    /// A place for one more connection of a user, where it is listed and may have one.
+    pub fn place_of(&self, uid: io::Result<u32>) -> Result<Place, Refusal> {
+        let uid = uid.map_err(|_| Refusal::Unlisted)?;
+        let table = self.table.borrow();
+        match table.of(uid) {
+            Some(account) => account.connect(self.limits.connections_a_user).ok_or(Refusal::TooMany),
+            None if table.is_stranger(uid) => Err(Refusal::NoClient),
+            None => Err(Refusal::Unlisted),
+        }
+    }
 }
 
 /// Why no frame is read any more.
@@ -134,9 +150,8 @@ enum Said {
 }
 
 /// Serves a connection to its end.
-pub async fn serve(stream: UnixStream, place: Place, shared: Arc<Shared>) {
+pub async fn serve(from: impl AsyncRead + Unpin, to: impl AsyncWrite + Unpin, place: Place, shared: Arc<Shared>) {
     let limits = &shared.limits;
-    let (from, to) = stream.into_split();
     // There is room for as many as may be under way, so a reader doesn't wait here.
     let (slots, waiting) = mpsc::channel(limits.frames_a_connection as usize);
     let mut reader = Reader {
@@ -245,11 +260,11 @@ impl<R: AsyncRead + Unpin> Reader<'_, R> {
             return self.refuse(head, frame, Refusal::NotYours).await;
         }
         if let Some(said) = self.said_here(head.number, what) {
+            self.shared.term.holds().await;
             return self.put(head, frame, Said::Here(said)).await;
         }
-        if let Asked::Wants(behind) = what {
-            let wants = wants_of(Arc::clone(self.shared), head.number, client, behind);
-            return self.put(head, frame, Said::Later(Box::pin(wants))).await;
+        if let Some(said) = self.said_later(head.number, what) {
+            return self.put(head, frame, said).await;
         }
         let mut number = None;
         if let Asked::Numbered(_, own) = what {
@@ -300,6 +315,19 @@ impl<R: AsyncRead + Unpin> Reader<'_, R> {
                 Stands::UnderWay => Refusal::UnderWay.reply(number),
                 Stands::New => Refusal::NotThere.reply(number),
             }),
+            _ => None,
+        }
+    }
+
+    /// The reply to what kfsd is asked, and waits for. It begins to wait once all before it is answered.
+    fn said_later(&self, number: u32, what: Asked) -> Option<Said> {
+        let (shared, client) = (Arc::clone(self.shared), self.account.user.client);
+        match what {
+            Asked::Wants(behind) => Some(Said::Later(Box::pin(wants_of(shared, number, client, behind)))),
+            Asked::SetTime(node, time) => {
+                let setting = set_time(shared, Arc::clone(&self.account), node, time);
+                Some(Said::Later(Box::pin(async move { setting.await.reply(number) })))
+            }
             _ => None,
         }
     }
@@ -363,6 +391,51 @@ async fn wants_of(shared: Arc<Shared>, number: u32, client: u32, behind: u64) ->
     let _ = timeout(WAITING, waiting).await;
     let wants = shared.following.wants();
     wanted(number, behind, &wants.told(client, behind, now()))
+}
+
+/// How a client was answered that sets a time.
+enum Ended {
+    Told(TimeSet),
+    Refused(Refusal),
+    /// `kfs_serve` knows no look-ups, and says this.
+    Else(Vec<u8>),
+}
+
+impl Ended {
+    fn reply(self, number: u32) -> Vec<u8> {
+        match self {
+            Ended::Told(told) => told.reply(number),
+            Ended::Refused(refusal) => refusal.reply(number),
+            Ended::Else(said) => reply(number, &said),
+        }
+    }
+}
+
+/// The reply of the desk to a call of kfsd's own, or what is told where there is none.
+async fn said_by(answer: oneshot::Receiver<Answer>) -> Result<Reply, Ended> {
+    match answer.await {
+        Ok(Answer::Said(said)) => Ok(said),
+        Ok(Answer::NeverSent) => Err(Ended::Refused(Refusal::Stopping)),
+        Err(_) => Err(Ended::Refused(Refusal::Unknown)),
+    }
+}
+
+/// Sets when a node was modified, where the client may. The desk tells who owns it, and keeps the time among its calls.
+async fn set_time(shared: Arc<Shared>, account: Arc<Account>, node: u32, time: i64) -> Ended {
+    let setting = async {
+        let user = &account.user;
+        let found = said_by(shared.queue.push_as(user.client, node_look_up(node))).await?;
+        match found.found().and_then(owner_in) {
+            None => return Err(Ended::Else(found.said)),
+            Some(None) => return Ok(TimeSet::NoNode),
+            Some(Some(owner)) if owner != user.uid && !user.privileged => return Ok(TimeSet::NotOwner),
+            Some(Some(_)) => {}
+        }
+        let is_first = shared.following.times().of(node).is_none();
+        let kept = said_by(shared.queue.push_own(time_call(node, Setting { time, is_first }))).await?;
+        kept.answer().map_or(Err(Ended::Else(kept.said.clone())), |_| Ok(TimeSet::Set))
+    };
+    setting.await.map_or_else(|ended| ended, Ended::Told)
 }
 
 /// Writes replies in the order of their frames, each as soon as it is there. Those that are there together are written at once.

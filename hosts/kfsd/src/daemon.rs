@@ -1,5 +1,7 @@
 //! From start to stop.
 
+use crate::cluster::member::Member;
+use crate::cluster::term::Term;
 use crate::config::{Config, ConfigFault};
 use crate::connection::Shared;
 use crate::desk::{Desk, DeskFault};
@@ -68,6 +70,7 @@ impl DaemonFault {
             }
             // A program that isn't there is the configuration's fault, and one that can't be run for now isn't.
             DaemonFault::Desk(DeskFault::Process(_, fault)) if !is_wrong_path(fault) => 4,
+            DaemonFault::Desk(DeskFault::Cluster(fault)) => fault.status(),
             _ => 1,
         }
     }
@@ -94,12 +97,16 @@ pub async fn run(path: &Path) -> Result<(), DaemonFault> {
     let config = read_config(path)?;
     let folder = lock(&config).await?;
     let mut signals = Signals::new().map_err(DaemonFault::Signals)?;
-    let (daemon, mut ready) = Daemon::start(config, path, folder)?;
+    let place = tokio::select! {
+        place = Place::of(&config, folder) => place?,
+        _ = signals.stop() => return Ok(()),
+    };
+    let (daemon, mut ready) = Daemon::start(config, path, place)?;
+    daemon.tell_figures().await?;
     if !is_opened(&mut ready, &mut signals).await {
         return daemon.end_desk().await;
     }
-    let sockets = Sockets::bind(&daemon.config)?;
-    daemon.tell_figures().await?;
+    let sockets = Sockets::bind(&daemon.config.socket, &daemon.config.control)?;
     info!("clients may connect to {}", daemon.config.socket.display());
     daemon.serve(sockets, signals).await
 }
@@ -124,10 +131,64 @@ async fn is_opened(ready: &mut watch::Receiver<bool>, signals: &mut Signals) -> 
     }
 }
 
+/// Where the desk is: on this machine alone, or on several.
+enum Place {
+    Alone(Folder),
+    Member(Box<Member>),
+}
+
+/// The desk, before it runs.
+enum Begun {
+    Alone(Desk),
+    Member(Box<Member>),
+}
+
+impl Place {
+    /// The place that a configuration says. A member waits here until etcd answers.
+    async fn of(config: &Config, folder: Folder) -> Result<Place, DaemonFault> {
+        let settings = match &config.cluster {
+            None => return Ok(Place::Alone(folder)),
+            Some(settings) => settings,
+        };
+        let lines = lines_of(&config.users);
+        let member = Member::join(settings, config, folder, &lines).await.map_err(DeskFault::Cluster)?;
+        Ok(Place::Member(Box::new(member)))
+    }
+
+    /// The lines of the clients of the desk.
+    fn clients(&self, config: &Config) -> Result<String, DaemonFault> {
+        match self {
+            Place::Alone(folder) => {
+                folder.clients(&lines_of(&config.users)).map_err(|fault| DaemonFault::Io(folder.clients_path(), fault))
+            }
+            Place::Member(member) => Ok(member.clients().to_string()),
+        }
+    }
+
+    fn term(&self) -> Term {
+        match self {
+            Place::Alone(_) => Term::for_good(),
+            Place::Member(_) => Term::not_yet(),
+        }
+    }
+
+    fn begin(self, config: &Config) -> Result<Begun, DaemonFault> {
+        match self {
+            Place::Alone(folder) => Ok(Begun::Alone(Desk {
+                program: config.program.clone(),
+                store: Arc::new(Mutex::new(open_store(&folder)?)),
+                folder,
+                rows: config.rows,
+                tiers: config.tiers,
+            })),
+            Place::Member(member) => Ok(Begun::Member(member)),
+        }
+    }
+}
+
 impl Daemon {
-    fn start(config: Config, path: &Path, folder: Folder) -> Result<(Daemon, watch::Receiver<bool>), DaemonFault> {
-        let clients =
-            folder.clients(&lines_of(&config.users)).map_err(|fault| DaemonFault::Io(folder.clients_path(), fault))?;
+    fn start(config: Config, path: &Path, place: Place) -> Result<(Daemon, watch::Receiver<bool>), DaemonFault> {
+        let clients = place.clients(&config)?;
         let first = table_of(&config, &clients, &Table::default());
         let (table, tables) = watch::channel(Arc::new(first));
         let (stopping, stops) = watch::channel(false);
@@ -138,20 +199,18 @@ impl Daemon {
             limits: config.limits,
             duties: config.duties,
             following: Following::default(),
+            term: place.term(),
             table: tables,
             stopping: stops,
         });
         shared.following.wants().set_time(Duration::from_secs(shared.duties.wanted_seconds));
-        let desk = Desk {
-            program: config.program.clone(),
-            store: Arc::new(Mutex::new(open_store(&folder)?)),
-            folder,
-            rows: config.rows,
-            tiers: config.tiers,
-        };
+        let desk = place.begin(&config)?;
         let of_desk = Arc::clone(&shared);
         let desk = tokio::spawn(async move {
-            let ended = desk.run(&of_desk, &is_ready).await;
+            let ended = match desk {
+                Begun::Alone(desk) => desk.run(&of_desk, &is_ready).await,
+                Begun::Member(member) => member.run(&of_desk, &is_ready).await.map_err(DeskFault::Cluster),
+            };
             // Nobody answers any more.
             of_desk.queue.give_up();
             ended
@@ -202,7 +261,8 @@ impl Daemon {
 
     /// Ends the desk, once what waits is answered.
     async fn end_desk(mut self) -> Result<(), DaemonFault> {
-        if self.shared.duties.checkpoint_at_stop && self.shared.figures.opened.get() == 1 {
+        let is_for_later = self.shared.duties.checkpoint_at_stop && self.config.cluster.is_none();
+        if is_for_later && self.shared.figures.opened.get() == 1 {
             // Where it isn't made, the next start takes longer.
             drop(self.shared.queue.push_own(vec![CHECKPOINT]));
         }
@@ -236,8 +296,8 @@ impl Daemon {
 
 /// The table of a configuration's users. Those who aren't clients of the desk are named in the log, and kept out.
 fn table_of(config: &Config, clients: &str, before: &Table) -> Table {
-    let (table, strangers) = Table::new(&config.users, clients, &config.limits, before);
-    for user in strangers {
+    let table = Table::new(&config.users, clients, &config.limits, before);
+    for user in table.strangers() {
         warn!("user {} is kept out: the desk was begun without `{}`, and takes no new client", user.uid, user.line());
     }
     table
@@ -297,6 +357,11 @@ impl Signals {
             int: signal(SignalKind::interrupt())?,
             hup: signal(SignalKind::hangup())?,
         })
+    }
+
+    /// Returns when one says to stop.
+    async fn stop(&mut self) {
+        while !matches!(self.next().await, Asked::Stop) {}
     }
 
     async fn next(&mut self) -> Asked {

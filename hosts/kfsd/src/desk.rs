@@ -1,6 +1,7 @@
 //! `kfs_serve`: the process, its two pipes, and a new one where it ends before its time.
 
-use crate::calls::Note;
+use crate::calls::Told;
+use crate::cluster::ClusterFault;
 use crate::connection::Shared;
 use crate::flight::Flight;
 use crate::folder::{Folder, Found};
@@ -55,6 +56,8 @@ pub enum DeskFault {
     Keeping(tokio::task::JoinError),
     #[error("{FRUITLESS} processes of kfs_serve have ended one after another without an answer; the last one: {0}")]
     Fruitless(ExitStatus),
+    #[error(transparent)]
+    Cluster(#[from] ClusterFault),
 }
 
 /// What a start of `kfs_serve` takes.
@@ -112,7 +115,7 @@ impl Desk {
             following.times().begin_with(store.stamps()?);
             if store.begin()? {
                 // The kfsd before may not have kept these.
-                found.recent.iter().for_each(|changes| following.times().landed(changes, times::now()));
+                found.recent.iter().for_each(|changes| following.times().changed(changes, times::now()));
             }
             drop(store);
             self.keep(shared)
@@ -144,11 +147,10 @@ impl Desk {
             if let Some(number) = sent.numbered {
                 following.outcomes.end(sent.client, number, answer_of(sent).map(Vec::as_slice));
             }
-            if let Note::Submit(changes) = &sent.note {
-                // One that is like it may have landed before. Then its time is later than it was.
-                if found.recent.contains(changes) {
-                    following.times().landed(changes, times::now());
-                }
+            // One that is like it may have been made before. Then its time is later than it was.
+            let changes = sent.note.changes();
+            if !changes.is_empty() && found.recent.iter().any(|made| changes == *made) {
+                following.times().changed(&changes, times::now());
             }
         }
         self.keep(shared)?;
@@ -172,6 +174,7 @@ impl Desk {
         figures.process.set(child.id().map_or(0, u64::from));
         let mut from = BufReader::new(from);
         let flight = Flight::default();
+        shared.queue.begin_anew();
         let has_begun = is_open(&mut to, &mut from).await;
         let mut is_done = false;
         if has_begun {
@@ -293,7 +296,7 @@ fn say_why(read: io::Result<()>) {
 /// Sends calls until the queue has ended. Then the input of `kfs_serve` ends, too.
 async fn write_calls(mut to: ChildStdin, shared: &Shared, flight: &Flight) -> io::Result<()> {
     while let Some(Batch { bytes, sent }) = shared.queue.next(flight.room().await).await {
-        shared.figures.sent.add(sent.iter().filter(|one| one.client != FRONT).count());
+        count_sent(&sent, shared);
         flight.add(sent).await;
         to.write_all(&bytes).await?;
     }
@@ -305,18 +308,7 @@ async fn read_replies(from: &mut (impl AsyncRead + Unpin), shared: &Shared, flig
     while let Some(reply) = read_reply(from).await? {
         let wrong = || io::Error::new(io::ErrorKind::InvalidData, format!("a reply to frame {}", reply.number));
         let sent = flight.take(reply.number).ok_or_else(wrong)?;
-        if sent.client == FRONT {
-            shared.figures.own.add(1);
-        } else {
-            shared.figures.answered.add(1);
-            shared.figures.times.add(sent.came.elapsed());
-        }
-        if let Some(answer) = reply.answer() {
-            shared.following.answered(&sent.note, answer);
-        }
-        if let Some(own) = sent.numbered {
-            shared.following.outcomes.end(sent.client, own, reply.answer());
-        }
+        take_over(&sent, &reply, times::now(), shared);
         if sent.is_kept() {
             flight.ended();
         }
@@ -326,6 +318,33 @@ async fn read_replies(from: &mut (impl AsyncRead + Unpin), shared: &Shared, flig
         }
     }
     Ok(())
+}
+
+/// Counts frames that are about to be sent.
+pub fn count_sent(sent: &[Sent], shared: &Shared) {
+    let of_clients = || sent.iter().filter(|one| one.client != FRONT);
+    shared.figures.sent.add(of_clients().count());
+    shared.figures.waited.add(of_clients().map(|one| one.came.elapsed().as_micros() as usize).sum());
+}
+
+/// Takes over what a frame has done, which was answered at this time.
+pub fn take_over(sent: &Sent, reply: &Reply, time: i64, shared: &Shared) {
+    if sent.client == FRONT {
+        shared.figures.own.add(1);
+    } else {
+        shared.figures.answered.add(1);
+        shared.figures.times.add(sent.came.elapsed());
+    }
+    if let Some(answer) = reply.answer() {
+        shared.following.answered(&sent.note, answer, time);
+    }
+    if let Some(own) = sent.numbered {
+        shared.following.outcomes.end(sent.client, own, reply.answer());
+    }
+    if sent.is_long() {
+        let is_done = matches!(reply.answer().map(Told::of), Some(Told::Landed | Told::Leased(_)));
+        shared.queue.long_answered(sent.client, sent.length, is_done);
+    }
 }
 
 /// Waits for the end of a process whose pipes are at their end, and ends it where it doesn't by itself.

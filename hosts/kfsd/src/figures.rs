@@ -89,8 +89,12 @@ pub struct Figures {
     pub starts: Count,
     pub process: Count,
     pub opened: Count,
+    /// The number of the next group of a volume.
+    pub group: Count,
     /// From a whole frame to the desk's answer.
     pub times: Times,
+    /// How many microseconds of that frames waited in line, all together.
+    pub waited: Count,
 }
 
 #[cfg(test)]

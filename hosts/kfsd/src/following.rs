@@ -6,8 +6,9 @@ use crate::journal::{self, Part};
 use crate::leases::Leases;
 use crate::outcomes::{Finder, Outcomes, KEPT};
 use crate::store::{Changes, Outcome};
-use crate::times::{self, Times};
+use crate::times::Times;
 use crate::wants::Wants;
+use std::borrow::Cow;
 use std::collections::{HashMap, VecDeque};
 use std::io;
 use std::path::Path;
@@ -23,7 +24,7 @@ const RECENT: usize = 1 << 20;
 pub struct Found {
     /// How numbered calls in them ended: of each client the last ones.
     pub outcomes: HashMap<u32, VecDeque<Outcome>>,
-    /// What the last logs that have landed changed.
+    /// What the last logs that have landed changed, and the times that owners have set between them.
     pub recent: VecDeque<Vec<(u32, Change)>>,
 }
 
@@ -35,6 +36,14 @@ impl Found {
             last.pop_front();
         }
         last.push_back(outcome);
+    }
+}
+
+/// What a call has changed, by its answer. kfsd's own call for a time has to be kept, and is always refused.
+fn changes_of(note: &Note, told: Told) -> Cow<'_, [(u32, Change)]> {
+    match note {
+        Note::Submit(_) if told != Told::Landed => Cow::Borrowed(&[]),
+        _ => note.changes(),
     }
 }
 
@@ -117,11 +126,7 @@ impl Following {
                 if let Some(outcome) = finder.next(call, answer).filter(|one| is_asked(one.client, one.number)) {
                     found.put(outcome);
                 }
-                let changes = match (note, told) {
-                    (Note::Submit(changes), Told::Landed) => changes,
-                    _ => vec![],
-                };
-                found.recent.push_back(changes);
+                found.recent.push_back(changes_of(&note, told).into_owned());
                 lengths.push_back(call.len());
                 length += call.len();
                 while length - lengths.front().copied().unwrap_or(0) > RECENT {
@@ -136,12 +141,18 @@ impl Following {
         Ok(found)
     }
 
-    /// Takes over what a call has done. Answers come in the order of the calls.
-    pub fn answered(&self, note: &Note, answer: &[u8]) {
+    /// Takes over what a call has done that was answered at this time. Answers come in the order of the calls.
+    pub fn answered(&self, note: &Note, answer: &[u8], time: i64) {
         let (mut leases, told) = (self.leases(), Told::of(answer));
+        if let (Note::Lease(wish), Told::Leased(node)) = (note, told) {
+            if !leases.held.contains_key(&(node, wish.client)) {
+                self.wants().taken(wish, node);
+            }
+        }
         leases.apply(note, told);
-        if let (Note::Submit(changes), Told::Landed) = (note, told) {
-            self.times().landed(changes, times::now());
+        let changes = changes_of(note, told);
+        if !changes.is_empty() {
+            self.times().changed(&changes, time);
         }
         if told == Told::NoRoom {
             self.short.notify_one();

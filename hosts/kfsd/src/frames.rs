@@ -56,6 +56,13 @@ const WANTED: u8 = 0xf3;
 /// The tag before a node (4): asks when it was changed. And the answer's.
 const TIMES: u8 = 0xf4;
 
+/// The tag before a node (4) and a time (8): its owner sets when it was modified. And the answer's.
+const SET_TIME: u8 = 0xf5;
+
+/// The tag of a look-up of a node's header, and of what it finds.
+const NODE: u8 = 0x40;
+const FOUND_NODE: u8 = 1;
+
 /// How many bytes stand before the call.
 pub const NUMBERED_HEAD: usize = 9;
 
@@ -116,6 +123,8 @@ pub enum Refusal {
     NotThere = 134,
     /// Another client has wanted the lease for long, so it isn't renewed. Nothing was done.
     Wanted = 135,
+    /// The user is listed, and the desk has no such client. The connection ends.
+    NoClient = 136,
 }
 
 impl Refusal {
@@ -189,10 +198,42 @@ pub fn wanted(number: u32, behind: u64, wants: &[&Want]) -> Vec<u8> {
 /// The reply that tells when a node was changed, as far as kfsd knows.
 pub fn times(number: u32, stamp: Option<Stamp>) -> Vec<u8> {
     let mut said = vec![TIMES, u8::from(stamp.is_some())];
-    for time in stamp.iter().flat_map(|stamp| [stamp.modified, stamp.changed]) {
+    for time in stamp.iter().flat_map(|stamp| [stamp.told(), stamp.changed]) {
         said.extend_from_slice(&time.to_be_bytes());
     }
     reply(number, &said)
+}
+
+/// Why a time is set or isn't.
+#[derive(Clone, Copy, Debug, PartialEq, Eq)]
+pub enum TimeSet {
+    NoNode = 0,
+    Set = 1,
+    /// The client neither owns the node nor is privileged.
+    NotOwner = 2,
+}
+
+impl TimeSet {
+    /// The reply to the frame of this number.
+    pub fn reply(self, number: u32) -> Vec<u8> {
+        reply(number, &[SET_TIME, self as u8])
+    }
+}
+
+/// The look-up of a node's header.
+pub fn node_look_up(node: u32) -> Vec<u8> {
+    let mut body = vec![NODE];
+    body.extend_from_slice(&node.to_be_bytes());
+    body
+}
+
+/// The owner of the node in what such a look-up has found: none within where there is no such node.
+pub fn owner_in(found: &[u8]) -> Option<Option<u32>> {
+    match *found {
+        [FOUND_NODE, 0] => Some(None),
+        [FOUND_NODE, _kind, _, _, a, b, c, d, ..] => Some(Some(u32::from_be_bytes([a, b, c, d]))),
+        _ => None,
+    }
 }
 
 /// What a body asks for, as far as kfsd looks into it.
@@ -206,6 +247,8 @@ pub enum Asked {
     Wants(u64),
     /// When this node was changed. kfsd answers.
     Times(u32),
+    /// The owner of this node sets when it was modified. kfsd answers, and asks the desk before.
+    SetTime(u32, i64),
     /// How the call of this number ended. kfsd answers.
     Outcome(u64),
     /// A call of this client.
@@ -225,6 +268,9 @@ pub fn asked(body: &[u8]) -> Asked {
         [MOMENT] => Asked::Moment,
         [WANTED, s0, s1, s2, s3, s4, s5, s6, s7] => Asked::Wants(u64::from_be_bytes([s0, s1, s2, s3, s4, s5, s6, s7])),
         [TIMES, a, b, c, d] => Asked::Times(u32::from_be_bytes([a, b, c, d])),
+        [SET_TIME, a, b, c, d, t0, t1, t2, t3, t4, t5, t6, t7] => {
+            Asked::SetTime(u32::from_be_bytes([a, b, c, d]), i64::from_be_bytes([t0, t1, t2, t3, t4, t5, t6, t7]))
+        }
         [NUMBERED, n0, n1, n2, n3, n4, n5, n6, n7, ref call @ ..] => {
             let number = u64::from_be_bytes([n0, n1, n2, n3, n4, n5, n6, n7]);
             match asked(call) {
@@ -334,7 +380,17 @@ mod tests {
         assert_eq!(asked(&[WANTED, 0, 0, 0, 0, 0, 0, 1, 0]), Asked::Wants(256));
         assert_eq!(asked(&[WANTED]), Asked::Other);
         assert_eq!(asked(&[TIMES, 0, 0, 1, 0]), Asked::Times(256));
+        let set = [&[SET_TIME, 0, 0, 1, 0][..], &[0xff; 8]].concat();
+        assert_eq!((asked(&set), asked(&set[..12])), (Asked::SetTime(256, -1), Asked::Other));
         assert_eq!(asked(&[HELLO, 0]), Asked::Other);
+    }
+
+    #[test]
+    fn owners_of_nodes_are_found() {
+        assert_eq!(node_look_up(256), [0x40, 0, 0, 1, 0]);
+        let found = [&[1, 2, 1, 0xff, 0, 0, 1, 0][..], &[9; 14]].concat();
+        assert_eq!(owner_in(&found), Some(Some(256)));
+        assert_eq!((owner_in(&[1, 0]), owner_in(&[4, 1]), owner_in(&[])), (Some(None), None, None));
     }
 
     #[test]

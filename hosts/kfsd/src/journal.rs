@@ -33,13 +33,7 @@ struct Whole {
 
 /// Reads both files. The calls of the file that counted before come first, where they lead to the state of the one that counts.
 pub fn read(folder: &Path, mut tell: impl FnMut(Part<'_>)) -> io::Result<()> {
-    let mut found = Vec::new();
-    for name in FILES {
-        found.extend(Whole::open(&folder.join(name))?);
-    }
-    // Of two with one number the first counts.
-    found.sort_by_key(|whole| std::cmp::Reverse(whole.number));
-    let mut found = found.into_iter();
+    let mut found = whole_in(folder)?.into_iter();
     let mut counts = match found.next() {
         Some(counts) => counts,
         None => return Ok(()),
@@ -49,6 +43,28 @@ pub fn read(folder: &Path, mut tell: impl FnMut(Part<'_>)) -> io::Result<()> {
     }
     tell(Part::State(counts.state()?));
     counts.tell_calls(&mut tell)
+}
+
+/// The files whose heads are whole, the one that counts first.
+fn whole_in(folder: &Path) -> io::Result<Vec<Whole>> {
+    let mut found = Vec::new();
+    for name in FILES {
+        found.extend(Whole::open(&folder.join(name))?);
+    }
+    // Of two with one number the first counts.
+    found.sort_by_key(|whole| std::cmp::Reverse(whole.number));
+    Ok(found)
+}
+
+/// The file that counts, at its front, and how many bytes its head and its state have.
+pub fn counting(folder: &Path) -> io::Result<Option<(File, u64)>> {
+    let whole = match whole_in(folder)?.into_iter().next() {
+        Some(whole) => whole,
+        None => return Ok(None),
+    };
+    let mut file = whole.file.into_inner();
+    file.seek(SeekFrom::Start(0))?;
+    Ok(Some((file, whole.records)))
 }
 
 impl Whole {

@@ -9,6 +9,7 @@
 pub mod bytes;
 pub mod calls;
 pub mod clock;
+pub mod cluster;
 pub mod config;
 pub mod connection;
 pub mod control;

@@ -109,6 +109,10 @@ fn text_of(status: &Status, times: &Times) -> String {
     for (name, help, value) in gauges {
         put(&mut text, name, help, "gauge", value);
     }
+    if let Some(volume) = &status.volume {
+        put(&mut text, "kfsd_leads", "Whether this kfsd leads its volume.", "gauge", u64::from(volume.leads));
+        put(&mut text, "kfsd_next_group", "The number of the next group of the volume.", "gauge", volume.next_group);
+    }
     put_users(&mut text, status);
     put_times(&mut text, times);
     text

@@ -165,6 +165,19 @@ impl Outcomes {
         }
     }
 
+    /// All that are done, those of a client in their order.
+    pub fn all_done(&self) -> Vec<Outcome> {
+        let all = self.all();
+        let of_one = |(client, of): (&u32, &OfClient)| {
+            let outcome = |number: &u64| match of.standing.get(number) {
+                Some(Standing::Done(answer)) => Some(Outcome { client: *client, number: *number, answer: answer.clone() }),
+                _ => None,
+            };
+            of.done.iter().filter_map(outcome).collect::<Vec<_>>()
+        };
+        all.of.iter().flat_map(of_one).collect()
+    }
+
     /// Takes what isn't kept yet.
     pub fn take_unsaved(&self) -> Changes {
         std::mem::take(&mut self.all().unsaved)

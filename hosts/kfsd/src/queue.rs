@@ -7,11 +7,18 @@ use crate::outcomes::{Marker, MARKER};
 use crate::users::FRONT;
 use std::collections::{HashMap, VecDeque};
 use std::sync::{Mutex, MutexGuard, PoisonError};
-use std::time::Instant;
+use std::time::{Duration, Instant};
 use tokio::sync::{oneshot, Notify, OwnedSemaphorePermit};
+use tokio::time::timeout_at;
 
 /// How many bytes a client may send in one turn, each frame with its cost. A longer frame waits for some turns.
 const TURN: usize = 8192;
+
+/// A frame with more bytes is a long one: while `kfs_serve` has it, nobody else is answered.
+const LONG: usize = 65_536;
+
+/// Behind a long frame that isn't done, the next long one of its client waits for as long as its bytes take at this rate.
+const BYTES_A_SECOND: u64 = 4 << 20;
 
 /// What a connection has taken of its own limit and of its user's, given back once this is gone.
 #[derive(Debug)]
@@ -69,6 +76,10 @@ impl Call {
         let marker = self.number.map_or(0, |_| HEAD + MARKER);
         marker + HEAD + self.body.len()
     }
+
+    fn is_long(&self) -> bool {
+        HEAD + self.body.len() > LONG
+    }
 }
 
 /// A frame that is sent.
@@ -92,7 +103,12 @@ pub struct Sent {
 impl Sent {
     /// Whether something of its answer is kept here.
     pub fn is_kept(&self) -> bool {
-        self.numbered.is_some() || matches!(self.note, Note::Submit(_))
+        self.numbered.is_some() || matches!(self.note, Note::Submit(_) | Note::Time(..))
+    }
+
+    /// Whether its client sends no other long frame before it is answered.
+    pub fn is_long(&self) -> bool {
+        self.length > LONG
     }
 }
 
@@ -112,11 +128,23 @@ struct Line {
     credit: usize,
 }
 
+/// Why a client's next long frame isn't sent yet.
+#[derive(Clone, Copy, Debug, PartialEq, Eq)]
+enum Hold {
+    /// `kfs_serve` has one of them.
+    Sent,
+    /// One of them wasn't done.
+    Until(Instant),
+}
+
 #[derive(Debug, Default)]
 struct Lines {
     of: HashMap<u32, Line>,
-    /// The clients that have a call, in the order of their turns.
+    /// The clients that have a call, in the order of their turns; but for those that rest.
     turns: VecDeque<u32>,
+    /// Those whose next call is a long one that is held back.
+    resting: Vec<u32>,
+    holds: HashMap<u32, Hold>,
     count: usize,
     is_closed: bool,
     next_number: u32,
@@ -150,11 +178,16 @@ impl Queue {
 
     /// Puts a call of kfsd's own in line. Where the answer is dropped, nobody knows it.
     pub fn push_own(&self, body: Vec<u8>) -> oneshot::Receiver<Answer> {
+        self.push_as(FRONT, body)
+    }
+
+    /// The same in the name of a client, behind its calls.
+    pub fn push_as(&self, client: u32, body: Vec<u8>) -> oneshot::Receiver<Answer> {
         let (to, answer) = oneshot::channel();
         self.push(Call {
-            client: FRONT,
+            client,
+            note: Note::of(&body),
             body,
-            note: Note::Nothing,
             came: Instant::now(),
             number: None,
             bytes: None,
@@ -173,9 +206,30 @@ impl Queue {
         self.len() == 0
     }
 
-    /// No call comes any more. Those that wait are sent still.
+    /// No call comes any more. Those that wait are sent still, and none is held back.
     pub fn close(&self) {
-        self.lines().is_closed = true;
+        let mut lines = self.lines();
+        lines.is_closed = true;
+        lines.holds.clear();
+        drop(lines);
+        self.changed.notify_one();
+    }
+
+    /// A long frame of a client was answered. Where it isn't done, the client's next one waits.
+    pub fn long_answered(&self, client: u32, length: usize, is_done: bool) {
+        let time = Duration::from_micros(length as u64 * 1_000_000 / BYTES_A_SECOND);
+        let mut lines = self.lines();
+        lines.holds.remove(&client);
+        if !is_done && !lines.is_closed {
+            lines.holds.insert(client, Hold::Until(Instant::now() + time));
+        }
+        drop(lines);
+        self.changed.notify_one();
+    }
+
+    /// Nothing that was sent is answered any more.
+    pub fn begin_anew(&self) {
+        self.lines().holds.retain(|_, hold| *hold != Hold::Sent);
         self.changed.notify_one();
     }
 
@@ -185,6 +239,7 @@ impl Queue {
         lines.is_closed = true;
         let left = std::mem::take(&mut lines.of);
         lines.turns.clear();
+        lines.resting.clear();
         lines.count = 0;
         drop(lines);
         left.into_values().flat_map(|line| line.calls).for_each(never_sent);
@@ -194,16 +249,24 @@ impl Queue {
     /// The next calls, at most `most` bytes of them or a single one; none once the queue is closed and empty. One task takes.
     pub async fn next(&self, most: usize) -> Option<Batch> {
         loop {
-            {
-                let mut lines = self.lines();
-                if lines.count > 0 {
-                    return Some(lines.batch(most));
+            let until = {
+                let (mut lines, now) = (self.lines(), Instant::now());
+                lines.wake(now);
+                let batch = lines.batch(most, now);
+                if !batch.sent.is_empty() {
+                    return Some(batch);
                 }
-                if lines.is_closed {
+                if lines.is_closed && lines.count == 0 {
                     return None;
                 }
+                lines.first_end()
+            };
+            let changed = self.changed.notified();
+            match until {
+                // Whichever is first.
+                Some(until) => drop(timeout_at(until.into(), changed).await),
+                None => changed.await,
             }
-            self.changed.notified().await;
         }
     }
 }
@@ -224,9 +287,36 @@ impl Lines {
         self.count += 1;
     }
 
-    fn batch(&mut self, most: usize) -> Batch {
+    /// Whether the next call of a client is held back.
+    fn rests(&self, client: u32, now: Instant) -> bool {
+        let is_long = || self.of.get(&client).and_then(|line| line.calls.front()).map_or(false, Call::is_long);
+        match self.holds.get(&client) {
+            Some(Hold::Until(end)) => *end > now && is_long(),
+            Some(Hold::Sent) => is_long(),
+            None => false,
+        }
+    }
+
+    /// Gives those a turn that rest no more.
+    fn wake(&mut self, now: Instant) {
+        let (still, awake) = std::mem::take(&mut self.resting).into_iter().partition(|client| self.rests(*client, now));
+        self.resting = still;
+        self.turns.extend::<Vec<u32>>(awake);
+        self.holds.retain(|_, hold| !matches!(hold, Hold::Until(end) if *end <= now));
+    }
+
+    /// When the first of those that rest is due; none where an answer tells.
+    fn first_end(&self) -> Option<Instant> {
+        let ends = self.resting.iter().filter_map(|client| match self.holds.get(client) {
+            Some(Hold::Until(end)) => Some(*end),
+            _ => None,
+        });
+        ends.min()
+    }
+
+    fn batch(&mut self, most: usize, now: Instant) -> Batch {
         let mut batch = Batch::default();
-        while let Some(call) = self.pop(most.saturating_sub(batch.bytes.len()), batch.sent.is_empty()) {
+        while let Some(call) = self.pop(most.saturating_sub(batch.bytes.len()), batch.sent.is_empty(), now) {
             if let Some(number) = call.number {
                 let marker = Marker::new(call.client, number, &call.body).bytes();
                 let number = self.put(&mut batch.bytes, FRONT, &marker);
@@ -270,9 +360,14 @@ impl Lines {
     }
 
     /// The next call, where there is one and it fits in so many bytes or is the first.
-    fn pop(&mut self, room: usize, is_first: bool) -> Option<Call> {
+    fn pop(&mut self, room: usize, is_first: bool, now: Instant) -> Option<Call> {
         loop {
             let client = *self.turns.front()?;
+            if self.rests(client, now) {
+                self.turns.pop_front();
+                self.resting.push(client);
+                continue;
+            }
             let line = self.of.get_mut(&client)?;
             let (cost, length, is_alone) = line.calls.front().map(|call| (call.cost(), call.length(), call.is_alone()))?;
             if cost > line.credit {
@@ -284,13 +379,16 @@ impl Lines {
                 return None;
             }
             line.credit -= cost;
-            let call = line.calls.pop_front();
+            let call = line.calls.pop_front()?;
             if line.calls.is_empty() {
                 self.of.remove(&client);
                 self.turns.pop_front();
             }
             self.count -= 1;
-            return call;
+            if call.is_long() && !self.is_closed {
+                self.holds.insert(client, Hold::Sent);
+            }
+            return Some(call);
         }
     }
 }
@@ -300,6 +398,7 @@ mod tests {
     use super::*;
     use std::sync::Arc;
     use tokio::sync::Semaphore;
+    use tokio::time::timeout;
 
     const MOST: usize = 65_536;
 
@@ -431,6 +530,44 @@ mod tests {
         let (first, second) = (queue.next(MOST).await.unwrap(), queue.next(MOST).await.unwrap());
         assert_eq!(clients_in(&first.bytes), [(8, 5)]);
         assert_eq!(clients_in(&second.bytes), [(7, 10 * MOST as u32)]);
+    }
+
+    #[tokio::test]
+    async fn a_long_frame_waits_behind_one_that_is_not_done() {
+        let (queue, long) = (Queue::default(), 2 * LONG);
+        let next = || async { clients_in(&timeout(Duration::from_secs(9), queue.next(MOST)).await.unwrap().unwrap().bytes) };
+        for _ in 0..4 {
+            queue.push(call(7, long).0);
+        }
+        assert_eq!(next().await, [(7, long as u32)]);
+        queue.push(call(8, 1).0);
+        assert_eq!(next().await, [(8, 1)]);
+        // it isn't answered
+        assert!(timeout(Duration::from_millis(50), queue.next(MOST)).await.is_err());
+        queue.long_answered(7, long, true);
+        assert_eq!(next().await, [(7, long as u32)]);
+        let began = Instant::now();
+        queue.long_answered(7, long, false);
+        queue.push(call(8, 2).0);
+        assert_eq!(next().await, [(8, 2)]);
+        assert_eq!(next().await, [(7, long as u32)]);
+        assert!(began.elapsed() >= Duration::from_micros(31_250));
+        // nobody answers it, and there is another process
+        queue.begin_anew();
+        assert_eq!(next().await, [(7, long as u32)]);
+        assert!(queue.is_empty());
+    }
+
+    #[tokio::test]
+    async fn nothing_is_held_back_at_the_end() {
+        let queue = Queue::default();
+        queue.push(call(7, 2 * LONG).0);
+        queue.push(call(7, 2 * LONG).0);
+        assert!(queue.next(MOST).await.is_some());
+        queue.long_answered(7, 1 << 30, false);
+        queue.close();
+        assert!(queue.next(MOST).await.is_some());
+        assert!(queue.next(MOST).await.is_none());
     }
 
     #[tokio::test]

@@ -17,6 +17,8 @@ pub struct Status {
     pub desk: Standing,
     pub connections: ConnectionStatus,
     pub frames: FrameStatus,
+    /// None where the desk is on this machine alone.
+    pub volume: Option<VolumeStatus>,
     #[serde(default)]
     pub user: Vec<UserStatus>,
 }
@@ -51,7 +53,15 @@ pub struct FrameStatus {
     pub unknown: u64,
     pub answered_here: u64,
     pub own: u64,
+    /// From a whole frame to the answer, and how much of that frames waited in line.
     pub mean_micros: u64,
+    pub mean_waiting_micros: u64,
+}
+
+#[derive(Debug, Deserialize, Serialize)]
+pub struct VolumeStatus {
+    pub leads: bool,
+    pub next_group: u64,
 }
 
 #[derive(Debug, Deserialize, Serialize)]
@@ -94,7 +104,12 @@ pub fn status(shared: &Shared) -> Status {
             answered_here: figures.answered_here.get(),
             own: figures.own.get(),
             mean_micros: micros.checked_div(figures.times.count()).unwrap_or(0),
+            mean_waiting_micros: figures.waited.get().checked_div(figures.sent.get()).unwrap_or(0),
         },
+        volume: shared
+            .term
+            .has_end()
+            .then(|| VolumeStatus { leads: figures.opened.get() == 1, next_group: figures.group.get() }),
         user: user.collect(),
     }
 }
@@ -106,13 +121,16 @@ fn standing(shared: &Shared) -> Standing {
     Standing { moment: following.clock.now(), leases, wanted_leases, moved_blocks: shared.figures.moved.get() }
 }
 
-/// A line for each user that may connect.
+/// A line for each user that may connect, and then one for each that is listed and may not.
 pub fn users(shared: &Shared) -> String {
     let mut text = String::from("     uid   client connections frames_left bytes_left\n");
     for user in status(shared).user {
         let UserStatus { uid, client, connections, frames_left, bytes_left } = user;
         // Nothing is refused where a String is written to, here and below.
         let _ = writeln!(text, "{uid:>8} {client:>8} {connections:>11} {frames_left:>11} {bytes_left:>10}");
+    }
+    for user in shared.table.borrow().strangers() {
+        let _ = writeln!(text, "{:>8} {:>8} is kept out: the desk has no such client", user.uid, user.client);
     }
     text
 }

@@ -53,6 +53,7 @@ const TABLES: &str = "
         node INTEGER PRIMARY KEY, modified INTEGER NOT NULL, changed INTEGER NOT NULL, moved INTEGER NOT NULL
     );
     CREATE TABLE IF NOT EXISTS running (is_running INTEGER NOT NULL);
+    CREATE TABLE IF NOT EXISTS time (node INTEGER PRIMARY KEY, modified INTEGER NOT NULL);
 ";
 
 impl Store {
@@ -61,7 +62,7 @@ impl Store {
         let connection = Connection::open(folder.join(NAME))?;
         connection.execute_batch(TABLES)?;
         if is_new {
-            connection.execute_batch("DELETE FROM outcome; DELETE FROM stamp; DELETE FROM running;")?;
+            connection.execute_batch("DELETE FROM outcome; DELETE FROM stamp; DELETE FROM running; DELETE FROM time;")?;
         }
         Ok(Store { connection, has_failed: false })
     }
@@ -77,9 +78,10 @@ impl Store {
 
     /// When nodes were changed.
     pub fn stamps(&self) -> rusqlite::Result<Vec<(u32, Stamp)>> {
-        let mut rows = self.connection.prepare("SELECT node, modified, changed, moved FROM stamp")?;
+        let text = "SELECT node, stamp.modified, changed, moved, time.modified FROM stamp LEFT JOIN time USING (node)";
+        let mut rows = self.connection.prepare(text)?;
         let found = rows.query_map([], |row| {
-            Ok((row.get(0)?, Stamp { modified: row.get(1)?, changed: row.get(2)?, moved: row.get(3)? }))
+            Ok((row.get(0)?, Stamp { modified: row.get(1)?, changed: row.get(2)?, moved: row.get(3)?, set: row.get(4)? }))
         })?;
         found.collect()
     }
@@ -132,10 +134,16 @@ impl Store {
 fn put_stamps(all: &Connection, stamps: &HashMap<u32, Option<Stamp>>) -> rusqlite::Result<()> {
     let mut put = all.prepare("INSERT OR REPLACE INTO stamp (node, modified, changed, moved) VALUES (?, ?, ?, ?)")?;
     let mut take = all.prepare("DELETE FROM stamp WHERE node = ?")?;
+    let mut set = all.prepare("INSERT OR REPLACE INTO time (node, modified) VALUES (?, ?)")?;
+    let mut unset = all.prepare("DELETE FROM time WHERE node = ?")?;
     for (node, stamp) in stamps {
         match stamp {
             Some(stamp) => put.execute(params![node, stamp.modified, stamp.changed, stamp.moved])?,
             None => take.execute(params![node])?,
+        };
+        match stamp.and_then(|stamp| stamp.set) {
+            Some(time) => set.execute(params![node, time])?,
+            None => unset.execute(params![node])?,
         };
     }
     Ok(())
@@ -169,7 +177,8 @@ mod tests {
     #[test]
     fn stamps_are_kept_and_taken() {
         let room = Room::new("stamps");
-        let stamp = |time| Some(Stamp { modified: time, changed: time + 1, moved: time - 1 });
+        let set = |time| Some(time).filter(|time| *time == 6);
+        let stamp = |time| Some(Stamp { modified: time, changed: time + 1, moved: time - 1, set: set(time) });
         let mut store = Store::open(&room.0, true).unwrap();
         assert!(!store.begin().unwrap());
         let stamps = HashMap::from([(1, stamp(5)), (u32::MAX, stamp(6)), (3, None)]);

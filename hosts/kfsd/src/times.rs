@@ -13,6 +13,20 @@ pub struct Stamp {
     pub changed: i64,
     /// When it was modified, at the time at which all its blocks went to slower tiers; 0 where they didn't.
     pub moved: i64,
+    /// When it was modified, as its owner has set it since.
+    pub set: Option<i64>,
+}
+
+impl Stamp {
+    /// Of a node that is changed as a whole at this time.
+    fn at(time: i64) -> Stamp {
+        Stamp { modified: time, changed: time, moved: 0, set: None }
+    }
+
+    /// When it was modified, as it is told.
+    pub fn told(&self) -> i64 {
+        self.set.unwrap_or(self.modified)
+    }
 }
 
 /// The time now.
@@ -34,21 +48,29 @@ impl Times {
         self.of = kept.into_iter().collect();
     }
 
+    /// The stamps of all nodes.
+    pub fn all(&self) -> Vec<(u32, Stamp)> {
+        self.of.iter().map(|(node, stamp)| (*node, *stamp)).collect()
+    }
+
     /// The stamp of a node.
     pub fn of(&self, node: u32) -> Option<Stamp> {
         self.of.get(&node).copied()
     }
 
-    /// A log has landed at this time, and has changed these.
-    pub fn landed(&mut self, changes: &[(u32, Change)], time: i64) {
+    /// These were changed at this time.
+    pub fn changed(&mut self, changes: &[(u32, Change)], time: i64) {
         for (node, change) in changes {
+            let before = || self.of(*node).unwrap_or_else(|| Stamp::at(time));
             let stamp = match change {
                 Change::Gone => None,
-                Change::Bytes => Some(Stamp { modified: time, changed: time, moved: 0 }),
-                Change::Header => {
-                    let before = self.of(*node).unwrap_or(Stamp { modified: time, changed: time, moved: 0 });
-                    Some(Stamp { changed: time, ..before })
+                Change::Bytes => Some(Stamp::at(time)),
+                Change::Header => Some(Stamp { changed: time, ..before() }),
+                Change::Time(set) if set.is_first || self.of.contains_key(node) => {
+                    Some(Stamp { changed: time, set: Some(set.time), ..before() })
                 }
+                // It is gone.
+                Change::Time(_) => None,
             };
             match stamp {
                 Some(stamp) => self.of.insert(*node, stamp),
@@ -82,35 +104,58 @@ impl Times {
 #[cfg(test)]
 mod tests {
     use super::*;
+    use crate::calls::Setting;
 
     #[test]
     fn stamps_follow_landings() {
         let mut times = Times::default();
-        times.landed(&[(1, Change::Bytes), (5, Change::Header)], 100);
-        assert_eq!(times.of(5), Some(Stamp { modified: 100, changed: 100, moved: 0 }));
-        times.landed(&[(5, Change::Header)], 200);
-        assert_eq!(times.of(5), Some(Stamp { modified: 100, changed: 200, moved: 0 }));
-        times.landed(&[(5, Change::Header), (5, Change::Bytes)], 300);
-        assert_eq!(times.of(5), Some(Stamp { modified: 300, changed: 300, moved: 0 }));
-        times.landed(&[(5, Change::Gone)], 400);
+        times.changed(&[(1, Change::Bytes), (5, Change::Header)], 100);
+        assert_eq!(times.of(5), Some(Stamp::at(100)));
+        times.changed(&[(5, Change::Header)], 200);
+        assert_eq!(times.of(5), Some(Stamp { changed: 200, ..Stamp::at(100) }));
+        times.changed(&[(5, Change::Header), (5, Change::Bytes)], 300);
+        assert_eq!(times.of(5), Some(Stamp::at(300)));
+        times.changed(&[(5, Change::Gone)], 400);
         assert_eq!(times.of(5), None);
         let unsaved = times.take_unsaved();
-        assert_eq!((unsaved[&5], unsaved[&1]), (None, Some(Stamp { modified: 100, changed: 100, moved: 0 })));
+        assert_eq!((unsaved[&5], unsaved[&1]), (None, Some(Stamp::at(100))));
         assert!(times.take_unsaved().is_empty());
     }
+
+    #[test]
+    fn a_time_that_is_set_lasts_until_bytes_are_written() {
+        let mut times = Times::default();
+        times.changed(&[(5, Change::Bytes)], 100);
+        let set = |time, is_first| Change::Time(Setting { time, is_first });
+        times.changed(&[(5, set(-7, false))], 200);
+        let stamp = times.of(5).unwrap();
+        assert_eq!((stamp.told(), stamp.changed, stamp.modified), (-7, 200, 100));
+        times.changed(&[(5, Change::Header)], 300);
+        assert_eq!(times.of(5).unwrap().told(), -7);
+        times.changed(&[(5, Change::Bytes)], 400);
+        assert_eq!(times.of(5), Some(Stamp::at(400)));
+        // blocks are moved by when they were written
+        times.changed(&[(6, Change::Bytes)], 500);
+        times.changed(&[(6, set(0, false)), (7, set(9, true)), (8, set(9, false))], 600);
+        assert_eq!(times.oldest(), [5, 6, 7]);
+        assert_eq!(times.of(7).unwrap().told(), 9);
+        // it was gone before it was set
+        assert_eq!(times.of(8), None);
+    }
+
     #[test]
     fn the_oldest_go_first_and_once() {
         let mut times = Times::default();
-        times.landed(&[(5, Change::Bytes), (6, Change::Bytes)], 100);
-        times.landed(&[(4, Change::Bytes)], 50);
-        times.landed(&[(5, Change::Header)], 200);
+        times.changed(&[(5, Change::Bytes), (6, Change::Bytes)], 100);
+        times.changed(&[(4, Change::Bytes)], 50);
+        times.changed(&[(5, Change::Header)], 200);
         assert_eq!(times.oldest(), [4, 5, 6]);
         times.is_moved(4, 50);
         times.is_moved(5, 99);
         assert_eq!(times.oldest(), [5, 6]);
-        times.landed(&[(4, Change::Header)], 300);
+        times.changed(&[(4, Change::Header)], 300);
         assert_eq!(times.oldest(), [5, 6]);
-        times.landed(&[(4, Change::Bytes)], 400);
+        times.changed(&[(4, Change::Bytes)], 400);
         assert_eq!(times.oldest(), [5, 6, 4]);
     }
 }

@@ -143,17 +143,18 @@ impl Drop for Place {
 #[derive(Debug, Default)]
 pub struct Table {
     accounts: HashMap<u32, Arc<Account>>,
+    /// Those that are listed, and are no clients of the desk.
+    strangers: HashMap<u32, User>,
 }
 
 impl Table {
-    /// The table of those users that are clients of the desk, and the users that aren't. Who was there before keeps its
-    /// account, so that what it has in flight is counted still.
-    pub fn new(users: &[User], of_desk: &str, limits: &Limits, before: &Table) -> (Table, Vec<User>) {
+    /// The table of these users. Who was there before keeps its account, so that what it has in flight is counted still.
+    pub fn new(users: &[User], of_desk: &str, limits: &Limits, before: &Table) -> Table {
         let known: BTreeSet<&str> = of_desk.lines().collect();
-        let (mut accounts, mut strangers) = (HashMap::new(), Vec::new());
+        let (mut accounts, mut strangers) = (HashMap::new(), HashMap::new());
         for user in users {
             if !known.contains(user.line().as_str()) {
-                strangers.push(user.clone());
+                strangers.insert(user.uid, user.clone());
                 continue;
             }
             let account = match before.of(user.uid) {
@@ -162,12 +163,24 @@ impl Table {
             };
             accounts.insert(user.uid, account);
         }
-        (Table { accounts }, strangers)
+        Table { accounts, strangers }
     }
 
     /// The account of a user.
     pub fn of(&self, uid: u32) -> Option<Arc<Account>> {
         self.accounts.get(&uid).cloned()
+    }
+
+    /// Whether a user is listed, and is no client of the desk.
+    pub fn is_stranger(&self, uid: u32) -> bool {
+        self.strangers.contains_key(&uid)
+    }
+
+    /// Those who are, by client.
+    pub fn strangers(&self) -> Vec<&User> {
+        let mut all: Vec<_> = self.strangers.values().collect();
+        all.sort_by_key(|user| user.client);
+        all
     }
 
     /// All accounts, by client.
@@ -205,19 +218,19 @@ mod tests {
     #[test]
     fn who_is_no_client_of_the_desk_is_kept_out() {
         let users = [user(1, 7), user(2, 8)];
-        let (table, strangers) = Table::new(&users, &lines_of(&users[..1]), &Limits::default(), &Table::default());
-        assert!(table.of(1).is_some());
-        assert!(table.of(2).is_none());
-        assert_eq!(strangers, users[1..]);
+        let table = Table::new(&users, &lines_of(&users[..1]), &Limits::default(), &Table::default());
+        assert!(table.of(1).is_some() && !table.is_stranger(1));
+        assert!(table.of(2).is_none() && table.is_stranger(2) && !table.is_stranger(3));
+        assert_eq!(table.strangers(), [&users[1]]);
     }
 
     #[test]
     fn an_account_outlives_a_reload() {
         let users = [user(1, 7)];
         let lines = lines_of(&users);
-        let (before, _) = Table::new(&users, &lines, &Limits::default(), &Table::default());
+        let before = Table::new(&users, &lines, &Limits::default(), &Table::default());
         let place = before.of(1).unwrap().connect(1).unwrap();
-        let (after, _) = Table::new(&users, &lines, &Limits::default(), &before);
+        let after = Table::new(&users, &lines, &Limits::default(), &before);
         assert_eq!(after.of(1).unwrap().connections(), 1);
         assert!(after.of(1).unwrap().connect(1).is_none());
         drop(place);

@@ -20,8 +20,10 @@ pub struct Want {
     pub on: On,
     /// The path by which the holder asked for it. By this it isn't renewed either, also where it has ended.
     path: Option<Vec<u8>>,
-    /// Goes up with each want that is new.
+    /// Goes up with each want that is new, and with the first one behind a lease that is taken anew.
     pub serial: u64,
+    /// Its holder gave the lease up and took it again: that is to be told of it once more.
+    is_anew: bool,
     /// When it was asked for first, and last. In between it was asked for again and again.
     first: Instant,
     last: Instant,
@@ -80,12 +82,23 @@ impl Wants {
         }
     }
 
+    /// A client gets a lease on a node that it hasn't. Who wants it wants another lease from now on than the one before; it
+    /// has wanted it for as long, so who gives a lease up and takes it again doesn't keep it by that.
+    pub fn taken(&mut self, wish: &Wish, node: u32) {
+        let is_of_it = |on: &On, holder: &u32| *holder == wish.client && (*on == On::Node(node) || *on == wish.on);
+        self.of.iter_mut().filter(|((on, holder), _)| is_of_it(on, holder)).for_each(|(_, want)| want.is_anew = true);
+    }
+
     fn note(&mut self, on: On, holder: u32, path: Option<Vec<u8>>, by: u32, now: Instant) {
         let (time, key) = (self.time, (on, holder));
         if let Some(want) = self.of.get_mut(&key).filter(|want| now.duration_since(want.last) <= time) {
             want.last = now;
             want.by = by;
             want.path = path.or_else(|| want.path.take());
+            if std::mem::take(&mut want.is_anew) {
+                self.serial += 1;
+                want.serial = self.serial;
+            }
         } else if self.of.contains_key(&key) || self.has_room(by, now) {
             self.put(key, path, by, now);
         }
@@ -94,7 +107,7 @@ impl Wants {
     /// Puts a want that is new, or was given up before.
     fn put(&mut self, key: (On, u32), path: Option<Vec<u8>>, by: u32, now: Instant) {
         self.serial += 1;
-        let want = Want { by, on: key.0.clone(), path, serial: self.serial, first: now, last: now };
+        let want = Want { by, on: key.0.clone(), path, serial: self.serial, is_anew: false, first: now, last: now };
         self.of.insert(key, want);
     }
 
@@ -187,6 +200,24 @@ mod tests {
         assert!(wants.told(7, 0, now + seconds(51)).is_empty());
         assert!(wants.apply(&wish(8, On::Node(5)), HELD, &leases, now + seconds(60)));
         assert!(wants.told(7, serial, now + seconds(60))[0].serial > serial);
+    }
+
+    #[test]
+    fn who_takes_a_lease_again_is_told_again() {
+        let (mut wants, leases, now) = (Wants::default(), held(), Instant::now());
+        assert!(wants.apply(&wish(8, path()), HELD, &leases, now));
+        let serial = wants.told(7, 0, now)[0].serial;
+        wants.taken(&wish(7, On::Node(6)), 6);
+        wants.taken(&wish(8, On::Node(5)), 5);
+        assert!(!wants.apply(&wish(8, On::Node(5)), HELD, &leases, now + seconds(10)));
+        wants.taken(&wish(7, path()), 5);
+        assert!(wants.told(7, serial, now + seconds(10)).is_empty());
+        assert!(wants.apply(&wish(8, On::Node(5)), HELD, &leases, now + seconds(20)));
+        let again = wants.told(7, serial, now + seconds(20))[0].serial;
+        assert!(again > serial && wants.told(7, again, now + seconds(20)).is_empty());
+        assert!(!wants.apply(&wish(9, On::Node(5)), HELD, &leases, now + seconds(25)));
+        // it is wanted since the first time
+        assert!(wants.forbid(&wish(7, path()), &leases, now + seconds(30)));
     }
 
     #[test]

@@ -137,8 +137,8 @@ def users_are_read_anew(made):
         daemon.users = [*whole, user(1003, 10)]
         reload(daemon)
         assert daemon.connect(8).ask(1, lease(8, 11)).answer
-        assert daemon.connect(10).reply().refusal == ("Unlisted", 0)
-        assert "user 1003 is kept out" in daemon.said()
+        assert daemon.connect(10).reply().refusal == ("NoClient", 0)
+        assert "user 1003 is kept out" in daemon.said() and "1003       10 is kept out" in daemon.ask("users")
         daemon.users = [*whole, whole[0]]
         reload(daemon)
         assert "user 1000 is there twice" in daemon.said()

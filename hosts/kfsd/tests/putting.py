@@ -1,12 +1,11 @@
 """Two lines start a server and put a file into it (hosts/serve, hosts/put)."""
 import os
 import shutil
-import signal
 import subprocess
 import tempfile
 import time
 
-from loading import children_of, image_in
+from loading import image_in
 from running import SOON, TOP
 
 from fuzzing.images import contents_of, finding, tree_of
@@ -31,8 +30,7 @@ def a_file_is_put(made):
         again = subprocess.run([f"{TOP}/hosts/put", f"{room}/desk/socket", f"{room}/short"], check=False, capture_output=True, text=True)
         assert again.returncode == 1 and "the desk says" in again.stderr, again
     finally:
-        for child in children_of(serving.pid, serving.pid):
-            os.kill(int(child), signal.SIGTERM)
+        serving.terminate()
         status = serving.wait(timeout=SOON)
     try:
         assert status == 0, status

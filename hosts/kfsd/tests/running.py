@@ -21,7 +21,7 @@ import frames  # noqa: E402
 from frames import FRONT, frame  # noqa: E402,F401
 
 # What kfsd refuses by itself (docs/KFSD.md).
-frames.REFUSALS |= {128: "Unknown", 129: "Stopping", 130: "Unlisted", 131: "TooMany", 132: "TooFar", 133: "UnderWay", 134: "NotThere", 135: "Wanted"}
+frames.REFUSALS |= {128: "Unknown", 129: "Stopping", 130: "Unlisted", 131: "TooMany", 132: "TooFar", 133: "UnderWay", 134: "NotThere", 135: "Wanted", 136: "NoClient"}
 HELLO, MOMENT = b"\xf0", b"\xf1"
 # The tags of calls that are the front's.
 FRONTS = (4, 5)
@@ -114,6 +114,12 @@ class Connection:
         assert found == number and said[0] == MOMENT[0], (found, said)
         return struct.unpack(">QQ", said[1:])
 
+    def times(self, node):
+        """The two times of a node, in nanoseconds since 1970; None where none is known."""
+        self.send(0, b"\xf4" + struct.pack(">I", node))
+        _, said = self.next()
+        return struct.unpack(">QQ", said[2:]) if said[1] else None
+
     def is_ended(self):
         """Whether the other end has closed, with nothing more to read."""
         try:
@@ -148,7 +154,7 @@ class Daemon:
         self.folder, self.program = f"{self.room}/desk", program
         os.mkdir(self.folder, 0o700)
         self.log = f"{self.room}/log"
-        self.process, self.runs_as = None, None
+        self.process, self.runs_as, self.patience = None, None, SOON
 
     def __enter__(self):
         return self
@@ -193,7 +199,7 @@ class Daemon:
         return self
 
     def wait_for(self, is_so):
-        end = time.monotonic() + SOON
+        end = time.monotonic() + self.patience
         while not is_so():
             assert self.process.poll() is None, f"kfsd has ended with status {self.process.poll()}"
             assert time.monotonic() < end, "nothing came in time"

@@ -82,6 +82,62 @@ def landings_are_stamped(made):
         assert times(daemon.connect(7), 3) is None
 
 
+NO_NODE, SET, NOT_OWNER = 0, 1, 2
+UNKNOWN = bytes([2, 128, 0, 0, 0, 0])
+
+
+def set_time(connection, number, seconds):
+    """Has a client set when a node was modified. Returns how that ended. Where kfs_serve has ended meanwhile, it asks again."""
+    said = UNKNOWN
+    while said == UNKNOWN:
+        connection.send(1, b"\xf5" + struct.pack(">Iq", number, seconds * 1_000_000_000))
+        _, said = connection.next()
+    assert said[0] == 0xF5 and len(said) == 2, said
+    return said[1]
+
+
+def owners_set_times(made):
+    """The owner of a node sets when it was modified, and who is privileged; nobody else. It lasts until its bytes are changed, and is there behind kills."""
+    users = [*USERS, {**user(1002, 9), "privileged": True}]
+    with Daemon(*made, users=users).start() as daemon:
+        seven, eight, nine = (daemon.connect(client) for client in (7, 8, 9))
+        assert seven.ask(0, lease(7, 1 << 40, writes=True)).answer
+        landed = done(seven, submit(*files_made([b"a", b"b"])))
+        with Now() as now:
+            assert set_time(seven, 2, -5) == SET
+        assert times(seven, 2)[0] == -5 and now.has(times(seven, 2)[1])
+        assert set_time(eight, 3, 7) == NOT_OWNER and set_time(seven, 1, 7) == NOT_OWNER and set_time(seven, 9, 7) == NO_NODE
+        assert landed.has(times(eight, 3)[0]) and times(eight, 9) is None
+        assert set_time(nine, 3, 1 << 33) == SET and times(seven, 3)[0] == 1 << 33
+        assert set_time(nine, 1, 77) == SET and times(seven, 1)[0] == 77
+        # of all that is set, what was answered is there behind a kill of kfsd, and of kfs_serve
+        for seconds in range(20, 25):
+            assert set_time(seven, 2, seconds) == SET
+            daemon.process.kill()
+            daemon.process.wait()
+            daemon.start()
+            seven = daemon.connect(7)
+            assert (times(seven, 2)[0], times(seven, 3)[0], times(seven, 1)[0]) == (seconds, 1 << 33, 77)
+            daemon.kill_desk()
+            assert times(seven, 2)[0] == seconds
+        for number in (1, 2, 3):
+            call = struct.pack(">BIBQI", 6, 7, 1, 1 << 40, number)
+            # kfs_serve may end with it under way, the last time
+            answer = seven.ask(0, call).answer or seven.ask(0, call).answer
+            assert answer[4] == 4
+        done(seven, moded(2, 0, 0o600))
+        assert times(seven, 2)[0] == 24
+        now = done(seven, submit(log_of([Write(2, 0, b"ab")]), plan_of([], [node(2, 2, FILE, 0o600)], [put(2, 0, 2, 0, 0)])))
+        assert now.has(times(seven, 2)[0])
+        done(seven, submit(*file_gone(b"b", 3)))
+        assert times(seven, 3) is None and set_time(seven, 3, 9) == NO_NODE
+        done(seven, submit(*files_made([b"c"], 3)))
+        assert times(seven, 3)[0] > 1_000_000_000
+        assert set_time(seven, 2, 9) == SET and daemon.stop()[0] == 0
+        daemon.start()
+        assert times(daemon.connect(7), 2)[0] == 9
+
+
 def leases_on_what_is_gone_end(made):
     """kfsctl lists no lease on a node that was taken out."""
     with Daemon(*made, users=USERS).start() as daemon:
@@ -148,4 +204,4 @@ def a_time_of_nothing(made):
         assert times(other, 1) is None
 
 
-TESTS = [landings_are_stamped, leases_on_what_is_gone_end, stamps_outlive_kills, stamps_of_calls_left_by_kfs_serve, a_time_of_nothing]
+TESTS = [landings_are_stamped, owners_set_times, leases_on_what_is_gone_end, stamps_outlive_kills, stamps_of_calls_left_by_kfs_serve, a_time_of_nothing]

@@ -68,6 +68,28 @@ def the_holder_is_told(made):
         assert wants(listening)[1] == []
 
 
+def who_takes_a_lease_again_is_told_again(made):
+    """A lease that is given up and taken again is another one: its holder is told once more that it is wanted. It is wanted since the first time."""
+    with Daemon(*made, duties={"wanted_seconds": 3}).start() as daemon:
+        seven, listening, eight = daemon.connect(7), daemon.connect(7), daemon.connect(8)
+        assert seven.ask(1, lease(7, 1000, writes=True)).answer[4] == LEASED
+        began = time.monotonic()
+        assert is_held(eight.ask(1, lease(8, 1000)))
+        ask_for_wants(listening)
+        serial, found = wants(listening)
+        assert found == [(8, 1, b"")]
+        assert seven.ask(2, struct.pack(">BII", 3, 7, 1)).answer[4] == 5
+        assert seven.ask(3, lease(7, 1000, writes=True)).answer[4] == LEASED
+        assert is_held(eight.ask(2, lease(8, 1000)))
+        ask_for_wants(listening, serial)
+        again, found = wants(listening)
+        assert again > serial and found == [(8, 1, b"")], (serial, again, found)
+        while time.monotonic() - began < 3.2:
+            assert is_held(eight.ask(3, lease(8, 1000)))
+            time.sleep(0.1)
+        assert seven.ask(4, lease(7, 1001, writes=True)).refusal == WANTED
+
+
 def a_wanted_lease_is_not_renewed(made):
     """Who holds a lease renews it without end, until another one has asked for it for 2 seconds. Then the other one gets it."""
     with Daemon(*made, duties={"wanted_seconds": 2}).start() as daemon:
@@ -121,4 +143,4 @@ def a_want_that_is_given_up_is_over(made):
         assert seven.ask(4, lease(7, 2001, writes=True)).answer[4] == LEASED
 
 
-TESTS = [the_holder_is_told, a_wanted_lease_is_not_renewed, a_want_that_is_given_up_is_over]
+TESTS = [the_holder_is_told, who_takes_a_lease_again_is_told_again, a_wanted_lease_is_not_renewed, a_want_that_is_given_up_is_over]

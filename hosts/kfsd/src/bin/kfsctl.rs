@@ -4,6 +4,7 @@
 
 use anyhow::{bail, Context, Result};
 use clap::{Parser, Subcommand};
+use kfsd::cluster::listing::volumes;
 use kfsd::folder::FILES;
 use kfsd::status::Status;
 use std::io::{Read, Write};
@@ -13,6 +14,7 @@ use std::path::{Path, PathBuf};
 use std::process::{Command, ExitStatus, Stdio};
 use std::thread::sleep;
 use std::time::{Duration, Instant};
+use tokio::runtime::Runtime;
 
 /// How long an answer may take.
 const TIME: Duration = Duration::from_secs(60);
@@ -49,6 +51,12 @@ enum Asked {
         #[arg(long, default_value = "/usr/lib/kfsd/kfs_serve")]
         program: PathBuf,
     },
+    /// Prints a line for each volume in etcd: who leads it, its groups there, and what its members keep.
+    Volumes {
+        /// The members of etcd, each a host and a port, with commas between them.
+        #[arg(long, value_delimiter = ',', required = true)]
+        etcd: Vec<String>,
+    },
     /// Prints a line now and then: calls a second, and what waits.
     Watch {
         /// Seconds between two lines.
@@ -69,6 +77,7 @@ fn main() -> Result<()> {
         Asked::Free => "free",
         Asked::Checkpoint => "checkpoint",
         Asked::Fsck { folder, program } => return fsck(&folder, &program),
+        Asked::Volumes { etcd } => return print(&Runtime::new()?.block_on(volumes(&etcd))?),
         Asked::Watch { seconds, count } => return watch(&words.control, Duration::from_secs(seconds), count),
     };
     print(&ask(&words.control, question)?)

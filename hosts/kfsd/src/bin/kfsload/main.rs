@@ -1,30 +1,42 @@
 //! Many clients at once, each of which makes calls whose answers are known beforehand: for tests and figures (hosts/load).
 //!
 //! A connection has some files of its own in a directory of its user. Again and again it creates one with bytes, leases it,
-//! writes it twice, and takes it out. Each call has a number, and is handed in again under it until it is answered; so each
-//! answer has to be the right one, whatever is killed meanwhile. It prints figures and the files that are there at the end.
+//! writes it twice, and takes it out. In a mixed load it also changes its mode, size and names, writes to a file that all
+//! connections of the user share, and tries to create one that all try to create. Each call has a number, and is handed in
+//! again under it until it is answered; so each answer has to be the right one, whatever is killed meanwhile. It prints figures.
 
 #![forbid(unsafe_code)]
+
+mod kernel;
+mod making;
+mod steps;
 
 use anyhow::{bail, ensure, Context, Result};
 use clap::Parser;
 use kfsd::frames::{Head, REPLY_HEAD};
+use making::{word, Owner};
 use nix::unistd::{geteuid, seteuid, Uid};
 use serde::{Deserialize, Serialize};
+use std::fs::File as Disk;
+use std::io::{BufWriter, Write};
+use std::os::unix::fs::FileExt;
 use std::path::{Path, PathBuf};
 use std::sync::atomic::{AtomicU64, Ordering};
 use std::sync::{Arc, Mutex, PoisonError};
 use std::time::{Duration, Instant};
+use steps::{File, Place, Step, MIXED, PLAIN};
 use tokio::io::{AsyncReadExt, AsyncWriteExt};
 use tokio::net::UnixStream;
 use tokio::time::sleep;
 
 /// How many files a connection has, at most.
 const FILES: u32 = 4;
+/// How many numbers it has: one for each file, and another one.
+const NUMBERS: u32 = FILES + 1;
 /// How long to wait where nobody listens, or a call is under way.
 const AGAIN: Duration = Duration::from_millis(20);
-const YES: u8 = 1;
-const LEASED: u8 = 4;
+/// How often the count of answers is written.
+const TELLING: Duration = Duration::from_millis(100);
 const ANSWERED: u8 = 1;
 /// The refusals behind which a call is handed in again: `Unknown`, `Stopping` and `UnderWay`.
 const ASK_AGAIN: [u8; 3] = [128, 129, 133];
@@ -32,11 +44,14 @@ const ASK_AGAIN: [u8; 3] = [128, 129, 133];
 /// Makes calls until so many are answered, or so many seconds are over.
 #[derive(Debug, Parser)]
 struct Words {
-    #[arg(long)]
+    #[arg(long, default_value = "/run/kfsd/socket")]
     socket: PathBuf,
     /// The users, as TOML.
-    #[arg(long)]
+    #[arg(long, default_value = "users.toml")]
     users: PathBuf,
+    /// Does the same with files of this folder through the kernel, in as many threads; without leases.
+    #[arg(long)]
+    kernel: Option<PathBuf>,
     #[arg(long)]
     connections: u32,
     #[arg(long, default_value_t = u64::MAX)]
@@ -46,6 +61,15 @@ struct Words {
     /// Calls without numbers, and none is handed in again.
     #[arg(long)]
     plain: bool,
+    /// All kinds of calls, some of them on what others change.
+    #[arg(long)]
+    mixed: bool,
+    /// Where each answered call is written: client (4), number (8), and the answer behind its length (1).
+    #[arg(long)]
+    record: Option<PathBuf>,
+    /// Where it is written now and then how many calls were answered.
+    #[arg(long)]
+    progress: Option<PathBuf>,
 }
 
 #[derive(Debug, Deserialize)]
@@ -61,6 +85,11 @@ struct User {
     client: u32,
     directory: u32,
     first: u32,
+    /// A file that all its connections write to, and one of another user.
+    #[serde(default)]
+    shared: u32,
+    #[serde(default)]
+    others: u32,
 }
 
 /// What all connections share.
@@ -73,31 +102,14 @@ struct Shared {
     calls: u64,
     end: Instant,
     is_plain: bool,
-}
-
-/// A file of a connection, and what the next call does with it.
-#[derive(Clone, Copy, Debug)]
-struct File {
-    slot: u32,
-    number: u32,
-    step: u8,
-    fill: u8,
-}
-
-/// A file that is there at the end.
-#[derive(Debug, Serialize)]
-struct Left {
-    directory: u32,
-    name: String,
-    number: u32,
-    size: u32,
-    fill: u8,
+    steps: &'static [Step],
+    record: Option<Mutex<BufWriter<Disk>>>,
 }
 
 struct Client {
     shared: Arc<Shared>,
     user: User,
-    at: u32,
+    place: Place,
     files: Vec<File>,
     number: u64,
     stream: Option<UnixStream>,
@@ -110,6 +122,7 @@ struct Figures {
     again: u64,
     seconds: f64,
     calls_a_second: f64,
+    mean_micros: f64,
     median_micros: u32,
     micros_of_99_in_100: u32,
     most_micros: u32,
@@ -118,40 +131,47 @@ struct Figures {
 #[derive(Debug, Serialize)]
 struct Said {
     figures: Figures,
-    file: Vec<Left>,
 }
 
-impl File {
-    fn size(&self) -> u32 {
-        100 + 37 * self.slot
+impl Shared {
+    /// Keeps an answered call.
+    fn record(&self, client: u32, number: u64, answer: &[u8]) -> Result<()> {
+        if let Some(record) = &self.record {
+            let row = [&word(client)[..], &number.to_be_bytes(), &[answer.len() as u8], answer].concat();
+            record.lock().unwrap_or_else(PoisonError::into_inner).write_all(&row)?;
+        }
+        Ok(())
     }
 
-    fn is_there(&self) -> bool {
-        self.step != 0
+    /// Tells the count of answers, without end. The file is open: as another user it couldn't be opened.
+    async fn tell(&self, file: Disk) -> Result<()> {
+        loop {
+            file.write_all_at(format!("{:>20}", self.answered.load(Ordering::Relaxed)).as_bytes(), 0)?;
+            sleep(TELLING).await;
+        }
     }
 }
 
 impl Client {
     fn new(shared: &Arc<Shared>, user: User, at: u32, place: u32) -> Client {
-        let file = |slot| File { slot, number: user.first + place * FILES + slot, step: 0, fill: 0 };
+        let first = user.first + place * NUMBERS;
+        let owner = Owner { client: user.client, uid: user.uid, gid: user.gid };
+        let spare = first + FILES;
+        let place = Place { owner, directory: user.directory, shared: user.shared, others: user.others, spare, at };
         let number = u64::from(std::process::id() & 0xffff) << 48 | u64::from(at) << 32;
         Client {
             shared: Arc::clone(shared),
             user,
-            at,
-            files: (0..FILES).map(file).collect(),
+            place,
+            files: (0..FILES).map(|slot| File::new(slot, first + slot)).collect(),
             number,
             stream: None,
             micros: vec![],
         }
     }
 
-    fn name(&self, slot: u32) -> String {
-        format!("c{}f{slot}", self.at)
-    }
-
-    /// Makes calls to the end, and says what is left.
-    async fn run(mut self) -> Result<(Vec<u32>, Vec<Left>)> {
+    /// Makes calls to the end, and tells how long each took.
+    async fn run(mut self) -> Result<Vec<u32>> {
         let mut turn = 0;
         while self.shared.answered.load(Ordering::Relaxed) < self.shared.calls && Instant::now() < self.shared.end {
             let slot = turn % FILES as usize;
@@ -159,32 +179,25 @@ impl Client {
             // Some files are worked on together.
             turn += usize::from(self.files[slot].step % 2 == 0);
         }
-        let left = self.files.iter().filter(|file| file.is_there()).map(|file| Left {
-            directory: self.user.directory,
-            name: self.name(file.slot),
-            number: file.number,
-            size: file.size(),
-            fill: file.fill,
-        });
-        Ok((self.micros.clone(), left.collect()))
+        Ok(self.micros)
     }
 
     /// Makes the next call on a file, which has to be done.
     async fn next_step(&mut self, slot: usize) -> Result<()> {
-        let mut file = self.files[slot];
-        if matches!(file.step, 0 | 2 | 3) {
-            file.fill = file.fill.wrapping_mul(5).wrapping_add(file.slot as u8 + 1);
+        let (file, steps) = (self.files[slot], self.shared.steps);
+        let step = steps[file.step];
+        let mut next = file;
+        if file.does(step) {
+            let (changed, call, due) = file.stepped(step, &self.place);
+            let answer = self.answer(&call).await?;
+            let tag = answer.first().copied().context("an answer")?;
+            let is_right = due.map_or(true, |due| due == tag);
+            ensure!(is_right, "connection {}: {step:?} of {file:?} was answered {answer:x?}", self.place.at);
+            next = changed;
+            next.answered(step, tag);
         }
-        let (call, due) = match file.step {
-            0 => (self.create(&file), YES),
-            1 => (self.lease(&file), LEASED),
-            2 | 3 => (self.write(&file), YES),
-            _ => (self.unlink(&file), YES),
-        };
-        let answer = self.answer(&call).await?;
-        ensure!(answer.first() == Some(&due), "connection {}: {file:?} was answered {answer:x?}", self.at);
-        file.step = (file.step + 1) % 5;
-        self.files[slot] = file;
+        next.step = (file.step + 1) % steps.len();
+        self.files[slot] = next;
         Ok(())
     }
 
@@ -197,11 +210,12 @@ impl Client {
             match self.once(&body).await {
                 Ok(said) if said.first() == Some(&ANSWERED) => {
                     self.micros.push(began.elapsed().as_micros() as u32);
+                    self.shared.record(self.user.client, self.number, &said[5..])?;
                     self.shared.answered.fetch_add(1, Ordering::Relaxed);
                     return Ok(said[5..].to_vec());
                 }
                 Ok(said) if !self.shared.is_plain && said.len() > 1 && ASK_AGAIN.contains(&said[1]) => {}
-                Ok(said) => bail!("connection {}: {said:x?}", self.at),
+                Ok(said) => bail!("connection {}: {said:x?}", self.place.at),
                 Err(fault) if self.shared.is_plain => return Err(fault),
                 Err(_) => self.stream = None,
             }
@@ -225,62 +239,6 @@ impl Client {
         stream.read_exact(&mut said).await?;
         Ok(said)
     }
-
-    fn create(&self, file: &File) -> Vec<u8> {
-        let name = self.name(file.slot);
-        let created = [&[1][..], &word(self.user.directory), &name_bytes(&name), &word(file.number), &[0, 1, 0xa4]].concat();
-        let written = [&[2][..], &word(file.number), &[0; 8], &word(file.size()), &self.bytes(file)].concat();
-        let header =
-            [&[1, 1, 0xa4][..], &word(self.user.uid), &word(self.user.gid), &[0, 1], &long(file.size().into())].concat();
-        let names = [&word(self.user.directory)[..], &name_bytes(&name), &word(file.number)].concat();
-        let nodes = [&word(file.number)[..], &header].concat();
-        self.submit(&[created, written], &[names], &[nodes], &[piece(file, 1)])
-    }
-
-    fn lease(&self, file: &File) -> Vec<u8> {
-        [&[6][..], &word(self.user.client), &[1], &long(1 << 62), &word(file.number)].concat()
-    }
-
-    fn write(&self, file: &File) -> Vec<u8> {
-        let written = [&[2][..], &word(file.number), &[0; 8], &word(file.size()), &self.bytes(file)].concat();
-        self.submit(&[written], &[], &[], &[piece(file, 0)])
-    }
-
-    fn unlink(&self, file: &File) -> Vec<u8> {
-        let name = name_bytes(&self.name(file.slot));
-        let taken = [&[5][..], &word(self.user.directory), &name, &[0]].concat();
-        let names = [&word(self.user.directory)[..], &name, &word(0)].concat();
-        self.submit(&[taken], &[names], &[[&word(file.number)[..], &[0]].concat()], &[])
-    }
-
-    fn bytes(&self, file: &File) -> Vec<u8> {
-        vec![file.fill; file.size() as usize]
-    }
-
-    fn submit(&self, entries: &[Vec<u8>], names: &[Vec<u8>], nodes: &[Vec<u8>], pieces: &[Vec<u8>]) -> Vec<u8> {
-        let half = |rows: &[Vec<u8>]| (rows.len() as u16).to_be_bytes();
-        let log = [b"KLOG\x01", &word(self.user.client)[..], &half(entries), &entries.concat()].concat();
-        let counts = [&half(names)[..], &half(nodes), &word(pieces.len() as u32)].concat();
-        let plan = [b"KPLN\x01", &counts[..], &names.concat(), &nodes.concat(), &pieces.concat()].concat();
-        [&[1][..], &word(self.user.client), &word(log.len() as u32), &log, &word(plan.len() as u32), &plan].concat()
-    }
-}
-
-fn word(number: u32) -> [u8; 4] {
-    number.to_be_bytes()
-}
-
-fn long(number: u64) -> [u8; 8] {
-    number.to_be_bytes()
-}
-
-fn name_bytes(name: &str) -> Vec<u8> {
-    [&[name.len() as u8][..], name.as_bytes()].concat()
-}
-
-/// The whole file, from the payload of an entry.
-fn piece(file: &File, entry: u8) -> Vec<u8> {
-    [&word(file.number)[..], &[0; 8], &long(file.size().into()), &[1, 0, entry], &word(0)].concat()
 }
 
 /// Connects as a user.
@@ -299,46 +257,66 @@ fn users_in(path: &Path) -> Result<Vec<User>> {
     Ok(toml::from_str::<Users>(&std::fs::read_to_string(path)?)?.user)
 }
 
-fn figures(shared: &Shared, mut micros: Vec<u32>, seconds: f64) -> Figures {
+fn figures(again: u64, mut micros: Vec<u32>, seconds: f64) -> Figures {
     micros.sort_unstable();
     let at = |share: f64| micros.get((micros.len() as f64 * share) as usize).copied().unwrap_or(0);
     Figures {
         answered: micros.len() as u64,
-        again: shared.again.load(Ordering::Relaxed),
+        again,
         seconds,
         calls_a_second: micros.len() as f64 / seconds,
+        mean_micros: micros.iter().map(|it| f64::from(*it)).sum::<f64>() / micros.len().max(1) as f64,
         median_micros: at(0.5),
         micros_of_99_in_100: at(0.99),
         most_micros: micros.last().copied().unwrap_or(0),
     }
 }
 
-#[tokio::main(worker_threads = 2)]
-async fn main() -> Result<()> {
-    let words = Words::parse();
-    let users = users_in(&words.users)?;
-    ensure!(!users.is_empty(), "there are no users");
-    let began = Instant::now();
-    let shared = Arc::new(Shared {
+fn say(again: u64, micros: Vec<u32>, began: Instant) -> Result<()> {
+    let said = Said { figures: figures(again, micros, began.elapsed().as_secs_f64()) };
+    println!("{}", toml::to_string(&said)?);
+    Ok(())
+}
+
+fn shared_of(words: &Words) -> Result<Shared> {
+    let record = words.record.as_ref().map(Disk::create).transpose()?;
+    Ok(Shared {
         socket: words.socket.clone(),
         connecting: Mutex::new(()),
         answered: AtomicU64::new(0),
         again: AtomicU64::new(0),
         calls: words.calls,
-        end: began + Duration::from_secs_f64(words.seconds),
+        end: Instant::now() + Duration::from_secs_f64(words.seconds),
         is_plain: words.plain,
-    });
+        steps: if words.mixed { MIXED } else { PLAIN },
+        record: record.map(|file| Mutex::new(BufWriter::new(file))),
+    })
+}
+
+#[tokio::main(worker_threads = 2)]
+async fn main() -> Result<()> {
+    let words = Words::parse();
+    if let Some(folder) = &words.kernel {
+        let began = Instant::now();
+        return say(0, kernel::run(folder, words.connections, Duration::from_secs_f64(words.seconds))?, began);
+    }
+    let users = users_in(&words.users)?;
+    ensure!(!users.is_empty(), "there are no users");
+    let (began, shared) = (Instant::now(), Arc::new(shared_of(&words)?));
+    if let Some(path) = words.progress {
+        let (shared, file) = (Arc::clone(&shared), Disk::create(path)?);
+        tokio::spawn(async move { shared.tell(file).await });
+    }
     let count = users.len() as u32;
     let running: Vec<_> = (0..words.connections)
         .map(|at| tokio::spawn(Client::new(&shared, users[(at % count) as usize], at, at / count).run()))
         .collect();
-    let (mut micros, mut file) = (vec![], vec![]);
+    let mut micros = vec![];
     for one in running {
-        let (some, left) = one.await??;
-        micros.extend(some);
-        file.extend(left);
+        micros.extend(one.await??);
     }
-    let said = Said { figures: figures(&shared, micros, began.elapsed().as_secs_f64()), file };
-    println!("{}", toml::to_string(&said)?);
-    Ok(())
+    if let Some(record) = &shared.record {
+        record.lock().unwrap_or_else(PoisonError::into_inner).flush()?;
+    }
+    say(shared.again.load(Ordering::Relaxed), micros, began)
 }

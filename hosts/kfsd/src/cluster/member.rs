@@ -1,0 +1,326 @@
+//! A member of a volume: it makes the calls of all groups, and leads where nobody does.
+
+use super::base::{Base, Bases};
+use super::leading::{self, Leading};
+use super::origin::Origin;
+use super::peer::{self, Key};
+use super::relay::relay;
+use super::replica::{begin_anew, Replica};
+use super::volume::{Lead, Volume};
+use super::{blocking, ClusterFault, Settings};
+use crate::calls::Note;
+use crate::config::Config;
+use crate::connection::Shared;
+use crate::folder::Folder;
+use crate::outcomes::Finder;
+use crate::queue::Queue;
+use crate::sockets::Sockets;
+use std::ffi::OsString;
+use std::fs;
+use std::io;
+use std::path::PathBuf;
+use std::sync::Arc;
+use std::time::Duration;
+use tokio::net::TcpListener;
+use tokio::sync::watch;
+use tokio::task::JoinSet;
+use tokio::time::sleep;
+use tracing::{debug, info, warn};
+
+/// How long a member waits before it looks for groups again.
+const POLL: Duration = Duration::from_millis(50);
+
+/// How long it waits where etcd doesn't answer, or nobody gives it a state.
+const REST: Duration = Duration::from_millis(200);
+
+/// A kfsd of a volume.
+#[derive(Debug)]
+pub struct Member {
+    settings: Settings,
+    volume: Volume,
+    origin: Origin,
+    key: Key,
+    bases: Bases,
+    /// Where other members ask.
+    listener: Arc<TcpListener>,
+    /// Where clients connect, and where kfsctl does.
+    socket: PathBuf,
+    control: PathBuf,
+    program: PathBuf,
+    folder: Folder,
+    rows: u32,
+}
+
+/// What a member knows of the groups before the next one.
+#[derive(Debug, Default)]
+struct Follower {
+    next: u64,
+    finder: Finder,
+    /// The moment of the last group.
+    moment: u64,
+    /// How many bytes of groups there were since a state was kept.
+    bytes: u64,
+}
+
+impl Member {
+    /// Finds the volume in etcd, or begins it as the configuration says, with the lines of these clients. Waits until etcd answers.
+    pub async fn join(settings: &Settings, config: &Config, folder: Folder, clients: &str) -> Result<Member, ClusterFault> {
+        let key = Key::read(&settings.key_file).map_err(|fault| ClusterFault::Path(settings.key_file.clone(), fault))?;
+        let listener = TcpListener::bind(settings.peer).await.map_err(|fault| ClusterFault::Peer(settings.peer, fault))?;
+        let volume = Volume::new(settings);
+        let wanted = Origin::new(config.tiers, clients).map_err(ClusterFault::Folder)?.text();
+        let origin = loop {
+            match volume.begin(&wanted).await {
+                Err(ClusterFault::Etcd(fault)) => {
+                    warn!("{fault}");
+                    sleep(REST).await;
+                }
+                other => break other?,
+            }
+        };
+        Ok(Member {
+            settings: settings.clone(),
+            volume,
+            origin: Origin::of(&origin).ok_or(ClusterFault::Unread("the origin"))?,
+            key,
+            bases: Bases::new(folder.path()),
+            listener: Arc::new(listener),
+            socket: config.socket.clone(),
+            control: config.control.clone(),
+            program: config.program.clone(),
+            folder,
+            rows: config.rows,
+        })
+    }
+
+    /// The lines of the clients that the volume was begun with.
+    pub fn clients(&self) -> &str {
+        &self.origin.clients
+    }
+
+    /// Follows the volume until nobody leads it, and leads then, until the queue is closed and empty. `ready` becomes true when
+    /// this one leads.
+    pub async fn run(self, shared: &Arc<Shared>, ready: &watch::Sender<bool>) -> Result<(), ClusterFault> {
+        let (tell, leader) = watch::channel(None);
+        let sockets = Sockets::bind(&self.socket, &self.control);
+        let sockets = sockets.map_err(|fault| ClusterFault::Socket(fault.to_string()))?;
+        let mut serving = JoinSet::new();
+        let (listener, key, bases) = (Arc::clone(&self.listener), self.key.clone(), self.bases.clone());
+        serving.spawn(peer::serve(listener, key, bases, Arc::clone(shared)));
+        let followed = tokio::select! {
+            followed = self.follow(shared, &tell) => followed?,
+            never = relay(&sockets, shared, leader, &self.key) => match never {},
+            () = turned_away(&shared.queue) => return Ok(()),
+        };
+        drop(sockets);
+        self.lead(followed, shared, ready).await
+    }
+
+    /// Makes the calls of groups until this one leads.
+    async fn follow(
+        &self,
+        shared: &Shared,
+        leader: &watch::Sender<Option<String>>,
+    ) -> Result<(Replica, Follower, Lead), ClusterFault> {
+        self.have_state(leader).await?;
+        let (mut replica, mut follower) = self.begin(shared).await?;
+        info!("{} follows volume {} from group {} on", self.settings.member, self.settings.volume, follower.next);
+        loop {
+            let seen = match self.volume.look(follower.next).await {
+                Err(ClusterFault::Etcd(fault)) => {
+                    warn!("{fault}");
+                    sleep(REST).await;
+                    continue;
+                }
+                other => other?,
+            };
+            let (has_more, is_led) = (!seen.groups.is_empty(), seen.leader.is_some());
+            leader.send_replace(seen.leader);
+            for (number, group) in seen.groups {
+                replica.feed(number, &group).await?;
+                follower.take(number, &group, shared);
+            }
+            if has_more {
+                debug!("group {} is next", follower.next);
+                self.keep_state(&mut replica, &mut follower, shared).await?;
+            }
+            if !is_led && follower.next == seen.next {
+                match self.volume.lead(follower.next, self.settings.lease_seconds).await {
+                    Ok(Some(lead)) => return Ok((replica, follower, lead)),
+                    Ok(None) => {}
+                    Err(ClusterFault::Etcd(fault)) => warn!("{fault}"),
+                    Err(fault) => return Err(fault),
+                }
+            } else if !has_more {
+                sleep(POLL).await;
+            }
+        }
+    }
+
+    /// Sees to it that the state that is kept here, or the beginning, and the groups of etcd lead to now.
+    async fn have_state(&self, leader: &watch::Sender<Option<String>>) -> Result<(), ClusterFault> {
+        loop {
+            let number = self.own_base()?.map_or(0, |base| base.number);
+            match self.volume.look(number).await {
+                Ok(seen) => {
+                    leader.send_replace(seen.leader);
+                    return Ok(());
+                }
+                Err(ClusterFault::Gap(_)) => self.fetch(number).await?,
+                Err(ClusterFault::Etcd(fault)) => {
+                    warn!("{fault}");
+                    sleep(REST).await;
+                }
+                Err(fault) => return Err(fault),
+            }
+        }
+    }
+
+    /// What stands beside the state that is kept here.
+    fn own_base(&self) -> Result<Option<Base>, ClusterFault> {
+        let base = match self.bases.read() {
+            Err(fault) if fault.kind() == io::ErrorKind::InvalidData => {
+                warn!("{}: {fault}", self.folder.path().display());
+                None
+            }
+            other => other.map_err(ClusterFault::Folder)?,
+        };
+        match base {
+            Some(base) if base.volume != self.origin.volume => Err(ClusterFault::Another(self.folder.path().to_path_buf())),
+            other => Ok(other),
+        }
+    }
+
+    /// Has another member send its state, where one has a later one than this.
+    async fn fetch(&self, number: u64) -> Result<(), ClusterFault> {
+        let kept = match self.volume.kept().await {
+            Err(ClusterFault::Etcd(fault)) => {
+                warn!("{fault}");
+                vec![]
+            }
+            other => other?,
+        };
+        let own = self.settings.peer.to_string();
+        for (_, address) in kept.into_iter().filter(|(its, address)| *its > number && *address != own) {
+            if let Err(fault) = peer::fetch(&address, &self.key, &self.bases).await {
+                warn!("no state comes from {address}: {fault}");
+                continue;
+            }
+            let base = self.bases.read_part().map_err(ClusterFault::Folder)?;
+            if base.volume == self.origin.volume && base.number > number {
+                info!("the state before group {} has come from {address}", base.number);
+                return self.bases.keep_whole().map_err(ClusterFault::Folder);
+            }
+        }
+        warn!("etcd has no groups behind the state that is kept here, and no other member has sent its state");
+        sleep(REST * 5).await;
+        Ok(())
+    }
+
+    /// Starts `kfs_serve` with the state that is kept, or as at the first start. What its files were before goes.
+    async fn begin(&self, shared: &Shared) -> Result<(Replica, Follower), ClusterFault> {
+        let base = self.own_base()?;
+        let folder = begin_anew(self.folder.path()).map_err(ClusterFault::Folder)?;
+        let clients = folder.join("clients");
+        fs::write(&clients, &self.origin.clients).map_err(ClusterFault::Folder)?;
+        let mut words: Vec<OsString> = vec!["new".into(), folder.clone().into(), self.rows.to_string().into()];
+        let mut follower = Follower::default();
+        if let Some(base) = base {
+            let (bases, to) = (self.bases.clone(), folder.clone());
+            blocking(move || bases.put(&to)).await?;
+            words[0] = "open".into();
+            let following = &shared.following;
+            following.read(&folder, |_, _| false).map_err(ClusterFault::Folder)?;
+            following.outcomes.begin_with(base.outcomes, vec![]);
+            following.times().begin_with(base.stamps);
+            follower = Follower { next: base.number, moment: base.moment, ..follower };
+        } else {
+            words.push(clients.into());
+            words.extend(self.origin.tiers.iter().map(|blocks| blocks.to_string().into()));
+        }
+        shared.figures.group.set(follower.next);
+        self.tell_kept(follower.next).await?;
+        Ok((Replica::start(&self.program, &words, folder).await?, follower))
+    }
+
+    /// Keeps a state, where there were many groups since the last one.
+    async fn keep_state(&self, replica: &mut Replica, follower: &mut Follower, shared: &Shared) -> Result<(), ClusterFault> {
+        if follower.bytes < self.settings.state_bytes {
+            return Ok(());
+        }
+        follower.bytes = 0;
+        if replica.copy_state(&self.bases).await? {
+            let base = Base::now(self.origin.volume, follower.next, follower.moment, &shared.following);
+            let bases = self.bases.clone();
+            blocking(move || bases.keep(&base)).await?;
+            self.tell_kept(follower.next).await?;
+        }
+        Ok(())
+    }
+
+    /// Says in etcd which state is kept here. Where etcd doesn't answer, it is said with the next one.
+    async fn tell_kept(&self, number: u64) -> Result<(), ClusterFault> {
+        match self.volume.tell_kept(number).await {
+            Err(ClusterFault::Etcd(fault)) => {
+                warn!("{fault}");
+                Ok(())
+            }
+            other => other,
+        }
+    }
+
+    /// Leads until the queue is closed and empty.
+    async fn lead(
+        self,
+        (mut replica, follower, lead): (Replica, Follower, Lead),
+        shared: &Arc<Shared>,
+        ready: &watch::Sender<bool>,
+    ) -> Result<(), ClusterFault> {
+        info!("{} leads volume {} from group {} on", self.settings.member, self.settings.volume, follower.next);
+        let moment = shared.following.leases().moment.max(follower.moment);
+        shared.following.clock.go_on_from(moment);
+        shared.figures.process.set(replica.process());
+        shared.figures.opened.set(1);
+        ready.send_replace(true);
+        let leading = Leading {
+            volume: &self.volume,
+            lead: &lead,
+            bases: &self.bases,
+            id: self.origin.volume,
+            state_bytes: self.settings.state_bytes,
+        };
+        let led = leading::lead(&leading, follower.next, &mut replica, shared).await;
+        shared.figures.opened.set(0);
+        // Its key goes at once. What it has sent before that it was told of, or it is refused.
+        self.volume.end(&lead).await;
+        replica.end().await;
+        debug!("group {} is next", shared.figures.group.get());
+        led
+    }
+}
+
+/// Takes the questions of `kfsctl`, which a member that doesn't lead has no answer to, until the queue is closed.
+async fn turned_away(queue: &Queue) {
+    while let Some(batch) = queue.next(0).await {
+        drop(batch);
+    }
+}
+
+impl Follower {
+    /// Takes over what a group has done.
+    fn take(&mut self, number: u64, group: &super::group::Group, shared: &Shared) {
+        let following = &shared.following;
+        for (call, answer) in &group.calls {
+            following.answered(&Note::of(call), answer, group.time);
+            if let Some(outcome) = self.finder.next(call, answer) {
+                following.outcomes.end(outcome.client, outcome.number, Some(answer));
+            }
+            self.bytes += (call.len() + answer.len()) as u64;
+        }
+        // All of it is in etcd.
+        drop(following.take_unsaved());
+        self.moment = group.moment;
+        self.next = number + 1;
+        shared.figures.group.set(self.next);
+    }
+}

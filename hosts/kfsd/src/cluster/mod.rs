@@ -1,0 +1,165 @@
+//! A desk on several machines: each has a kfsd and all groups, and one of them leads, which etcd decides.
+//!
+//! The leader puts each group into etcd before it answers. The others make the same calls, and compare the answers. Begin with
+//! `run` in `member.rs`; docs/CLUSTER.md is for those who run it.
+
+pub mod base;
+pub mod etcd;
+pub mod group;
+pub mod http;
+pub mod leading;
+pub mod listing;
+pub mod member;
+pub mod origin;
+pub mod peer;
+pub mod relay;
+pub mod replica;
+pub mod term;
+pub mod volume;
+
+use self::etcd::EtcdFault;
+use serde::Deserialize;
+use std::io;
+use std::net::SocketAddr;
+use std::path::PathBuf;
+use thiserror::Error;
+
+/// Why a kfsd is no member of a volume any more.
+#[derive(Debug, Error)]
+pub enum ClusterFault {
+    #[error(transparent)]
+    Etcd(#[from] EtcdFault),
+    #[error("this kfsd leads no more: its lease in etcd has ended")]
+    Lost,
+    #[error("etcd wasn't reached for {0} seconds, so another kfsd may lead by now")]
+    Cut(u64),
+    #[error(
+        "call {place} of group {number} was answered {theirs:02x?} at the leader, and here kfs_serve says {own:02x?}: \
+         the two desks differ"
+    )]
+    Differs { number: u64, place: usize, theirs: Vec<u8>, own: Vec<u8> },
+    #[error(
+        "group {0} isn't in etcd any more, and this kfsd hasn't made its calls: a new start has another member send its state"
+    )]
+    Gap(u64),
+    #[error("etcd is at group {next}, and this kfsd has seen {own}: etcd has lost some")]
+    Ahead { own: u64, next: u64 },
+    #[error("group {0} in etcd isn't one")]
+    BadGroup(u64),
+    #[error("in etcd {0} can't be read")]
+    Unread(&'static str),
+    #[error("kfs_serve isn't understood, or has ended: {0}")]
+    Ended(io::Error),
+    #[error("{0} can't be run: {1}")]
+    Process(PathBuf, io::Error),
+    #[error("the folder: {0}")]
+    Folder(io::Error),
+    #[error("{0}: {1}")]
+    Path(PathBuf, io::Error),
+    #[error("{0}")]
+    Socket(String),
+    #[error("{0}: {1}")]
+    Peer(SocketAddr, io::Error),
+    #[error("the state in {0} is of another volume that has had this name: where it isn't needed any more, remove it")]
+    Another(PathBuf),
+}
+
+impl ClusterFault {
+    /// The exit status: 5 where a new start makes it a member again, 6 where someone has to look first, and else 1.
+    pub fn status(&self) -> u8 {
+        match self {
+            ClusterFault::Lost | ClusterFault::Cut(_) | ClusterFault::Gap(_) | ClusterFault::Ended(_) => 5,
+            ClusterFault::Etcd(EtcdFault::Unreached(_)) => 5,
+            ClusterFault::Differs { .. } | ClusterFault::BadGroup(_) | ClusterFault::Unread(_) => 6,
+            ClusterFault::Ahead { .. } | ClusterFault::Etcd(_) | ClusterFault::Folder(_) => 6,
+            ClusterFault::Another(_) => 6,
+            ClusterFault::Process(..) | ClusterFault::Path(..) | ClusterFault::Peer(..) | ClusterFault::Socket(_) => 1,
+        }
+    }
+}
+
+/// Does what may take long with files, beside all else.
+async fn blocking<T: Send + 'static>(work: impl FnOnce() -> io::Result<T> + Send + 'static) -> Result<T, ClusterFault> {
+    let worked = tokio::task::spawn_blocking(work).await;
+    worked.unwrap_or_else(|fault| Err(fault.into())).map_err(ClusterFault::Folder)
+}
+
+/// The table `[cluster]` of a configuration.
+#[derive(Clone, Debug, Deserialize, PartialEq, Eq)]
+#[serde(deny_unknown_fields)]
+pub struct Settings {
+    /// The members of etcd, each a host and a port.
+    pub etcd: Vec<String>,
+    /// The name of the volume.
+    pub volume: String,
+    /// The name of this kfsd, which no other one of the volume has.
+    pub member: String,
+    /// How long a leader's lease lasts behind its last renewal. etcd may make it longer.
+    #[serde(default = "lease_seconds")]
+    pub lease_seconds: u64,
+    /// Where the other members reach this one.
+    pub peer: SocketAddr,
+    /// The file with the key that all members know.
+    pub key_file: PathBuf,
+    /// A state is kept behind groups of so many bytes.
+    #[serde(default = "state_bytes")]
+    pub state_bytes: u64,
+}
+
+fn lease_seconds() -> u64 {
+    2
+}
+
+fn state_bytes() -> u64 {
+    16 << 20
+}
+
+impl Settings {
+    /// Why they aren't taken.
+    pub fn fault(&self) -> Option<&'static str> {
+        let is_name = |text: &str| {
+            let is_right = |byte: u8| byte.is_ascii_alphanumeric() || matches!(byte, b'-' | b'_' | b'.');
+            !text.is_empty() && text.len() <= 255 && text.bytes().all(is_right)
+        };
+        let is_address = |text: &String| {
+            let is_right = |byte: u8| byte.is_ascii_alphanumeric() || b"-.[]:".contains(&byte);
+            let port = text.rsplit_once(':').filter(|(host, _)| !host.is_empty()).and_then(|(_, port)| port.parse().ok());
+            text.bytes().all(is_right) && matches!(port, Some(1..=u16::MAX))
+        };
+        if self.etcd.is_empty() || !self.etcd.iter().all(is_address) {
+            return Some("cluster.etcd has no address, or one without a port");
+        }
+        if !is_name(&self.volume) || !is_name(&self.member) {
+            return Some("names of a volume and of a member have letters, digits, and the signs - _ . alone");
+        }
+        (self.lease_seconds == 0).then_some("cluster.lease_seconds is 1 at least")
+    }
+}
+
+#[cfg(test)]
+mod tests {
+    use super::*;
+
+    #[test]
+    fn wrong_settings_are_told() {
+        let right = Settings {
+            etcd: vec!["127.0.0.1:2379".into()],
+            volume: "a-1".into(),
+            member: "b".into(),
+            lease_seconds: 2,
+            peer: ([127, 0, 0, 1], 9470).into(),
+            key_file: "/etc/key".into(),
+            state_bytes: 1,
+        };
+        assert_eq!(right.fault(), None);
+        for endpoint in ["127.0.0.1", "http://127.0.0.1:2379", "", "a b:1"] {
+            assert!(Settings { etcd: vec![endpoint.into()], ..right.clone() }.fault().is_some(), "{endpoint}");
+        }
+        for name in ["", "a/b", "a b", "\u{e4}"] {
+            assert!(Settings { volume: name.into(), ..right.clone() }.fault().is_some(), "{name}");
+            assert!(Settings { member: name.into(), ..right.clone() }.fault().is_some(), "{name}");
+        }
+        assert!(Settings { etcd: vec![], ..right.clone() }.fault().is_some());
+        assert!(Settings { lease_seconds: 0, ..right }.fault().is_some());
+    }
+}
