@@ -91,6 +91,12 @@ impl Draft {
         self.nodes.keys().chain(self.files.keys()).chain(self.names.keys()).copied().collect()
     }
 
+    /// The nodes that were there before this log, and have gone with it.
+    pub(crate) fn gone(&self) -> Vec<u32> {
+        let gone = self.nodes.iter().filter(|(_, change)| change.before.is_some() && change.now.is_none());
+        gone.map(|(number, _)| *number).collect()
+    }
+
     // ---- What shows now
 
     /// The header of a node.

@@ -237,6 +237,8 @@ impl<D: Desk> Session<D> {
             let count = payload.len();
             match self.enter(&Entry::Write { number, offset: at, payload }) {
                 Ok(()) => done += count,
+                // Calls that are lost have to be told.
+                Err(failure @ Failure::HandIn(_)) => return Err(failure),
                 Err(_) if done > 0 => break,
                 Err(failure) => return Err(failure),
             }
@@ -408,6 +410,8 @@ impl<D: Desk> Session<D> {
     /// Hands the log in, and gives a lease up. Where the log isn't kept, the lease goes all the same.
     pub fn give_up(&mut self, number: u32) -> Result<(), Failure> {
         if !self.leases.reads(number) {
+            // One that an earlier session of this client had may be live still.
+            let _none_held = self.desk.drop_lease(number)?;
             return Ok(());
         }
         let handed_in = self.sync();

@@ -43,20 +43,15 @@ pub struct Volume<D> {
     owed: Option<Errno>,
 }
 
-/// The number that POSIX has for a failure. Where calls are lost, people are told on standard error.
-fn errno(failure: Failure) -> Errno {
-    match &failure {
-        Failure::HandIn(fault) => tell(fault),
-        Failure::Lease(..) => eprintln!("kfs-mount: a lease isn't to be had: {failure}"),
-        _ => {}
-    }
-    failure.errno()
-}
-
-fn tell(fault: &HandInFault) {
+/// Tells people on standard error why a log isn't kept. Returns whether calls are lost.
+fn tell(fault: &HandInFault) -> bool {
     eprintln!("kfs-mount: a log isn't kept: {fault}");
-    if let HandInFault::Refused { lost, .. } = fault {
-        lost.iter().for_each(|call| eprintln!("kfs-mount: lost: {call}"));
+    match fault {
+        HandInFault::Refused { lost, .. } => {
+            lost.iter().for_each(|call| eprintln!("kfs-mount: lost: {call}"));
+            !lost.is_empty()
+        }
+        _ => false,
     }
 }
 
@@ -73,20 +68,32 @@ impl<D: Desk> Volume<D> {
     /// What is due now and then. What fails is tried again; who asks next that all is kept is told of calls that are lost.
     pub fn poll(&mut self) {
         if let Err(failure) = self.session.poll() {
-            let is_lost = matches!(&failure, Failure::HandIn(HandInFault::Refused { lost, .. }) if !lost.is_empty());
-            let told = errno(failure);
-            self.owed = self.owed.or(Some(told).filter(|_| is_lost));
+            let _nobody_asked = self.told(&failure);
         }
+    }
+
+    /// The number that POSIX has for a failure. Whoever made the calls that are lost by it may be another than who is told of it
+    /// now: so the next who asks that all is kept is told, too.
+    fn told(&mut self, failure: &Failure) -> Errno {
+        match failure {
+            Failure::HandIn(fault) if tell(fault) => self.owed = Some(failure.errno()),
+            Failure::Lease(..) => eprintln!("kfs-mount: a lease isn't to be had: {failure}"),
+            _ => {}
+        }
+        failure.errno()
     }
 
     /// Hands all in, and gives all leases up.
     pub fn close(&mut self) -> Result<(), Errno> {
-        self.session.close().map_err(errno)
+        self.session.close().map_err(|failure| self.told(&failure))
     }
 
     /// Hands all in.
     pub fn sync(&mut self) -> Result<(), Errno> {
-        self.session.sync().map_err(|fault| errno(fault.into()))?;
+        if let Err(fault) = self.session.sync() {
+            tell(&fault);
+            return Err(fault.errno());
+        }
         self.owed.take().map_or(Ok(()), Err)
     }
 
@@ -123,24 +130,24 @@ impl<D: Desk> Volume<D> {
     }
 
     pub fn shape(&mut self, number: u32) -> Result<Shape, Errno> {
-        let header = self.session.header(number).map_err(errno)?;
+        let header = self.session.header(number).map_err(|failure| self.told(&failure))?;
         Ok(self.shown(number, header))
     }
 
     pub fn lookup(&mut self, directory: u32, name: &[u8]) -> Result<(u32, Shape), Errno> {
         let name = named(name)?;
-        let (number, header) = self.session.lookup(directory, &name).map_err(errno)?;
+        let (number, header) = self.session.lookup(directory, &name).map_err(|failure| self.told(&failure))?;
         Ok((number, self.shown(number, header)))
     }
 
     pub fn read_link(&mut self, number: u32) -> Result<Vec<u8>, Errno> {
-        let header = self.session.header(number).map_err(errno)?;
+        let header = self.session.header(number).map_err(|failure| self.told(&failure))?;
         self.target(number, &header).ok_or(Errno::EINVAL)
     }
 
     /// All names of a directory, as a list that stays while it is read.
     pub fn open_list(&mut self, directory: u32) -> Result<u64, Errno> {
-        let names = self.session.list(directory, None, usize::MAX).map_err(errno)?;
+        let names = self.session.list(directory, None, usize::MAX).map_err(|failure| self.told(&failure))?;
         Ok(self.handles.open_list(names))
     }
 
@@ -149,13 +156,13 @@ impl<D: Desk> Volume<D> {
     }
 
     pub fn read(&mut self, number: u32, start: u64, most: usize) -> Result<Vec<u8>, Errno> {
-        self.session.read(number, start, most).map_err(errno)
+        self.session.read(number, start, most).map_err(|failure| self.told(&failure))
     }
 
     pub fn access(&mut self, number: u32, mask: u32) -> Result<(), Errno> {
         for access in [Access::Read, Access::Write, Access::Search] {
             if mask & access as u32 != 0 {
-                self.session.access(number, access).map_err(errno)?;
+                self.session.access(number, access).map_err(|failure| self.told(&failure))?;
             }
         }
         self.shape(number).map(|_| ())
@@ -192,10 +199,10 @@ impl<D: Desk> Volume<D> {
     pub fn close_file(&mut self, number: u32) -> Result<(), Errno> {
         let Leftover { late_mode, hidden } = self.handles.close(number);
         if let Some((directory, name)) = hidden {
-            return self.session.unlink(directory, &name, Kind::File).map_err(errno);
+            return self.session.unlink(directory, &name, Kind::File).map_err(|failure| self.told(&failure));
         }
         match late_mode {
-            Some(mode) => self.session.change_mode(number, mode).map_err(errno),
+            Some(mode) => self.session.change_mode(number, mode).map_err(|failure| self.told(&failure)),
             None => Ok(()),
         }
     }
@@ -205,7 +212,7 @@ impl<D: Desk> Volume<D> {
     /// Makes a file or a directory.
     pub fn make(&mut self, directory: u32, name: &[u8], kind: Kind, mode: u16) -> Result<(u32, Shape), Errno> {
         let name = named(name)?;
-        let number = self.session.create(directory, &name, kind, mode).map_err(errno)?;
+        let number = self.session.create(directory, &name, kind, mode).map_err(|failure| self.told(&failure))?;
         self.clocks.create(number);
         self.clocks.write(directory);
         Ok((number, self.shape(number)?))
@@ -219,18 +226,18 @@ impl<D: Desk> Volume<D> {
     pub fn make_link(&mut self, directory: u32, name: &[u8], target: &[u8]) -> Result<(u32, Shape), Errno> {
         let bytes = link_bytes(target).ok_or(Errno::ENAMETOOLONG)?;
         let (number, _) = self.make(directory, name, Kind::File, LINK_FILE_MODE)?;
-        self.session.write(number, 0, &bytes).map_err(errno)?;
+        self.session.write(number, 0, &bytes).map_err(|failure| self.told(&failure))?;
         Ok((number, self.shape(number)?))
     }
 
     pub fn write(&mut self, number: u32, offset: u64, bytes: &[u8]) -> Result<usize, Errno> {
-        let count = self.session.write(number, offset, bytes).map_err(errno)?;
+        let count = self.session.write(number, offset, bytes).map_err(|failure| self.told(&failure))?;
         self.clocks.write(number);
         Ok(count)
     }
 
     fn truncate(&mut self, number: u32, size: u64) -> Result<(), Errno> {
-        self.session.truncate(number, size).map_err(errno)?;
+        self.session.truncate(number, size).map_err(|failure| self.told(&failure))?;
         self.clocks.write(number);
         Ok(())
     }
@@ -248,7 +255,7 @@ impl<D: Desk> Volume<D> {
             self.change_mode(number, (mode & MODE) as u16)?;
         }
         if let Some(gid) = wanted.gid.filter(|gid| *gid != header.gid) {
-            self.session.change_group(number, gid).map_err(errno)?;
+            self.session.change_group(number, gid).map_err(|failure| self.told(&failure))?;
             self.clocks.change(number);
         }
         if let Some(size) = wanted.size {
@@ -266,14 +273,14 @@ impl<D: Desk> Volume<D> {
     fn change_mode(&mut self, number: u32, mode: u16) -> Result<(), Errno> {
         let late_mode = Some(mode).filter(|mode| self.handles.is_open(number) && mode & OWNER_WRITES == 0);
         let given = if late_mode.is_some() { mode | OWNER_WRITES } else { mode };
-        self.session.change_mode(number, given).map_err(errno)?;
+        self.session.change_mode(number, given).map_err(|failure| self.told(&failure))?;
         self.handles.set_late_mode(number, late_mode);
         self.clocks.change(number);
         Ok(())
     }
 
     pub fn link(&mut self, number: u32, directory: u32, name: &[u8]) -> Result<Shape, Errno> {
-        self.session.link(number, directory, &named(name)?).map_err(errno)?;
+        self.session.link(number, directory, &named(name)?).map_err(|failure| self.told(&failure))?;
         self.clocks.write(directory);
         self.clocks.change(number);
         self.shape(number)
@@ -281,11 +288,11 @@ impl<D: Desk> Volume<D> {
 
     pub fn unlink(&mut self, directory: u32, name: &[u8], kind: Kind) -> Result<(), Errno> {
         let name = named(name)?;
-        let (number, header) = self.session.lookup(directory, &name).map_err(errno)?;
+        let (number, header) = self.session.lookup(directory, &name).map_err(|failure| self.told(&failure))?;
         if kind == Kind::File && self.is_to_hide(number, &header) {
             self.hide(number, directory, &name)?;
         } else {
-            self.session.unlink(directory, &name, kind).map_err(errno)?;
+            self.session.unlink(directory, &name, kind).map_err(|failure| self.told(&failure))?;
         }
         self.clocks.write(directory);
         self.clocks.change(number);
@@ -300,7 +307,7 @@ impl<D: Desk> Volume<D> {
     /// Gives an open file a name that goes with its last close.
     fn hide(&mut self, number: u32, directory: u32, name: &Name) -> Result<(), Errno> {
         let hidden = named(self.handles.hidden_name(number).as_bytes())?;
-        self.session.rename(directory, name, directory, &hidden).map_err(errno)?;
+        self.session.rename(directory, name, directory, &hidden).map_err(|failure| self.told(&failure))?;
         self.handles.hide(number, directory, hidden);
         Ok(())
     }
@@ -308,11 +315,11 @@ impl<D: Desk> Volume<D> {
     /// Renames. Where nothing may be replaced, what has the new name stays.
     pub fn rename(&mut self, from: u32, name: &[u8], to: u32, new_name: &[u8], replaces: bool) -> Result<(), Errno> {
         let (name, new_name) = (named(name)?, named(new_name)?);
-        let (moved, header) = self.session.lookup(from, &name).map_err(errno)?;
+        let (moved, header) = self.session.lookup(from, &name).map_err(|failure| self.told(&failure))?;
         let there = match self.session.lookup(to, &new_name) {
             Ok(there) => Some(there),
             Err(failure) if failure.errno() == Errno::ENOENT => None,
-            Err(failure) => return Err(errno(failure)),
+            Err(failure) => return Err(self.told(&failure)),
         };
         match there {
             Some(_) if !replaces => return Err(Errno::EEXIST),
@@ -321,7 +328,7 @@ impl<D: Desk> Volume<D> {
             }
             _ => {}
         }
-        self.session.rename(from, &name, to, &new_name).map_err(errno)?;
+        self.session.rename(from, &name, to, &new_name).map_err(|failure| self.told(&failure))?;
         [from, to].into_iter().for_each(|directory| self.clocks.write(directory));
         self.clocks.change(moved);
         Ok(())
@@ -329,18 +336,87 @@ impl<D: Desk> Volume<D> {
 }
 
 fn named(bytes: &[u8]) -> Result<Name, Errno> {
-    Name::new(bytes).map_err(|fault| errno(fault.into()))
+    Name::new(bytes).map_err(|fault| Failure::from(fault).errno())
 }
 
 #[cfg(test)]
 mod tests {
     use super::*;
+    use kfs_client::desk::{Answer, LeaseRefusal, Unanswered, Wanted, Wish};
+    use kfs_client::log::ENTRY_LIMIT;
     use kfs_client::memory::Memory;
-    use kfs_client::{Client, Options};
+    use kfs_client::{Client, Options, Reason, Shown, Unshown};
+
+    fn client() -> Client {
+        Client { number: 7, uid: 1000, gid: 1000, groups: vec![], is_privileged: false, grant: [2, 99] }
+    }
 
     fn volume() -> Volume<Memory> {
-        let client = Client { number: 7, uid: 1000, gid: 1000, groups: vec![], is_privileged: false, grant: [2, 99] };
-        Volume::new(Session::new(Memory::new(client.clone()), client, Options::default()))
+        Volume::new(Session::new(Memory::new(client()), client(), Options::default()))
+    }
+
+    /// A server that refuses the first entry of each log that has so many.
+    struct Refusing(Memory, usize);
+
+    impl Shown for Refusing {
+        fn header(&mut self, number: u32) -> Result<Option<Header>, Unshown> {
+            self.0.header(number)
+        }
+
+        fn find(&mut self, directory: u32, name: &Name) -> Result<Option<u32>, Unshown> {
+            self.0.find(directory, name)
+        }
+
+        fn list(&mut self, directory: u32, behind: Option<&Name>, most: usize) -> Result<Vec<(Name, u32)>, Unshown> {
+            self.0.list(directory, behind, most)
+        }
+
+        fn read(&mut self, number: u32, start: u64, most: usize) -> Result<Vec<u8>, Unshown> {
+            self.0.read(number, start, most)
+        }
+    }
+
+    impl Desk for Refusing {
+        fn lease(&mut self, wanted: &Wanted) -> Result<Result<(), LeaseRefusal>, Unanswered> {
+            self.0.lease(wanted)
+        }
+
+        fn drop_lease(&mut self, number: u32) -> Result<Result<(), LeaseRefusal>, Unanswered> {
+            self.0.drop_lease(number)
+        }
+
+        fn submit(&mut self, log: &[u8], plan: &[u8]) -> Result<Answer, Unanswered> {
+            let count = kfs_client::Log::read(log).map_or(0, |(_, log)| log.len());
+            match count == self.1 {
+                true => Ok(Answer::Entry(0, Reason::NoWrite)),
+                false => self.0.submit(log, plan),
+            }
+        }
+
+        fn moment(&mut self) -> Result<u64, Unanswered> {
+            self.0.moment()
+        }
+
+        fn wanted_by_others(&mut self) -> Result<Vec<Wish>, Unanswered> {
+            self.0.wanted_by_others()
+        }
+    }
+
+    #[test]
+    fn a_call_that_is_lost_is_told_to_who_asks_that_all_is_kept() {
+        let desk = Refusing(Memory::new(client()), ENTRY_LIMIT);
+        let mut volume = Volume::new(Session::new(desk, client(), Options::default()));
+        let (file, _) = volume.create(1, b"a", 0o644, READ_AND_WRITE).unwrap();
+        volume.sync().unwrap();
+        for at in 0..ENTRY_LIMIT as u64 {
+            volume.write(file, 3 * at, b"x").unwrap();
+        }
+        // The log is full. What is lost by it was another's call, maybe.
+        let chmod = Attributes { mode: Some(0o600), ..Attributes::default() };
+        assert_eq!(volume.set_attributes(file, &chmod), Err(Errno::EIO));
+        assert_eq!(volume.sync(), Err(Errno::EIO));
+        assert_eq!(volume.sync(), Ok(()));
+        assert_eq!(volume.read(file, 0, 5).unwrap(), b"\0\0\0x\0");
     }
 
     #[test]
