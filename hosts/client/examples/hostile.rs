@@ -78,7 +78,10 @@ impl Hostile {
         let end = self.desk.moment()? + self.desk.longest_term().min(1 << 20);
         let kind = if self.chance.percent(80) { LeaseKind::Write } else { LeaseKind::Read };
         let told = self.desk.lease(&Wanted { number, path, kind, end })?;
-        Ok(format!("a lease: {}", told.map_or_else(|refusal| refusal.to_string().replace(char::is_numeric, ""), |()| "granted".into())))
+        Ok(format!(
+            "a lease: {}",
+            told.map_or_else(|refusal| refusal.to_string().replace(char::is_numeric, ""), |()| "granted".into())
+        ))
     }
 
     /// An entry over what it was shown once, as a client that may do all.

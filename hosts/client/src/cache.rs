@@ -87,6 +87,11 @@ impl Shown for Cached<'_> {
         Ok(header)
     }
 
+    /// They aren't kept: these are of new numbers, on which there is no lease.
+    fn headers(&mut self, numbers: &[u32]) -> Result<Vec<Option<Header>>, Unshown> {
+        self.shown.headers(numbers)
+    }
+
     fn find(&mut self, directory: u32, name: &Name) -> Result<Option<u32>, Unshown> {
         let may_keep = self.leases.reads(directory);
         let kept = self.cache.names.get(&directory).and_then(|names| names.get(name));

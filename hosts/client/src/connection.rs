@@ -228,6 +228,23 @@ impl Connection {
         told?.ok_or_else(|| nonsense(body))
     }
 
+    /// Sends frames at once, and waits for the replies to all.
+    fn ask_all(&mut self, bodies: &[Vec<u8>]) -> Result<Vec<Reply>, Unshown> {
+        let (first, client) = (self.number.wrapping_add(1), self.client);
+        self.number = self.number.wrapping_add(bodies.len() as u32);
+        let numbers = (0..).map(|at| first.wrapping_add(at));
+        let frames: Vec<u8> =
+            bodies.iter().zip(numbers.clone()).flat_map(|(body, number)| frame(number, client, body)).collect();
+        let told = self.stream().and_then(|stream| {
+            stream.write_all(&frames)?;
+            numbers.take(bodies.len()).map(|number| receive(stream, number)).collect::<io::Result<Vec<_>>>()
+        });
+        if told.is_err() {
+            self.stream = None;
+        }
+        bodies.iter().zip(told?).map(|(body, reply)| reply.ok_or_else(|| nonsense(body))).collect()
+    }
+
     /// The same of what may be asked twice: again and again, where the server or the connection has ended meanwhile.
     fn ask_again(&mut self, body: &[u8]) -> Result<Reply, Unshown> {
         let until = Instant::now() + AGAIN;
@@ -284,16 +301,30 @@ fn nonsense(body: &[u8]) -> Unshown {
     Unshown::Nonsense(format!("frame with tag {}", body.first().copied().unwrap_or(0)))
 }
 
-/// Sends a frame, and reads its reply. None where that is no reply.
-fn exchange(stream: &mut UnixStream, number: u32, client: u32, body: &[u8]) -> io::Result<Option<Reply>> {
+/// The bytes of a frame.
+fn frame(number: u32, client: u32, body: &[u8]) -> Vec<u8> {
     let mut frame = Vec::with_capacity(12 + body.len());
     // A body has at most 2 MiB: a log, and its plan.
     for word in [body.len() as u32, number, client] {
         frame.extend_from_slice(&word.to_be_bytes());
     }
     frame.extend_from_slice(body);
+    frame
+}
+
+/// Sends a frame, and reads its reply. None where that is no reply.
+fn exchange(stream: &mut UnixStream, number: u32, client: u32, body: &[u8]) -> io::Result<Option<Reply>> {
     // Where kfsd refuses the connection it has said so before it closed: that can be read still.
-    let sent = stream.write_all(&frame);
+    let sent = stream.write_all(&frame(number, client, body));
+    let reply = receive(stream, number)?;
+    if !matches!(reply, Some(Reply::Refused(130 | 131))) {
+        sent?;
+    }
+    Ok(reply)
+}
+
+/// Reads the reply to a frame.
+fn receive(stream: &mut UnixStream, number: u32) -> io::Result<Option<Reply>> {
     let mut head = [0; 8];
     stream.read_exact(&mut head)?;
     let [l0, l1, l2, l3, n0, n1, n2, n3] = head;
@@ -304,11 +335,7 @@ fn exchange(stream: &mut UnixStream, number: u32, client: u32, body: &[u8]) -> i
     let mut said = vec![0; length as usize];
     stream.read_exact(&mut said)?;
     let reply = reply_of(&said);
-    if matches!(reply, Some(Reply::Refused(130 | 131))) {
-        return Ok(reply);
-    }
-    sent?;
-    if replied != number {
+    if replied != number && !matches!(reply, Some(Reply::Refused(130 | 131))) {
         return Err(io::Error::new(io::ErrorKind::InvalidData, format!("the reply to frame {replied}, and not {number}")));
     }
     Ok(reply)
@@ -467,6 +494,20 @@ impl Shown for Connection {
         let body = look_up_body(NODE, number);
         let found = self.look_up(&body)?.unwrap_or_default();
         found_header(&found).ok_or_else(|| nonsense(&body))
+    }
+
+    /// They are asked for one behind another, without waiting. Where one isn't told, all are asked for singly.
+    fn headers(&mut self, numbers: &[u32]) -> Result<Vec<Option<Header>>, Unshown> {
+        let bodies: Vec<_> = numbers.iter().map(|number| look_up_body(NODE, *number)).collect();
+        let found = |reply: Reply| match reply {
+            Reply::Found(found) => found_header(&found),
+            _ => None,
+        };
+        let told: Option<Vec<_>> = self.ask_all(&bodies).ok().and_then(|replies| replies.into_iter().map(found).collect());
+        match told {
+            Some(headers) => Ok(headers),
+            None => numbers.iter().map(|number| self.header(*number)).collect(),
+        }
     }
 
     fn find(&mut self, directory: u32, name: &Name) -> Result<Option<u32>, Unshown> {

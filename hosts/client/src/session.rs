@@ -35,7 +35,8 @@ pub struct Options {
     pub term: u64,
     /// How long a call waits for another client's lease.
     pub patience: Duration,
-    /// After how many reads of a node a lease for reading is taken, so that later ones ask nobody; 0 for never.
+    /// After how many reads of a file, or look-ups in a directory, a lease for reading is taken, so that later ones ask nobody; 0
+    /// for never.
     pub reads_before_lease: u32,
 }
 
@@ -117,7 +118,6 @@ impl<D: Desk> Session<D> {
     /// What a node is.
     pub fn header(&mut self, number: u32) -> Result<Header, Failure> {
         self.pass_time()?;
-        self.note_read(number)?;
         let Session { desk, cache, leases, draft, .. } = self;
         let header = draft.header(&mut Cached { shown: desk, cache, leases }, number)?;
         header.ok_or(Failure::Missing(Reason::NoSuchNode))
@@ -138,6 +138,7 @@ impl<D: Desk> Session<D> {
     }
 
     fn directory(&mut self, number: u32, access: Access) -> Result<(), Failure> {
+        self.note_read(number)?;
         let header = self.header(number)?;
         if !header.is_directory() {
             return Err(Failure::Missing(Reason::NotDirectory));
@@ -163,6 +164,7 @@ impl<D: Desk> Session<D> {
 
     /// The bytes of a file from a place on, at most so many. Its bits are for `access` to ask, when it is opened.
     pub fn read(&mut self, number: u32, start: u64, most: usize) -> Result<Vec<u8>, Failure> {
+        self.note_read(number)?;
         if self.header(number)?.is_directory() {
             return Err(Failure::Missing(Reason::IsDirectory));
         }
@@ -193,7 +195,8 @@ impl<D: Desk> Session<D> {
         }
     }
 
-    /// Takes a lease for reading on a node that is read often. That it isn't to be had is no fault.
+    /// Takes a lease for reading on a node that is read often: a lease is a call that the server keeps, and costs more than a
+    /// look-up. That it isn't to be had is no fault.
     fn note_read(&mut self, number: u32) -> Result<(), Failure> {
         let most = self.options.reads_before_lease;
         let is_given_up = matches!(self.given_up.get(&number), Some(at) if at.elapsed() < COURTESY);
@@ -305,6 +308,12 @@ impl<D: Desk> Session<D> {
             }
         }
         Err(Failure::Lease(entry.number(), LeaseRefusal::Past))
+    }
+
+    /// A number that stays the same while a lease on the node is held without a gap; none where there is no lease.
+    pub fn held_since(&mut self, number: u32) -> Result<Option<u64>, Failure> {
+        self.pass_time()?;
+        Ok(self.leases.since(number))
     }
 
     pub(crate) fn try_enter(&mut self, entry: &Entry) -> Result<(), Fault> {

@@ -4,9 +4,12 @@ use crate::attributes::{now, Clocks, Shape, Times};
 use crate::handles::{Handles, Leftover};
 use crate::links::{link_bytes, target_of, LENGTH};
 use kfs_client::client::Access;
-use kfs_client::desk::Blocks;
+use kfs_client::desk::{Blocks, LeaseRefusal};
 use kfs_client::{Desk, Failure, HandInFault, Header, Kind, Name, Session};
 use nix::errno::Errno;
+use std::collections::HashMap;
+use std::thread::sleep;
+use std::time::{Duration, Instant};
 
 /// The bits of a mode that a log can say, and the two that it can't.
 const MODE: u32 = 0o1777;
@@ -21,6 +24,9 @@ const ACCESS: u32 = 0o3;
 const WRITE_ONLY: u32 = 0o1;
 const READ_AND_WRITE: u32 = 0o2;
 const TRUNCATE: u32 = 0o1000;
+/// How long one who asks that all is kept waits for a lease of another client, and after which pause it is asked for again.
+const PATIENCE: Duration = Duration::from_secs(10);
+const PAUSE: Duration = Duration::from_millis(20);
 
 /// What is to be changed of a node's header.
 #[derive(Clone, Copy, Debug, Default)]
@@ -29,8 +35,8 @@ pub struct Attributes {
     pub uid: Option<u32>,
     pub gid: Option<u32>,
     pub size: Option<u64>,
-    pub read: Option<std::time::Duration>,
-    pub written: Option<std::time::Duration>,
+    pub read: Option<Duration>,
+    pub written: Option<Duration>,
 }
 
 /// A tree that is mounted.
@@ -41,6 +47,8 @@ pub struct Volume<D> {
     pub handles: Handles,
     /// What the next who asks that all is kept is told: calls were lost since, and nobody was told.
     owed: Option<Errno>,
+    /// Since when each file was leased without a gap when it was last opened.
+    opened_since: HashMap<u32, u64>,
 }
 
 /// Tells people on standard error why a log isn't kept. Returns whether calls are lost.
@@ -55,6 +63,11 @@ fn tell(fault: &HandInFault) -> bool {
     }
 }
 
+/// Whether another client has a lease that the log needs.
+fn is_held(fault: &HandInFault) -> bool {
+    matches!(fault, HandInFault::Lease(_, LeaseRefusal::Held(_)))
+}
+
 fn writes(flags: u32) -> bool {
     matches!(flags & ACCESS, WRITE_ONLY | READ_AND_WRITE)
 }
@@ -62,7 +75,7 @@ fn writes(flags: u32) -> bool {
 impl<D: Desk> Volume<D> {
     /// A volume over a session.
     pub fn new(session: Session<D>) -> Volume<D> {
-        Volume { session, clocks: Clocks::default(), handles: Handles::default(), owed: None }
+        Volume { session, clocks: Clocks::default(), handles: Handles::default(), owed: None, opened_since: HashMap::new() }
     }
 
     /// What is due now and then. What fails is tried again; who asks next that all is kept is told of calls that are lost.
@@ -88,11 +101,23 @@ impl<D: Desk> Volume<D> {
         self.session.close().map_err(|failure| self.told(&failure))
     }
 
-    /// Hands all in.
+    /// Hands all in. Where a lease was lost, and another client has it, that one is waited for.
     pub fn sync(&mut self) -> Result<(), Errno> {
-        if let Err(fault) = self.session.sync() {
-            tell(&fault);
-            return Err(fault.errno());
+        let until = Instant::now() + PATIENCE;
+        while let Err(fault) = self.session.sync() {
+            if !is_held(&fault) || Instant::now() >= until {
+                tell(&fault);
+                return Err(fault.errno());
+            }
+            sleep(PAUSE);
+            // What others want is given up meanwhile.
+            match self.session.poll() {
+                Err(Failure::HandIn(fault)) if is_held(&fault) => {}
+                Err(failure) => {
+                    let _nobody_asked = self.told(&failure);
+                }
+                Ok(()) => {}
+            }
         }
         self.owed.take().map_or(Ok(()), Err)
     }
@@ -170,7 +195,9 @@ impl<D: Desk> Volume<D> {
 
     // ---- Files that are open
 
-    pub fn open(&mut self, number: u32, flags: u32) -> Result<(), Errno> {
+    /// Opens a file. Returns whether the kernel may keep the bytes that it has of it: a lease has kept others from changing it
+    /// since it was opened before.
+    pub fn open(&mut self, number: u32, flags: u32) -> Result<bool, Errno> {
         let is_new = self.session.draft().has_created(number);
         if !is_new && flags & ACCESS != WRITE_ONLY {
             self.access(number, Access::Read as u32)?;
@@ -182,7 +209,12 @@ impl<D: Desk> Volume<D> {
             self.truncate(number, 0)?;
         }
         self.handles.open(number);
-        Ok(())
+        let since = self.session.held_since(number).map_err(|failure| self.told(&failure))?;
+        let before = match since {
+            Some(since) => self.opened_since.insert(number, since),
+            None => self.opened_since.remove(&number),
+        };
+        Ok(since.is_some() && before == since)
     }
 
     pub fn create(&mut self, directory: u32, name: &[u8], mode: u32, flags: u32) -> Result<(u32, Shape), Errno> {
@@ -342,7 +374,7 @@ fn named(bytes: &[u8]) -> Result<Name, Errno> {
 #[cfg(test)]
 mod tests {
     use super::*;
-    use kfs_client::desk::{Answer, LeaseRefusal, Unanswered, Wanted, Wish};
+    use kfs_client::desk::{Answer, Unanswered, Wanted, Wish};
     use kfs_client::log::ENTRY_LIMIT;
     use kfs_client::memory::Memory;
     use kfs_client::{Client, Options, Reason, Shown, Unshown};
@@ -445,6 +477,21 @@ mod tests {
         volume.close_file(old).unwrap();
         volume.sync().unwrap();
         assert_eq!(volume.shape(old), Err(Errno::ENOENT));
+    }
+
+    #[test]
+    fn bytes_are_kept_while_a_lease_is() {
+        let mut volume = volume();
+        let (file, _) = volume.create(1, b"a", 0o644, READ_AND_WRITE).unwrap();
+        volume.close_file(file).unwrap();
+        volume.sync().unwrap();
+        assert_eq!(volume.open(file, 0), Ok(false));
+        (0..3).for_each(|_| assert!(volume.read(file, 0, 9).unwrap().is_empty()));
+        // The lease came meanwhile, so bytes from before it may be there.
+        assert_eq!(volume.open(file, 0), Ok(false));
+        assert_eq!(volume.open(file, 0), Ok(true));
+        volume.session.give_up(file).unwrap();
+        assert_eq!(volume.open(file, 0), Ok(false));
     }
 
     #[test]

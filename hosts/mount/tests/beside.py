@@ -103,9 +103,9 @@ def sync(path):
         os.close(it)
 
 
-def compare(one, other, count, names):
+def compare(one, other, count, names, seed):
     """Makes so many calls in both folders."""
-    both = Both((one, other), names, random.Random(int(os.environ.get("RANDOM_SEED", "1"))))
+    both = Both((one, other), names, random.Random(seed))
     done = 0
     for at in range(count):
         if at % 20 == 0:

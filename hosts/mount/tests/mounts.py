@@ -1,7 +1,7 @@
 """kfs-mount, tried with real programs and with random calls, each beside a tmpfs.
 
 Its server is in memory (`Memory` of kfs-client), or the program `kfs`. It needs /dev/fuse and root; what is called runs as another
-user. RANDOM_CALLS says how many random calls are made.
+user. RANDOM_CALLS and RANDOM_SEED say how many random calls are made, and which.
 """
 import contextlib
 import os
@@ -25,10 +25,11 @@ CRATE, OUT, REGISTRY = f"{TOP}/hosts/mount", f"{TOP}/hosts/client/out", "/usr/sh
 MOUNT = os.environ.get("KFS_MOUNT", f"{OUT}/debug/kfs-mount")
 USER = 1000
 SOON = 30
+RANDOM_CALLS, RANDOM_SEED = (int(os.environ.get(name, value)) for name, value in (("RANDOM_CALLS", "10000"), ("RANDOM_SEED", "1")))
 # How many files each user puts into the folder of all, and the seconds between kills, and behind which all is seen by all.
-SHARED, BETWEEN_KILLS, SEEN_AFTER = 20, 3, 7
+SHARED, BETWEEN_KILLS, SEEN_AFTER = 20, 5, 7
 # What is tried beside a hostile client, and its pauses in milliseconds.
-BESIDE_HOSTILE, HOSTILE_PAUSE = ("git", "sqlite3", "make", "python3"), 50
+BESIDE_HOSTILE, HOSTILE_PAUSE = ("git", "sqlite3", "make", "python3"), 10
 
 
 def cargo(command, *rest):
@@ -253,7 +254,7 @@ def beside_a_hostile_client(made):
             os.mkdir(f"{folders[0]}/shared")
             os.chmod(f"{folders[0]}/shared", 0o1777)
             beside.sync(f"{folders[0]}/shared")
-            words = [f"{OUT}/debug/examples/hostile", f"{daemon.room}/socket", str(users[3]["client"]), str(HOSTILE_PAUSE)]
+            words = [f"{os.path.dirname(MOUNT)}/examples/hostile", f"{daemon.room}/socket", str(users[3]["client"]), str(HOSTILE_PAUSE)]
             hostile = subprocess.Popen(words, user=users[3]["uid"], group=users[3]["uid"], extra_groups=[], stdin=subprocess.PIPE, stdout=subprocess.PIPE, text=True)
             children = [in_child(as_programs, due, folder, it["uid"]) for folder, it in zip(folders, honest)]
             assert [wait(child) for child in children] == [0, 0]
@@ -265,16 +266,29 @@ def beside_a_hostile_client(made):
                 are_shared(folder, honest)
 
 
+def compare_calls(folder, other, count, names, seed):
+    """Random calls on a mount and on a tmpfs, and the trees that they leave."""
+    as_user(beside.compare, folder, other, count, names, seed)
+    assert snapshot(folder) == snapshot(other)
+
+
 def random_calls(_made):
     """Random calls have the same results and errors as on a tmpfs."""
     servers = [(), ("--program", kfs_program())] if can_mount() else []
     for words in servers:
         # No line of the program can say a path with a space.
         names = [name for name in beside.NAMES if not words or " " not in name]
-        count = int(os.environ.get("RANDOM_CALLS", "10000"))
         with tmpfs() as other, mounted(*words) as folder:
-            as_user(beside.compare, folder, other, count, names)
-            assert snapshot(folder) == snapshot(other)
+            compare_calls(folder, other, RANDOM_CALLS, names, RANDOM_SEED)
 
 
-TESTS = [a_mount, real_programs, random_calls, three_users, beside_a_hostile_client]
+def random_calls_through_kfsd(made, count=RANDOM_CALLS, seed=RANDOM_SEED):
+    """They have also through kfsd."""
+    users = [user(USER, 7, (2, 65_000))]
+    with Daemon(*made, users=users, tiers=(65_536, 16, 16)).start() as daemon:
+        if can_mount() and has_look_ups(daemon):
+            with tmpfs() as other, mounted_for(daemon, users[0]) as folder:
+                compare_calls(folder, other, count, beside.NAMES, seed)
+
+
+TESTS = [a_mount, real_programs, random_calls, random_calls_through_kfsd, three_users, beside_a_hostile_client]

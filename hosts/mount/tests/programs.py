@@ -58,7 +58,7 @@ cp -a s u && diff -r --no-dereference s u && rm -rf s && find u -type f | wc -l
 RSYNC_SCRIPT = """
 mkdir s && for d in $(seq 5); do mkdir s/$d && for f in $(seq 20); do seq $((d * f * 9)) > s/$d/$f; done; done; ln s/1/1 s/2/one; ln -s 1/2 s/two
 rsync -aH s/ t/ && rsync -aHin s/ t/ && diff -r --no-dereference s t
-rm -r s/3 && echo new > s/1/1 && rsync -aH --delete -i s/ t/ | cut -c 1-4 | sort | uniq -c
+rm -r s/3 && echo new > s/1/1 && rsync -aHO --delete -i s/ t/ | cut -c 1-4 | sort | uniq -c
 echo newer > s/1/1 && rsync -aH --inplace -c s/ t/ && diff -r --no-dereference s t
 rsync -aH --link-dest=../t s/ u/ && diff -r --no-dereference s u
 """
@@ -75,10 +75,11 @@ fio --name=three --bs=128k --rw=write $words > /dev/null
 fio --name=four --bs=4k --rw=randrw --verify=md5 --ioengine=mmap --filename=g --size=2m --do_verify=1 --verify_fatal=1 --minimal --verify_state_save=0 > /dev/null
 rm f g
 """
-DBENCH_SCRIPT = "dbench -c /usr/share/dbench/client.txt -t 3 -D . 1 > said 2>&1 || { tail said; false; }; ! grep -i fail said; rm said"
+# It is stopped by the clock, with whatever it has made by then.
+DBENCH_SCRIPT = "dbench -c /usr/share/dbench/client.txt -t 3 -D . 1 > said 2>&1 || { tail said; false; }; ! grep -i fail said; rm -r said clients"
 STRESS_SCRIPT = """
-for one in hdd:100 access:20 chmod:50 copy-file:20 dentry:500 dir:500 dirdeep:20 dirmany:100 dup:50 fcntl:50 filename:50 flock:50 fsize:20 \
-    fstat:50 getdent:50 io:5 locka:50 lockf:50 lockofd:50 open:100 rename:500 seek:100 touch:200 utime:100; do
+for one in hdd:100 access:20 chmod:50 copy-file:20 dentry:200 dir:200 dirdeep:20 dirmany:100 dup:50 fcntl:50 filename:50 flock:50 fsize:20 \
+    fstat:50 getdent:50 io:5 locka:50 lockf:50 lockofd:50 open:100 rename:200 seek:100 touch:200 utime:100; do
     stress-ng -q --temp-path . --verify --timeout 60 --${one%:*} 1 --${one%:*}-ops ${one#*:} || { echo $one; false; }
 done
 """
