@@ -27,7 +27,7 @@ USER = 1000
 SOON = 30
 RANDOM_CALLS, RANDOM_SEED = (int(os.environ.get(name, value)) for name, value in (("RANDOM_CALLS", "10000"), ("RANDOM_SEED", "1")))
 # How many files each user puts into the folder of all, and the seconds between kills, and behind which all is seen by all.
-SHARED, BETWEEN_KILLS, SEEN_AFTER = 20, 5, 7
+SHARED, BETWEEN_KILLS, SEEN_AFTER = 20, 4, 7
 # What is tried beside a hostile client, and its pauses in milliseconds.
 BESIDE_HOSTILE, HOSTILE_PAUSE = ("git", "sqlite3", "make", "python3"), 10
 
@@ -161,8 +161,10 @@ def share(folder, user, count):
 
 def as_programs(due, folder, user):
     """What a user does: all programs, each compared with a tmpfs, and files in the folder of all."""
-    for at, (_, script) in enumerate(due.programs):
-        due.compare(f"{folder}/{user}-{at}", script, user)
+    for at, (name, script) in enumerate(due.programs):
+        began = time.monotonic()
+        count = due.compare(f"{folder}/{user}-{at}", script, user)
+        print(f"    {user}, {at} {name}: {count} paths alike ({time.monotonic() - began:.1f} s)", flush=True)
     as_user(share, folder, user, SHARED, user=user)
 
 
