@@ -46,6 +46,8 @@ const FOUND_PLACES: u8 = 8;
 /// The most bytes that a look-up finds, and how many a name takes at most.
 const FOUND_LIMIT: usize = 65_536;
 const NAME_ROOM: usize = 260;
+/// How many look-ups for bytes are under way at once.
+const AT_ONCE: usize = 8;
 /// The tags of replies.
 const ANSWERED: u8 = 1;
 const REFUSED: u8 = 2;
@@ -468,18 +470,33 @@ fn found_names(bytes: &[u8]) -> Option<(Vec<(Name, u32)>, bool)> {
 impl Connection {
     /// What a look-up finds; none where there is no such node, or it is one of the other kind.
     fn look_up(&mut self, body: &[u8]) -> Result<Option<Vec<u8>>, Unshown> {
-        let found = match self.ask_again(body)? {
-            Reply::Found(found) => found,
-            Reply::Refused(3) => return Err(Unshown::NoSuchLookUp),
-            Reply::Refused(1 | 5) => return Err(Unshown::NotAllowed),
-            _ => return Err(nonsense(body)),
-        };
-        match found[..] {
+        match self.ask_again(body)? {
+            reply @ Reply::Found(_) => found_in(reply),
+            Reply::Refused(3) => Err(Unshown::NoSuchLookUp),
+            Reply::Refused(1 | 5) => Err(Unshown::NotAllowed),
+            _ => Err(nonsense(body)),
+        }
+    }
+}
+
+/// What a look-up has found; none where there is no such node, or it is one of the other kind.
+fn found_in(reply: Reply) -> Result<Option<Vec<u8>>, Unshown> {
+    match reply {
+        Reply::Found(found) => match found[..] {
             [FOUND_FAULT, 2..=4] => Ok(None),
             [FOUND_FAULT, _] => Err(Unshown::NotAllowed),
             _ => Ok(Some(found)),
-        }
+        },
+        _ => Ok(None),
     }
+}
+
+/// The body that reads so many bytes, so many look-ups behind a place.
+fn read_body(number: u32, from: u64, look_ups: u64, count: usize) -> Vec<u8> {
+    let mut body = look_up_body(READ, number);
+    body.extend_from_slice(&from.saturating_add(look_ups * FOUND_LIMIT as u64).to_be_bytes());
+    body.extend_from_slice(&(count as u32).to_be_bytes());
+    body
 }
 
 /// The body of a look-up of a node.
@@ -540,21 +557,32 @@ impl Shown for Connection {
         Ok(names)
     }
 
+    /// More than one look-up finds is asked for at once.
     fn read(&mut self, number: u32, start: u64, most: usize) -> Result<Vec<u8>, Unshown> {
         let mut bytes = Vec::new();
         while bytes.len() < most {
-            let count = (most - bytes.len()).min(FOUND_LIMIT);
-            let mut body = look_up_body(READ, number);
-            body.extend_from_slice(&start.saturating_add(bytes.len() as u64).to_be_bytes());
-            body.extend_from_slice(&(count as u32).to_be_bytes());
-            let found = match self.look_up(&body)? {
-                Some(found) if found.first() == Some(&FOUND_BYTES) && found.len() <= count + 1 => found,
-                Some(_) => return Err(nonsense(&body)),
-                None => break,
+            let counts = (0..AT_ONCE).map(|at| (most - bytes.len()).saturating_sub(at * FOUND_LIMIT).min(FOUND_LIMIT));
+            let counts: Vec<usize> = counts.take_while(|count| *count > 0).collect();
+            let from = start.saturating_add(bytes.len() as u64);
+            let bodies: Vec<_> = (0..).zip(&counts).map(|(at, count)| read_body(number, from, at, *count)).collect();
+            let some = match bodies.len() {
+                1 => None,
+                _ => self.ask_all(&bodies).ok().filter(|replies| replies.iter().all(|reply| matches!(reply, Reply::Found(_)))),
             };
-            bytes.extend_from_slice(&found[1..]);
-            if found.len() <= count {
-                break;
+            let found = match some {
+                Some(replies) => replies.into_iter().map(found_in).collect::<Result<Vec<_>, _>>()?,
+                // One behind another, and again where the server has ended.
+                None => vec![self.look_up(&bodies[0])?],
+            };
+            for ((found, count), body) in found.into_iter().zip(&counts).zip(&bodies) {
+                let found = found.unwrap_or_else(|| vec![FOUND_BYTES]);
+                if found.first() != Some(&FOUND_BYTES) || found.len() > count + 1 {
+                    return Err(nonsense(body));
+                }
+                bytes.extend_from_slice(&found[1..]);
+                if found.len() <= *count {
+                    return Ok(bytes);
+                }
             }
         }
         Ok(bytes)

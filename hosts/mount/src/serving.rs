@@ -70,6 +70,7 @@ fn answer<D: Desk>(device: &mut File, volume: &mut Volume<D>, bytes: &[u8]) -> i
         return Ok(());
     }
     let unique = request.unique;
+    volume.begin_request();
     let said = reply_bytes(unique, answer_of(volume, &mut request));
     match device.write_all(&said) {
         // The caller has given up meanwhile.
@@ -168,9 +169,9 @@ fn answer_of_file<D: Desk>(volume: &mut Volume<D>, request: &mut Request<'_>) ->
             Ok(open_reply(0, if keeps { KEEPS_BYTES } else { 0 }))
         }
         Operation::Create => {
-            let (flags, mode) = (request.word()?, request.word()?);
+            let (_flags, mode) = (request.word()?, request.word()?);
             request.skip(8)?;
-            let found = volume.create(node, request.text()?, mode, flags)?;
+            let found = volume.create(node, request.text()?, mode)?;
             let mut reply = entry_reply(volume, found);
             reply.bytes(&open_reply(0, 0).0);
             Ok(reply)

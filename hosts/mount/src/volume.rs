@@ -14,8 +14,8 @@ use std::time::{Duration, Instant};
 /// The bits of a mode that a log can say, and the two that it can't.
 const MODE: u32 = 0o1777;
 const SET_USER: u32 = 0o4000;
-/// The bit by which the owner may write.
-const OWNER_WRITES: u16 = 0o200;
+/// The bits by which the owner may read and write.
+const OWNERS: u16 = 0o600;
 /// The mode that a link is shown with, and that of its file.
 const LINK_MODE: u16 = 0o777;
 const LINK_FILE_MODE: u16 = 0o755;
@@ -39,6 +39,15 @@ pub struct Attributes {
     pub written: Option<Duration>,
 }
 
+/// What the kernel has of a file's bytes.
+#[derive(Clone, Copy, Debug, PartialEq, Eq)]
+enum Kept {
+    /// All that it has it was told under a lease that was held without a gap since then; where there is none it has nothing.
+    Since(Option<u64>),
+    /// Some it was told without a lease.
+    Mixed,
+}
+
 /// A tree that is mounted.
 #[derive(Debug)]
 pub struct Volume<D> {
@@ -47,8 +56,8 @@ pub struct Volume<D> {
     pub handles: Handles,
     /// What the next who asks that all is kept is told: calls were lost since, and nobody was told.
     owed: Option<Errno>,
-    /// Since when each file was leased without a gap when it was last opened.
-    opened_since: HashMap<u32, u64>,
+    /// What the kernel has of the bytes of each file.
+    kept: HashMap<u32, Kept>,
 }
 
 /// Tells people on standard error why a log isn't kept. Returns whether calls are lost.
@@ -75,7 +84,7 @@ fn writes(flags: u32) -> bool {
 impl<D: Desk> Volume<D> {
     /// A volume over a session.
     pub fn new(session: Session<D>) -> Volume<D> {
-        Volume { session, clocks: Clocks::default(), handles: Handles::default(), owed: None, opened_since: HashMap::new() }
+        Volume { session, clocks: Clocks::default(), handles: Handles::default(), owed: None, kept: HashMap::new() }
     }
 
     /// What is due now and then. What fails is tried again; who asks next that all is kept is told of calls that are lost.
@@ -94,6 +103,11 @@ impl<D: Desk> Volume<D> {
             _ => {}
         }
         failure.errno()
+    }
+
+    /// The next request begins.
+    pub fn begin_request(&mut self) {
+        self.session.begin_together();
     }
 
     /// Hands all in, and gives all leases up.
@@ -181,7 +195,16 @@ impl<D: Desk> Volume<D> {
     }
 
     pub fn read(&mut self, number: u32, start: u64, most: usize) -> Result<Vec<u8>, Errno> {
-        self.session.read(number, start, most).map_err(|failure| self.told(&failure))
+        let bytes = self.session.read(number, start, most).map_err(|failure| self.told(&failure))?;
+        let since = self.session.held_since(number).map_err(|failure| self.told(&failure))?;
+        let kept = self.kept.entry(number).or_insert(Kept::Mixed);
+        *kept = match *kept {
+            // The kernel had none of them.
+            Kept::Since(None) if since.is_some() => Kept::Since(since),
+            Kept::Since(before) if before == since && since.is_some() => Kept::Since(before),
+            _ => Kept::Mixed,
+        };
+        Ok(bytes)
     }
 
     pub fn access(&mut self, number: u32, mask: u32) -> Result<(), Errno> {
@@ -198,10 +221,8 @@ impl<D: Desk> Volume<D> {
     /// Opens a file. Returns whether the kernel may keep the bytes that it has of it: a lease has kept others from changing it
     /// since it was opened before.
     pub fn open(&mut self, number: u32, flags: u32) -> Result<bool, Errno> {
+        // Whether it may be read the kernel has asked. Who writes is told now, and not when the log is handed in.
         let is_new = self.session.draft().has_created(number);
-        if !is_new && flags & ACCESS != WRITE_ONLY {
-            self.access(number, Access::Read as u32)?;
-        }
         if !is_new && writes(flags) {
             self.access(number, Access::Write as u32)?;
         }
@@ -210,18 +231,18 @@ impl<D: Desk> Volume<D> {
         }
         self.handles.open(number);
         let since = self.session.held_since(number).map_err(|failure| self.told(&failure))?;
-        let before = match since {
-            Some(since) => self.opened_since.insert(number, since),
-            None => self.opened_since.remove(&number),
-        };
-        Ok(since.is_some() && before == since)
+        let keeps = since.is_some() && self.kept.get(&number) == Some(&Kept::Since(since));
+        if !keeps {
+            self.kept.insert(number, Kept::Since(since));
+        }
+        Ok(keeps)
     }
 
-    pub fn create(&mut self, directory: u32, name: &[u8], mode: u32, flags: u32) -> Result<(u32, Shape), Errno> {
+    pub fn create(&mut self, directory: u32, name: &[u8], mode: u32) -> Result<(u32, Shape), Errno> {
         let mode = (mode & MODE) as u16;
-        // A log writes what it has created, whatever its mode. A later one needs the bit.
-        let late_mode = Some(mode).filter(|mode| writes(flags) && mode & OWNER_WRITES == 0);
-        let given = if late_mode.is_some() { mode | OWNER_WRITES } else { mode };
+        // A log writes what it has created, whatever its mode. A later one needs the bits, and so do look-ups.
+        let late_mode = Some(mode).filter(|mode| mode & OWNERS != OWNERS);
+        let given = if late_mode.is_some() { mode | OWNERS } else { mode };
         let (number, _) = self.make(directory, name, Kind::File, given)?;
         self.handles.open(number);
         self.handles.set_late_mode(number, late_mode);
@@ -301,10 +322,10 @@ impl<D: Desk> Volume<D> {
         self.shape(number)
     }
 
-    /// Changes a mode; of a file that is open with the last close, where the owner couldn't write it then.
+    /// Changes a mode; of a file that is open with the last close, where the owner couldn't read or write it then.
     fn change_mode(&mut self, number: u32, mode: u16) -> Result<(), Errno> {
-        let late_mode = Some(mode).filter(|mode| self.handles.is_open(number) && mode & OWNER_WRITES == 0);
-        let given = if late_mode.is_some() { mode | OWNER_WRITES } else { mode };
+        let late_mode = Some(mode).filter(|mode| self.handles.is_open(number) && mode & OWNERS != OWNERS);
+        let given = if late_mode.is_some() { mode | OWNERS } else { mode };
         self.session.change_mode(number, given).map_err(|failure| self.told(&failure))?;
         self.handles.set_late_mode(number, late_mode);
         self.clocks.change(number);
@@ -438,7 +459,7 @@ mod tests {
     fn a_call_that_is_lost_is_told_to_who_asks_that_all_is_kept() {
         let desk = Refusing(Memory::new(client()), ENTRY_LIMIT);
         let mut volume = Volume::new(Session::new(desk, client(), Options::default()));
-        let (file, _) = volume.create(1, b"a", 0o644, READ_AND_WRITE).unwrap();
+        let (file, _) = volume.create(1, b"a", 0o644).unwrap();
         volume.sync().unwrap();
         for at in 0..ENTRY_LIMIT as u64 {
             volume.write(file, 3 * at, b"x").unwrap();
@@ -454,7 +475,7 @@ mod tests {
     #[test]
     fn a_file_that_is_open_outlives_its_name() {
         let mut volume = volume();
-        let (file, _) = volume.create(1, b"a", 0o644, READ_AND_WRITE).unwrap();
+        let (file, _) = volume.create(1, b"a", 0o644).unwrap();
         volume.write(file, 0, b"abc").unwrap();
         volume.unlink(1, b"a", Kind::File).unwrap();
         assert_eq!(volume.lookup(1, b"a"), Err(Errno::ENOENT));
@@ -468,8 +489,8 @@ mod tests {
     #[test]
     fn a_file_that_is_replaced_while_it_is_open_does_too() {
         let mut volume = volume();
-        let (old, _) = volume.create(1, b"a", 0o644, READ_AND_WRITE).unwrap();
-        let (new, _) = volume.create(1, b"b", 0o644, READ_AND_WRITE).unwrap();
+        let (old, _) = volume.create(1, b"a", 0o644).unwrap();
+        let (new, _) = volume.create(1, b"b", 0o644).unwrap();
         assert_eq!(volume.rename(1, b"b", 1, b"a", false), Err(Errno::EEXIST));
         volume.rename(1, b"b", 1, b"a", true).unwrap();
         assert_eq!(volume.lookup(1, b"a").unwrap().0, new);
@@ -482,7 +503,7 @@ mod tests {
     #[test]
     fn bytes_are_kept_while_a_lease_is() {
         let mut volume = volume();
-        let (file, _) = volume.create(1, b"a", 0o644, READ_AND_WRITE).unwrap();
+        let (file, _) = volume.create(1, b"a", 0o644).unwrap();
         volume.close_file(file).unwrap();
         volume.sync().unwrap();
         assert_eq!(volume.open(file, 0), Ok(false));
@@ -492,12 +513,20 @@ mod tests {
         assert_eq!(volume.open(file, 0), Ok(true));
         volume.session.give_up(file).unwrap();
         assert_eq!(volume.open(file, 0), Ok(false));
+        assert!(volume.read(file, 0, 9).unwrap().is_empty());
+        assert_eq!(volume.open(file, 0), Ok(false));
+        // A long read takes one at once.
+        let (file, _) = volume.make(1, b"b", Kind::File, 0o644).unwrap();
+        volume.sync().unwrap();
+        assert_eq!(volume.open(file, 0), Ok(false));
+        assert!(volume.read(file, 0, 65_536).unwrap().is_empty());
+        assert_eq!(volume.open(file, 0), Ok(true));
     }
 
     #[test]
     fn what_is_open_for_writing_stays_so() {
         let mut volume = volume();
-        let (file, shape) = volume.create(1, b"a", 0o444, READ_AND_WRITE).unwrap();
+        let (file, shape) = volume.create(1, b"a", 0o444).unwrap();
         assert_eq!(shape.header.mode, 0o444);
         volume.sync().unwrap();
         volume.write(file, 0, b"abc").unwrap();
@@ -515,7 +544,7 @@ mod tests {
         volume.sync().unwrap();
         assert_eq!(volume.read_link(link).unwrap(), b"../a");
         assert_eq!(volume.session.header(link).unwrap().size, LENGTH);
-        let (file, _) = volume.create(1, b"a", 0o644, READ_AND_WRITE).unwrap();
+        let (file, _) = volume.create(1, b"a", 0o644).unwrap();
         volume.write(file, 0, &[b' '; LENGTH as usize]).unwrap();
         assert_eq!(volume.read_link(file), Err(Errno::EINVAL));
         assert_eq!(volume.make_link(1, b"m", &[b'x'; 1025]).unwrap_err(), Errno::ENAMETOOLONG);
@@ -524,7 +553,7 @@ mod tests {
     #[test]
     fn what_is_not_there_is_refused() {
         let mut volume = volume();
-        let (file, _) = volume.create(1, b"a", 0o644, 0).unwrap();
+        let (file, _) = volume.create(1, b"a", 0o644).unwrap();
         let owner = Attributes { uid: Some(1), ..Attributes::default() };
         assert_eq!(volume.set_attributes(file, &owner), Err(Errno::EPERM));
         let as_owner = Attributes { mode: Some(0o4755), ..Attributes::default() };
