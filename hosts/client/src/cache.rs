@@ -11,6 +11,8 @@ use std::collections::{BTreeMap, HashMap};
 const BLOCK: u64 = 65_536;
 /// The most blocks that are kept. Where there would be more, all go.
 const BLOCKS: usize = 256;
+/// How many blocks are asked for at once, where one is read behind another.
+const RUN: u64 = 8;
 
 /// What was shown.
 #[derive(Debug, Default)]
@@ -19,11 +21,14 @@ pub struct Cache {
     names: HashMap<u32, HashMap<Name, Option<u32>>>,
     blocks: HashMap<u32, BTreeMap<u64, Vec<u8>>>,
     block_count: usize,
+    /// Headers that were shown without a lease, where calls that belong together ask for them once.
+    together: Option<HashMap<u32, Option<Header>>>,
 }
 
 impl Cache {
     /// What was shown of a node may be otherwise by now.
     pub fn forget(&mut self, number: u32) {
+        self.look_anew();
         self.headers.remove(&number);
         self.names.remove(&number);
         let blocks = self.blocks.remove(&number);
@@ -32,7 +37,17 @@ impl Cache {
 
     /// All may be otherwise by now.
     pub fn clear(&mut self) {
-        *self = Cache::default();
+        *self = Cache { together: self.together.take().map(|_| HashMap::new()), ..Cache::default() };
+    }
+
+    /// Calls that belong together begin.
+    pub fn begin_together(&mut self) {
+        self.together.get_or_insert_with(HashMap::new).clear();
+    }
+
+    /// What was shown without a lease is asked for again.
+    pub fn look_anew(&mut self) {
+        self.together.iter_mut().for_each(HashMap::clear);
     }
 
     /// What a log has changed was done.
@@ -67,8 +82,15 @@ impl Cached<'_> {
     fn block(&mut self, number: u32, index: u64) -> Result<&[u8], Unshown> {
         let is_kept = self.cache.blocks.get(&number).map_or(false, |blocks| blocks.contains_key(&index));
         if !is_kept {
-            let bytes = self.shown.read(number, index * BLOCK, BLOCK as usize)?;
-            self.cache.keep_block(number, index, bytes);
+            let is_behind =
+                index > 0 && self.cache.blocks.get(&number).map_or(false, |blocks| blocks.contains_key(&(index - 1)));
+            let count = if is_behind { RUN } else { 1 };
+            let bytes = self.shown.read(number, index * BLOCK, (count * BLOCK) as usize)?;
+            // The last one may be short, or empty.
+            self.cache.keep_block(number, index, Vec::new());
+            for (at, block) in (index..).zip(bytes.chunks(BLOCK as usize)) {
+                self.cache.keep_block(number, at, block.to_vec());
+            }
         }
         Ok(self.cache.blocks.get(&number).and_then(|blocks| blocks.get(&index)).map_or(&[], Vec::as_slice))
     }
@@ -80,11 +102,21 @@ impl Shown for Cached<'_> {
         if let Some(header) = self.cache.headers.get(&number).filter(|_| may_keep) {
             return Ok(*header);
         }
+        if let Some(header) = self.cache.together.as_ref().and_then(|headers| headers.get(&number)) {
+            return Ok(*header);
+        }
         let header = self.shown.header(number)?;
         if may_keep {
             self.cache.headers.insert(number, header);
+        } else if let Some(headers) = &mut self.cache.together {
+            headers.insert(number, header);
         }
         Ok(header)
+    }
+
+    /// They aren't kept: these are of new numbers, on which there is no lease.
+    fn headers(&mut self, numbers: &[u32]) -> Result<Vec<Option<Header>>, Unshown> {
+        self.shown.headers(numbers)
     }
 
     fn find(&mut self, directory: u32, name: &Name) -> Result<Option<u32>, Unshown> {

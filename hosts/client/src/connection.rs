@@ -46,6 +46,8 @@ const FOUND_PLACES: u8 = 8;
 /// The most bytes that a look-up finds, and how many a name takes at most.
 const FOUND_LIMIT: usize = 65_536;
 const NAME_ROOM: usize = 260;
+/// How many look-ups for bytes are under way at once.
+const AT_ONCE: usize = 8;
 /// The tags of replies.
 const ANSWERED: u8 = 1;
 const REFUSED: u8 = 2;
@@ -228,6 +230,23 @@ impl Connection {
         told?.ok_or_else(|| nonsense(body))
     }
 
+    /// Sends frames at once, and waits for the replies to all.
+    fn ask_all(&mut self, bodies: &[Vec<u8>]) -> Result<Vec<Reply>, Unshown> {
+        let (first, client) = (self.number.wrapping_add(1), self.client);
+        self.number = self.number.wrapping_add(bodies.len() as u32);
+        let numbers = (0..).map(|at| first.wrapping_add(at));
+        let frames: Vec<u8> =
+            bodies.iter().zip(numbers.clone()).flat_map(|(body, number)| frame(number, client, body)).collect();
+        let told = self.stream().and_then(|stream| {
+            stream.write_all(&frames)?;
+            numbers.take(bodies.len()).map(|number| receive(stream, number)).collect::<io::Result<Vec<_>>>()
+        });
+        if told.is_err() {
+            self.stream = None;
+        }
+        bodies.iter().zip(told?).map(|(body, reply)| reply.ok_or_else(|| nonsense(body))).collect()
+    }
+
     /// The same of what may be asked twice: again and again, where the server or the connection has ended meanwhile.
     fn ask_again(&mut self, body: &[u8]) -> Result<Reply, Unshown> {
         let until = Instant::now() + AGAIN;
@@ -284,16 +303,30 @@ fn nonsense(body: &[u8]) -> Unshown {
     Unshown::Nonsense(format!("frame with tag {}", body.first().copied().unwrap_or(0)))
 }
 
-/// Sends a frame, and reads its reply. None where that is no reply.
-fn exchange(stream: &mut UnixStream, number: u32, client: u32, body: &[u8]) -> io::Result<Option<Reply>> {
+/// The bytes of a frame.
+fn frame(number: u32, client: u32, body: &[u8]) -> Vec<u8> {
     let mut frame = Vec::with_capacity(12 + body.len());
     // A body has at most 2 MiB: a log, and its plan.
     for word in [body.len() as u32, number, client] {
         frame.extend_from_slice(&word.to_be_bytes());
     }
     frame.extend_from_slice(body);
+    frame
+}
+
+/// Sends a frame, and reads its reply. None where that is no reply.
+fn exchange(stream: &mut UnixStream, number: u32, client: u32, body: &[u8]) -> io::Result<Option<Reply>> {
     // Where kfsd refuses the connection it has said so before it closed: that can be read still.
-    let sent = stream.write_all(&frame);
+    let sent = stream.write_all(&frame(number, client, body));
+    let reply = receive(stream, number)?;
+    if !matches!(reply, Some(Reply::Refused(130 | 131))) {
+        sent?;
+    }
+    Ok(reply)
+}
+
+/// Reads the reply to a frame.
+fn receive(stream: &mut UnixStream, number: u32) -> io::Result<Option<Reply>> {
     let mut head = [0; 8];
     stream.read_exact(&mut head)?;
     let [l0, l1, l2, l3, n0, n1, n2, n3] = head;
@@ -304,11 +337,7 @@ fn exchange(stream: &mut UnixStream, number: u32, client: u32, body: &[u8]) -> i
     let mut said = vec![0; length as usize];
     stream.read_exact(&mut said)?;
     let reply = reply_of(&said);
-    if matches!(reply, Some(Reply::Refused(130 | 131))) {
-        return Ok(reply);
-    }
-    sent?;
-    if replied != number {
+    if replied != number && !matches!(reply, Some(Reply::Refused(130 | 131))) {
         return Err(io::Error::new(io::ErrorKind::InvalidData, format!("the reply to frame {replied}, and not {number}")));
     }
     Ok(reply)
@@ -441,18 +470,33 @@ fn found_names(bytes: &[u8]) -> Option<(Vec<(Name, u32)>, bool)> {
 impl Connection {
     /// What a look-up finds; none where there is no such node, or it is one of the other kind.
     fn look_up(&mut self, body: &[u8]) -> Result<Option<Vec<u8>>, Unshown> {
-        let found = match self.ask_again(body)? {
-            Reply::Found(found) => found,
-            Reply::Refused(3) => return Err(Unshown::NoSuchLookUp),
-            Reply::Refused(1 | 5) => return Err(Unshown::NotAllowed),
-            _ => return Err(nonsense(body)),
-        };
-        match found[..] {
+        match self.ask_again(body)? {
+            reply @ Reply::Found(_) => found_in(reply),
+            Reply::Refused(3) => Err(Unshown::NoSuchLookUp),
+            Reply::Refused(1 | 5) => Err(Unshown::NotAllowed),
+            _ => Err(nonsense(body)),
+        }
+    }
+}
+
+/// What a look-up has found; none where there is no such node, or it is one of the other kind.
+fn found_in(reply: Reply) -> Result<Option<Vec<u8>>, Unshown> {
+    match reply {
+        Reply::Found(found) => match found[..] {
             [FOUND_FAULT, 2..=4] => Ok(None),
             [FOUND_FAULT, _] => Err(Unshown::NotAllowed),
             _ => Ok(Some(found)),
-        }
+        },
+        _ => Ok(None),
     }
+}
+
+/// The body that reads so many bytes, so many look-ups behind a place.
+fn read_body(number: u32, from: u64, look_ups: u64, count: usize) -> Vec<u8> {
+    let mut body = look_up_body(READ, number);
+    body.extend_from_slice(&from.saturating_add(look_ups * FOUND_LIMIT as u64).to_be_bytes());
+    body.extend_from_slice(&(count as u32).to_be_bytes());
+    body
 }
 
 /// The body of a look-up of a node.
@@ -467,6 +511,20 @@ impl Shown for Connection {
         let body = look_up_body(NODE, number);
         let found = self.look_up(&body)?.unwrap_or_default();
         found_header(&found).ok_or_else(|| nonsense(&body))
+    }
+
+    /// They are asked for one behind another, without waiting. Where one isn't told, all are asked for singly.
+    fn headers(&mut self, numbers: &[u32]) -> Result<Vec<Option<Header>>, Unshown> {
+        let bodies: Vec<_> = numbers.iter().map(|number| look_up_body(NODE, *number)).collect();
+        let found = |reply: Reply| match reply {
+            Reply::Found(found) => found_header(&found),
+            _ => None,
+        };
+        let told: Option<Vec<_>> = self.ask_all(&bodies).ok().and_then(|replies| replies.into_iter().map(found).collect());
+        match told {
+            Some(headers) => Ok(headers),
+            None => numbers.iter().map(|number| self.header(*number)).collect(),
+        }
     }
 
     fn find(&mut self, directory: u32, name: &Name) -> Result<Option<u32>, Unshown> {
@@ -499,21 +557,32 @@ impl Shown for Connection {
         Ok(names)
     }
 
+    /// More than one look-up finds is asked for at once.
     fn read(&mut self, number: u32, start: u64, most: usize) -> Result<Vec<u8>, Unshown> {
         let mut bytes = Vec::new();
         while bytes.len() < most {
-            let count = (most - bytes.len()).min(FOUND_LIMIT);
-            let mut body = look_up_body(READ, number);
-            body.extend_from_slice(&start.saturating_add(bytes.len() as u64).to_be_bytes());
-            body.extend_from_slice(&(count as u32).to_be_bytes());
-            let found = match self.look_up(&body)? {
-                Some(found) if found.first() == Some(&FOUND_BYTES) && found.len() <= count + 1 => found,
-                Some(_) => return Err(nonsense(&body)),
-                None => break,
+            let counts = (0..AT_ONCE).map(|at| (most - bytes.len()).saturating_sub(at * FOUND_LIMIT).min(FOUND_LIMIT));
+            let counts: Vec<usize> = counts.take_while(|count| *count > 0).collect();
+            let from = start.saturating_add(bytes.len() as u64);
+            let bodies: Vec<_> = (0..).zip(&counts).map(|(at, count)| read_body(number, from, at, *count)).collect();
+            let some = match bodies.len() {
+                1 => None,
+                _ => self.ask_all(&bodies).ok().filter(|replies| replies.iter().all(|reply| matches!(reply, Reply::Found(_)))),
             };
-            bytes.extend_from_slice(&found[1..]);
-            if found.len() <= count {
-                break;
+            let found = match some {
+                Some(replies) => replies.into_iter().map(found_in).collect::<Result<Vec<_>, _>>()?,
+                // One behind another, and again where the server has ended.
+                None => vec![self.look_up(&bodies[0])?],
+            };
+            for ((found, count), body) in found.into_iter().zip(&counts).zip(&bodies) {
+                let found = found.unwrap_or_else(|| vec![FOUND_BYTES]);
+                if found.first() != Some(&FOUND_BYTES) || found.len() > count + 1 {
+                    return Err(nonsense(body));
+                }
+                bytes.extend_from_slice(&found[1..]);
+                if found.len() <= *count {
+                    return Ok(bytes);
+                }
             }
         }
         Ok(bytes)

@@ -17,6 +17,8 @@ use std::ops::Bound;
 
 /// How many names are asked for at a time.
 const PAGE: usize = 256;
+/// Of how many numbers at a time it is asked whether they are free.
+const AHEAD: usize = 32;
 
 /// A log that is under way, with its changes.
 #[derive(Clone, Debug)]
@@ -30,8 +32,8 @@ pub struct Draft {
     paths: Paths,
     /// The number that is tried first for the next new node.
     next: u32,
-    /// A number that was found to be free. Nobody else gives it to a node.
-    free: Option<u32>,
+    /// Numbers that were found to be free. Nobody else gives them to a node.
+    free: BTreeSet<u32>,
     /// The file of the last entry and the place behind its payload, where that is a Write.
     last_write: Option<(u32, u64)>,
 }
@@ -49,7 +51,7 @@ impl Draft {
             created: BTreeSet::new(),
             paths: Paths::default(),
             next,
-            free: None,
+            free: BTreeSet::new(),
             last_write: None,
         }
     }
@@ -57,8 +59,8 @@ impl Draft {
     /// Begins the next log. Numbers go on behind those given so far.
     pub fn clear(&mut self) {
         let client = self.client.clone();
-        let (paths, next) = (std::mem::take(&mut self.paths), self.next);
-        *self = Draft { paths, next, ..Draft::new(client) };
+        let (paths, free, next) = (std::mem::take(&mut self.paths), std::mem::take(&mut self.free), self.next);
+        *self = Draft { paths, free, next, ..Draft::new(client) };
     }
 
     /// Whose log it is.
@@ -89,6 +91,12 @@ impl Draft {
     /// The nodes that this log has changed: their header, bytes, or a name in them.
     pub fn changed(&self) -> BTreeSet<u32> {
         self.nodes.keys().chain(self.files.keys()).chain(self.names.keys()).copied().collect()
+    }
+
+    /// The nodes that were there before this log, and have gone with it.
+    pub(crate) fn gone(&self) -> Vec<u32> {
+        let gone = self.nodes.iter().filter(|(_, change)| change.before.is_some() && change.now.is_none());
+        gone.map(|(number, _)| *number).collect()
     }
 
     // ---- What shows now
@@ -193,19 +201,37 @@ impl Draft {
     pub fn free_number(&mut self, shown: &mut dyn Shown) -> Result<u32, Fault> {
         let [first, last] = self.client.grant;
         let from = self.next.clamp(first, last.max(first));
-        for number in (from..=last).chain(first..from) {
-            if self.is_free(shown, number)? {
+        let mut numbers = (from..=last).chain(first..from).peekable();
+        while let Some(number) = numbers.peek().copied() {
+            let some: Vec<u32> = numbers.by_ref().take(if self.is_known(number) { 1 } else { AHEAD }).collect();
+            self.look_for_free(shown, &some)?;
+            if let Some(number) = some.into_iter().find(|number| self.free.contains(number)) {
                 self.next = number;
-                self.free = Some(number);
                 return Ok(number);
             }
         }
         Err(Fault::NoNumber)
     }
 
+    /// Whether nobody needs to be asked whether a number is free.
+    fn is_known(&self, number: u32) -> bool {
+        self.free.contains(&number) || self.has_created(number) || self.nodes.contains_key(&number)
+    }
+
+    /// Asks of numbers whether they are free, where that isn't known.
+    fn look_for_free(&mut self, shown: &mut dyn Shown, numbers: &[u32]) -> Result<(), Unshown> {
+        let unknown: Vec<u32> = numbers.iter().copied().filter(|number| !self.is_known(*number)).collect();
+        if unknown.is_empty() {
+            return Ok(());
+        }
+        let headers = shown.headers(&unknown)?;
+        self.free.extend(unknown.into_iter().zip(headers).filter(|(_, header)| header.is_none()).map(|(number, _)| number));
+        Ok(())
+    }
+
     /// Whether no node has this number, or had it before the log.
     pub(crate) fn is_free(&self, shown: &mut dyn Shown, number: u32) -> Result<bool, Unshown> {
-        if self.has_created(number) || self.free == Some(number) {
+        if self.has_created(number) || self.free.contains(&number) {
             return Ok(!self.has_created(number));
         }
         let before = match self.nodes.get(&number) {
@@ -290,6 +316,7 @@ impl Draft {
             let header = Header { kind: *kind, mode: *mode, uid, gid, links: 1, size: 0 };
             self.nodes.insert(*number, Change { before: None, now: Some(header) });
             self.created.insert(*number);
+            self.free.remove(number);
             self.next = number.saturating_add(1);
             self.set_name(*directory, name, None, Some(*number));
         }

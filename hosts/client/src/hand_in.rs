@@ -26,7 +26,7 @@ impl<D: Desk> Session<D> {
             self.land();
             return Ok(());
         }
-        let mut times = 0;
+        let (mut times, mut before) = (0, None);
         loop {
             let said = match self.hand_in()? {
                 Answer::Yes => {
@@ -39,10 +39,11 @@ impl<D: Desk> Session<D> {
             };
             times += 1;
             // An entry that is refused again, though it looks as if it could be done, is left out.
-            let lost = self.make_anew(said, times > 1)?;
+            let lost = self.make_anew(said, before == Some(said))?;
             if !lost.is_empty() || times == TIMES {
                 return Err(HandInFault::Refused { said, lost, stays: self.draft.log().len() });
             }
+            before = Some(said);
         }
     }
 
@@ -67,6 +68,8 @@ impl<D: Desk> Session<D> {
     /// The log is done: the next one begins.
     fn land(&mut self) {
         self.cache.land(&self.draft);
+        // A lease ends with its node, whose number may be another node's soon.
+        self.draft.gone().into_iter().for_each(|number| self.leases.forget(number));
         self.draft.clear();
         self.calls.clear();
         self.began = None;
@@ -78,7 +81,8 @@ impl<D: Desk> Session<D> {
     fn make_anew(&mut self, said: Answer, is_again: bool) -> Result<Vec<Lost>, HandInFault> {
         self.cache.clear();
         if let Answer::Entry(_, Reason::NoLease(number)) = said {
-            self.leases.forget(number);
+            // Others may have ended, too.
+            self.draft.changed().into_iter().chain([number]).for_each(|number| self.leases.forget(number));
         }
         let (old, calls) = (self.draft.clone(), std::mem::take(&mut self.calls));
         self.draft.clear();

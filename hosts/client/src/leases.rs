@@ -10,6 +10,8 @@ use std::collections::{BTreeMap, BTreeSet};
 struct Lease {
     kind: LeaseKind,
     end: u64,
+    /// A number of the time since which it is held without a gap.
+    since: u64,
     /// Whether it served something since it was granted.
     is_used: Cell<bool>,
 }
@@ -21,6 +23,8 @@ pub struct Leases {
     /// Their ends, least first.
     ends: BTreeSet<(u64, u32)>,
     moment: u64,
+    /// How many were granted where there was none.
+    granted: u64,
 }
 
 impl Leases {
@@ -35,8 +39,12 @@ impl Leases {
 
     /// A lease was granted. It takes the place of an earlier one.
     pub fn grant(&mut self, number: u32, kind: LeaseKind, end: u64) {
+        let since = self.since(number).unwrap_or_else(|| {
+            self.granted += 1;
+            self.granted
+        });
         self.forget(number);
-        self.rows.insert(number, Lease { kind, end, is_used: Cell::new(false) });
+        self.rows.insert(number, Lease { kind, end, since, is_used: Cell::new(false) });
         self.ends.insert((end, number));
     }
 
@@ -50,6 +58,11 @@ impl Leases {
     /// Whether a lease of any kind is live on the node: then nobody else changes it.
     pub fn reads(&self, number: u32) -> bool {
         self.live(number).is_some()
+    }
+
+    /// A number that is the node's while a lease on it is live without a gap.
+    pub fn since(&self, number: u32) -> Option<u64> {
+        self.rows.get(&number).filter(|lease| lease.end > self.moment).map(|lease| lease.since)
     }
 
     /// All nodes on which there is a lease.
@@ -102,9 +115,14 @@ mod tests {
         assert!(leases.holds(5));
         assert_eq!(leases.due(10), [(5, LeaseKind::Write)]);
         assert_eq!(leases.due(9), []);
+        let since = leases.since(5);
         leases.grant(5, LeaseKind::Write, 12);
-        assert_eq!(leases.due(10), []);
+        assert_eq!((leases.due(10), leases.since(5)), (vec![], since));
         assert_eq!(leases.set_moment(11), [6]);
+        assert_eq!(leases.since(6), None);
+        leases.grant(6, LeaseKind::Read, 12);
+        assert!(leases.since(6) > since);
+        leases.forget(6);
         assert_eq!(leases.numbers(), [5]);
     }
 }

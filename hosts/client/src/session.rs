@@ -10,6 +10,7 @@ use crate::fault::{Fault, Reason};
 use crate::leases::Leases;
 use crate::name::Name;
 use crate::node::{Header, ROOT};
+use crate::shown::{Shown, Unshown};
 use std::collections::HashMap;
 use std::ops::RangeInclusive;
 use std::thread::sleep;
@@ -17,6 +18,8 @@ use std::time::{Duration, Instant};
 
 /// How often an entry is tried. Each time but the last one more lease was lacking, or the log was full.
 const ATTEMPTS: usize = 12;
+/// A read of so many bytes is worth a lease at once.
+const LONG_READ: usize = 65_536;
 /// How long the first and each later pause is, where another client has the lease.
 const FIRST_PAUSE: Duration = Duration::from_millis(1);
 const LONGEST_PAUSE: Duration = Duration::from_millis(50);
@@ -35,7 +38,8 @@ pub struct Options {
     pub term: u64,
     /// How long a call waits for another client's lease.
     pub patience: Duration,
-    /// After how many reads of a node a lease for reading is taken, so that later ones ask nobody; 0 for never.
+    /// After how many reads of a file, or look-ups in a directory, a lease for reading is taken, so that later ones ask nobody; 0
+    /// for never.
     pub reads_before_lease: u32,
 }
 
@@ -114,12 +118,16 @@ impl<D: Desk> Session<D> {
 
     // ---- Reads
 
+    /// From now on until this is called again a header is asked for once alone, but behind each new lease: for some calls that
+    /// belong together, and are made at once.
+    pub fn begin_together(&mut self) {
+        self.cache.begin_together();
+    }
+
     /// What a node is.
     pub fn header(&mut self, number: u32) -> Result<Header, Failure> {
         self.pass_time()?;
-        self.note_read(number)?;
-        let Session { desk, cache, leases, draft, .. } = self;
-        let header = draft.header(&mut Cached { shown: desk, cache, leases }, number)?;
+        let header = self.look(|draft, shown| draft.header(shown, number))?;
         header.ok_or(Failure::Missing(Reason::NoSuchNode))
     }
 
@@ -138,6 +146,7 @@ impl<D: Desk> Session<D> {
     }
 
     fn directory(&mut self, number: u32, access: Access) -> Result<(), Failure> {
+        self.note_reads(number, 1)?;
         let header = self.header(number)?;
         if !header.is_directory() {
             return Err(Failure::Missing(Reason::NotDirectory));
@@ -148,8 +157,7 @@ impl<D: Desk> Session<D> {
     /// Where a name leads, and what is there.
     pub fn lookup(&mut self, directory: u32, name: &Name) -> Result<(u32, Header), Failure> {
         self.directory(directory, Access::Search)?;
-        let Session { desk, cache, leases, draft, .. } = self;
-        let found = draft.find(&mut Cached { shown: desk, cache, leases }, directory, name)?;
+        let found = self.look(|draft, shown| draft.find(shown, directory, name))?;
         let number = found.ok_or(Failure::Missing(Reason::NoSuchName))?;
         Ok((number, self.header(number)?))
     }
@@ -157,17 +165,37 @@ impl<D: Desk> Session<D> {
     /// The first names of a directory behind this one, ascending, at most so many.
     pub fn list(&mut self, directory: u32, behind: Option<&Name>, most: usize) -> Result<Vec<(Name, u32)>, Failure> {
         self.directory(directory, Access::Read)?;
-        let Session { desk, cache, leases, draft, .. } = self;
-        Ok(draft.list(&mut Cached { shown: desk, cache, leases }, directory, behind, most)?)
+        self.look(|draft, shown| draft.list(shown, directory, behind, most))
     }
 
     /// The bytes of a file from a place on, at most so many. Its bits are for `access` to ask, when it is opened.
     pub fn read(&mut self, number: u32, start: u64, most: usize) -> Result<Vec<u8>, Failure> {
-        if self.header(number)?.is_directory() {
-            return Err(Failure::Missing(Reason::IsDirectory));
+        self.pass_time()?;
+        let is_long = most >= LONG_READ;
+        self.note_reads(number, if is_long { self.options.reads_before_lease } else { 1 })?;
+        let found = self.look(|draft, shown| draft.read(shown, number, start, most));
+        // Who finds bytes has read a file.
+        match found {
+            Ok(bytes) if !bytes.is_empty() => Ok(bytes),
+            _ if self.header(number)?.is_directory() => Err(Failure::Missing(Reason::IsDirectory)),
+            found => found,
         }
-        let Session { desk, cache, leases, draft, .. } = self;
-        Ok(draft.read(&mut Cached { shown: desk, cache, leases }, number, start, most)?)
+    }
+
+    /// Looks something up, over what the server shows. That asks the modes that are kept: where it refuses, those of the log may
+    /// allow it, which is handed in for that.
+    fn look<T>(&mut self, look_up: impl Fn(&mut Draft, &mut dyn Shown) -> Result<T, Unshown>) -> Result<T, Failure> {
+        let again = |session: &mut Session<D>| {
+            let Session { desk, cache, leases, draft, .. } = session;
+            look_up(draft, &mut Cached { shown: desk, cache, leases })
+        };
+        match again(self) {
+            Err(Unshown::NotAllowed) if !self.draft.log().is_empty() => {
+                self.sync()?;
+                Ok(again(self)?)
+            }
+            found => Ok(found?),
+        }
     }
 
     /// The node to which a path leads. `.` stands for where it is, and `..` for the directory above.
@@ -193,15 +221,16 @@ impl<D: Desk> Session<D> {
         }
     }
 
-    /// Takes a lease for reading on a node that is read often. That it isn't to be had is no fault.
-    fn note_read(&mut self, number: u32) -> Result<(), Failure> {
+    /// Takes a lease for reading on a node that is read often: a lease is a call that the server keeps, and costs more than a
+    /// look-up. That it isn't to be had is no fault.
+    fn note_reads(&mut self, number: u32, more: u32) -> Result<(), Failure> {
         let most = self.options.reads_before_lease;
         let is_given_up = matches!(self.given_up.get(&number), Some(at) if at.elapsed() < COURTESY);
         if most == 0 || is_given_up || self.draft.has_created(number) || self.leases.reads(number) {
             return Ok(());
         }
         let count = self.reads.entry(number).or_insert(0);
-        *count += 1;
+        *count = count.saturating_add(more);
         if *count >= most {
             self.reads.remove(&number);
             let _refused = self.ask_lease(number, LeaseKind::Read)?;
@@ -237,6 +266,8 @@ impl<D: Desk> Session<D> {
             let count = payload.len();
             match self.enter(&Entry::Write { number, offset: at, payload }) {
                 Ok(()) => done += count,
+                // Calls that are lost have to be told.
+                Err(failure @ Failure::HandIn(_)) => return Err(failure),
                 Err(_) if done > 0 => break,
                 Err(failure) => return Err(failure),
             }
@@ -299,10 +330,17 @@ impl<D: Desk> Session<D> {
                 }
                 Err(Fault::Refused(Reason::NoLease(number))) => self.take_lease(number, LeaseKind::Write)?,
                 Err(Fault::Full(_)) => self.sync()?,
+                Err(Fault::Unshown(Unshown::NotAllowed)) if !self.draft.log().is_empty() => self.sync()?,
                 Err(fault) => return Err(Failure::of(fault, entry)),
             }
         }
         Err(Failure::Lease(entry.number(), LeaseRefusal::Past))
+    }
+
+    /// A number that stays the same while a lease on the node is held without a gap; none where there is no lease.
+    pub fn held_since(&mut self, number: u32) -> Result<Option<u64>, Failure> {
+        self.pass_time()?;
+        Ok(self.leases.since(number))
     }
 
     pub(crate) fn try_enter(&mut self, entry: &Entry) -> Result<(), Fault> {
@@ -351,6 +389,7 @@ impl<D: Desk> Session<D> {
         let end = moment.saturating_add(self.options.term.min(self.desk.longest_term()));
         let wanted = Wanted { number, path: self.draft.paths().path(number), kind, end };
         let answer = self.desk.lease(&wanted)?;
+        self.cache.look_anew();
         if answer.is_ok() {
             self.leases.grant(number, kind, end);
         }
@@ -408,6 +447,8 @@ impl<D: Desk> Session<D> {
     /// Hands the log in, and gives a lease up. Where the log isn't kept, the lease goes all the same.
     pub fn give_up(&mut self, number: u32) -> Result<(), Failure> {
         if !self.leases.reads(number) {
+            // One that an earlier session of this client had may be live still.
+            let _none_held = self.desk.drop_lease(number)?;
             return Ok(());
         }
         let handed_in = self.sync();

@@ -39,6 +39,11 @@ pub trait Shown {
     /// The header of a node, if there is one of this number.
     fn header(&mut self, number: u32) -> Result<Option<Header>, Unshown>;
 
+    /// The headers of some nodes, asked for at once where the server lets one.
+    fn headers(&mut self, numbers: &[u32]) -> Result<Vec<Option<Header>>, Unshown> {
+        numbers.iter().map(|number| self.header(*number)).collect()
+    }
+
     /// Where a name of a directory leads. None where the directory lacks it, or there is no such directory.
     fn find(&mut self, directory: u32, name: &Name) -> Result<Option<u32>, Unshown>;
 

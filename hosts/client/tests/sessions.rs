@@ -122,6 +122,22 @@ fn a_lease_is_given_up_to_who_wants_it() {
 }
 
 #[test]
+fn a_lease_of_an_earlier_session_is_given_up() {
+    let [mut mine, mut other, _] = sessions(&quick());
+    let file = mine.open(b"/a", Some(0o666)).unwrap();
+    mine.sync().unwrap();
+    let again = mine.desk().clone();
+    drop(mine);
+    let mut mine = Session::new(again, users()[0].clone(), quick());
+    assert!(matches!(other.open(b"/b", Some(0o644)), Err(Failure::Lease(ROOT, LeaseRefusal::Held(7)))));
+    mine.poll().unwrap();
+    other.open(b"/b", Some(0o644)).unwrap();
+    other.sync().unwrap();
+    assert_eq!(mine.walk(b"/a").unwrap(), file);
+    assert!(mine.walk(b"/b").is_ok());
+}
+
+#[test]
 fn who_waits_gives_up_what_others_want() {
     let [mut one, mut two, _] = sessions(&quick());
     let directory = |session: &mut Session<Seat>, text| {
@@ -229,6 +245,42 @@ fn a_log_is_made_anew_where_the_tree_has_changed_beside_it() {
     other.close().unwrap();
     mine.sync().unwrap();
     assert_eq!(kept(&mut mine, "f").unwrap(), b"abc3456789");
+}
+
+#[test]
+fn leases_go_with_their_nodes() {
+    let client = Client { grant: [2, 5], ..users()[0].clone() };
+    let seat = seats(&program_path(), [64, 16, 16], std::slice::from_ref(&client)).remove(0);
+    let mut mine = Session::new(seat, client, quick());
+    let files = [&b"/a"[..], b"/b"].map(|path| mine.open(path, Some(0o644)).unwrap());
+    mine.sync().unwrap();
+    for (file, path) in files.into_iter().zip(["a", "b"]) {
+        mine.write(file, 0, b"old").unwrap();
+        mine.unlink(ROOT, &name(path), Kind::File).unwrap();
+    }
+    mine.sync().unwrap();
+    let others = [&b"/c"[..], b"/d", b"/e", b"/f"].map(|path| mine.open(path, Some(0o644)).unwrap());
+    assert_eq!(others[2..], files);
+    mine.sync().unwrap();
+    // These have the numbers, and need leases of their own.
+    others.into_iter().for_each(|file| assert_eq!(mine.write(file, 0, b"new").unwrap(), 3));
+    mine.sync().unwrap();
+    assert_eq!(kept(&mut mine, "e").unwrap(), b"new");
+}
+
+#[test]
+fn nothing_is_lost_where_leases_have_ended_unnoticed() {
+    let [mut mine, ..] = sessions(&quick());
+    let files = ["a", "b", "c"].map(|file| mine.open(file.as_bytes(), Some(0o644)).unwrap());
+    mine.sync().unwrap();
+    for file in files {
+        mine.write(file, 0, b"x").unwrap();
+        mine.desk().drop_lease(file).unwrap().unwrap();
+    }
+    mine.rename(ROOT, &name("c"), ROOT, &name("d")).unwrap();
+    mine.desk().drop_lease(ROOT).unwrap().unwrap();
+    mine.sync().unwrap();
+    assert_eq!(["a", "b", "d"].map(|file| kept(&mut mine, file).unwrap()), [b"x", b"x", b"x"]);
 }
 
 #[test]

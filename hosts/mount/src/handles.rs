@@ -8,7 +8,7 @@ use std::collections::HashMap;
 struct OpenFile {
     /// How often.
     count: u32,
-    /// The mode that it gets with its last close. Until then its owner may write it, so that what is open for writing stays so.
+    /// The mode that it gets with its last close. Until then its owner may read and write it, so that what is open stays so.
     late_mode: Option<u16>,
     /// The name that it has got in place of its last one. It goes with the last close.
     hidden: Option<(u32, Name)>,

@@ -13,7 +13,8 @@ pub const REQUEST: usize = (MOST_BYTES as usize) + 65_536;
 /// How many bytes stand before what a request says.
 const HEAD: usize = 40;
 
-/// What a reply to the first request says that is wanted: a Truncate with an open, long writes, names with what they lead to.
+/// What a reply to the first request says that is wanted: a Truncate with an open, long writes, names with what they lead to. Not
+/// reads that nobody waits for: behind these the kernel tells of a close late, and a file that is removed then was still open.
 pub const WANTED: u32 = 1 << 3 | 1 << 5 | 1 << 13 | 1 << 14 | 1 << 22;
 
 /// What the kernel asks for.

@@ -19,6 +19,8 @@ const PAUSE: Duration = Duration::from_millis(100);
 /// The bits of a mode that say what a node is, and those of a file.
 const TYPE: u32 = 0o170_000;
 const FILE: u32 = 0o100_000;
+/// The flag of an open by which the kernel keeps the bytes that it has (`FOPEN_KEEP_CACHE`).
+const KEEPS_BYTES: u32 = 1 << 1;
 /// The flag of a Rename that replaces nothing.
 const REPLACES_NOTHING: u32 = 1;
 
@@ -31,26 +33,30 @@ pub fn serve<D: Desk>(device: &mut File, signals: &mut SignalFd, volume: &mut Vo
         if polled.elapsed() >= PAUSE {
             volume.poll();
             polled = Instant::now();
-        }
-        let mut waits =
-            [PollFd::new(device.as_raw_fd(), PollFlags::POLLIN), PollFd::new(signals.as_raw_fd(), PollFlags::POLLIN)];
-        match poll(&mut waits, PAUSE.as_millis() as i32) {
-            Ok(0) | Err(Errno::EINTR) => continue,
-            Ok(_) => {}
-            Err(errno) => return Err(errno.into()),
-        }
-        if waits[1].revents().map_or(false, |events| !events.is_empty()) {
-            return Ok(());
+            if has_signal(device, signals, Duration::ZERO)? {
+                return Ok(());
+            }
         }
         match device.read(&mut bytes) {
             Ok(count) => answer(device, volume, &bytes[..count])?,
             Err(fault) => match fault.raw_os_error().map(Errno::from_i32) {
                 Some(Errno::ENODEV) => return Ok(()),
+                Some(Errno::EAGAIN) if has_signal(device, signals, PAUSE)? => return Ok(()),
                 // The caller has given up meanwhile.
                 Some(Errno::ENOENT | Errno::EINTR | Errno::EAGAIN) => {}
                 _ => return Err(fault),
             },
         }
+    }
+}
+
+/// Waits for a request or a signal. Returns whether there is a signal.
+fn has_signal(device: &File, signals: &SignalFd, most: Duration) -> io::Result<bool> {
+    let mut waits = [PollFd::new(device.as_raw_fd(), PollFlags::POLLIN), PollFd::new(signals.as_raw_fd(), PollFlags::POLLIN)];
+    match poll(&mut waits, most.as_millis() as i32) {
+        Ok(0) | Err(Errno::EINTR) => Ok(false),
+        Ok(_) => Ok(waits[1].revents().map_or(false, |events| !events.is_empty())),
+        Err(errno) => Err(errno.into()),
     }
 }
 
@@ -64,6 +70,7 @@ fn answer<D: Desk>(device: &mut File, volume: &mut Volume<D>, bytes: &[u8]) -> i
         return Ok(());
     }
     let unique = request.unique;
+    volume.begin_request();
     let said = reply_bytes(unique, answer_of(volume, &mut request));
     match device.write_all(&said) {
         // The caller has given up meanwhile.
@@ -91,7 +98,8 @@ fn answer_of<D: Desk>(volume: &mut Volume<D>, request: &mut Request<'_>) -> Resu
         }
         Operation::StatFileSystem => volume.blocks().map(file_system_reply),
         Operation::Sync => volume.sync().map(|()| Reply::default()),
-        Operation::Flush => Ok(Reply::default()),
+        // A close does nothing here. The kernel tells of none any more then.
+        Operation::Flush => Err(Errno::ENOSYS),
         Operation::Access => {
             let mask = request.word()?;
             volume.access(node, mask).map(|()| Reply::default())
@@ -157,15 +165,15 @@ fn answer_of_file<D: Desk>(volume: &mut Volume<D>, request: &mut Request<'_>) ->
     let node = request.node;
     match request.operation {
         Operation::Open => {
-            volume.open(node, request.word()?)?;
-            Ok(open_reply(0))
+            let keeps = volume.open(node, request.word()?)?;
+            Ok(open_reply(0, if keeps { KEEPS_BYTES } else { 0 }))
         }
         Operation::Create => {
-            let (flags, mode) = (request.word()?, request.word()?);
+            let (_flags, mode) = (request.word()?, request.word()?);
             request.skip(8)?;
-            let found = volume.create(node, request.text()?, mode, flags)?;
+            let found = volume.create(node, request.text()?, mode)?;
             let mut reply = entry_reply(volume, found);
-            reply.bytes(&open_reply(0).0);
+            reply.bytes(&open_reply(0, 0).0);
             Ok(reply)
         }
         Operation::Read => {
@@ -194,10 +202,10 @@ fn entry_reply<D>(volume: &Volume<D>, (number, shape): (u32, Shape)) -> Reply {
     reply
 }
 
-/// `fuse_open_out`: a handle, and no flag: the kernel forgets the bytes that it has of a file when it is opened.
-fn open_reply(handle: u64) -> Reply {
+/// `fuse_open_out`: a handle and flags. Without a flag the kernel forgets the bytes that it has of a file when it is opened.
+fn open_reply(handle: u64, flags: u32) -> Reply {
     let mut reply = Reply::default();
-    reply.long(handle).word(0).word(0);
+    reply.long(handle).word(flags).word(0);
     reply
 }
 
@@ -238,7 +246,7 @@ fn wanted_attributes(request: &mut Request<'_>) -> Result<Attributes, Errno> {
 
 fn open_directory<D: Desk>(volume: &mut Volume<D>, request: &mut Request<'_>) -> Result<Reply, Errno> {
     if request.operation == Operation::OpenDirectory {
-        return volume.open_list(request.node).map(open_reply);
+        return volume.open_list(request.node).map(|handle| open_reply(handle, 0));
     }
     volume.handles.close_list(request.long()?);
     Ok(Reply::default())

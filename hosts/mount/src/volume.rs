@@ -4,15 +4,18 @@ use crate::attributes::{now, Clocks, Shape, Times};
 use crate::handles::{Handles, Leftover};
 use crate::links::{link_bytes, target_of, LENGTH};
 use kfs_client::client::Access;
-use kfs_client::desk::Blocks;
+use kfs_client::desk::{Blocks, LeaseRefusal};
 use kfs_client::{Desk, Failure, HandInFault, Header, Kind, Name, Session};
 use nix::errno::Errno;
+use std::collections::HashMap;
+use std::thread::sleep;
+use std::time::{Duration, Instant};
 
 /// The bits of a mode that a log can say, and the two that it can't.
 const MODE: u32 = 0o1777;
 const SET_USER: u32 = 0o4000;
-/// The bit by which the owner may write.
-const OWNER_WRITES: u16 = 0o200;
+/// The bits by which the owner may read and write.
+const OWNERS: u16 = 0o600;
 /// The mode that a link is shown with, and that of its file.
 const LINK_MODE: u16 = 0o777;
 const LINK_FILE_MODE: u16 = 0o755;
@@ -21,6 +24,9 @@ const ACCESS: u32 = 0o3;
 const WRITE_ONLY: u32 = 0o1;
 const READ_AND_WRITE: u32 = 0o2;
 const TRUNCATE: u32 = 0o1000;
+/// How long one who asks that all is kept waits for a lease of another client, and after which pause it is asked for again.
+const PATIENCE: Duration = Duration::from_secs(10);
+const PAUSE: Duration = Duration::from_millis(20);
 
 /// What is to be changed of a node's header.
 #[derive(Clone, Copy, Debug, Default)]
@@ -29,8 +35,17 @@ pub struct Attributes {
     pub uid: Option<u32>,
     pub gid: Option<u32>,
     pub size: Option<u64>,
-    pub read: Option<std::time::Duration>,
-    pub written: Option<std::time::Duration>,
+    pub read: Option<Duration>,
+    pub written: Option<Duration>,
+}
+
+/// What the kernel has of a file's bytes.
+#[derive(Clone, Copy, Debug, PartialEq, Eq)]
+enum Kept {
+    /// All that it has it was told under a lease that was held without a gap since then; where there is none it has nothing.
+    Since(Option<u64>),
+    /// Some it was told without a lease.
+    Mixed,
 }
 
 /// A tree that is mounted.
@@ -41,23 +56,25 @@ pub struct Volume<D> {
     pub handles: Handles,
     /// What the next who asks that all is kept is told: calls were lost since, and nobody was told.
     owed: Option<Errno>,
+    /// What the kernel has of the bytes of each file.
+    kept: HashMap<u32, Kept>,
 }
 
-/// The number that POSIX has for a failure. Where calls are lost, people are told on standard error.
-fn errno(failure: Failure) -> Errno {
-    match &failure {
-        Failure::HandIn(fault) => tell(fault),
-        Failure::Lease(..) => eprintln!("kfs-mount: a lease isn't to be had: {failure}"),
-        _ => {}
-    }
-    failure.errno()
-}
-
-fn tell(fault: &HandInFault) {
+/// Tells people on standard error why a log isn't kept. Returns whether calls are lost.
+fn tell(fault: &HandInFault) -> bool {
     eprintln!("kfs-mount: a log isn't kept: {fault}");
-    if let HandInFault::Refused { lost, .. } = fault {
-        lost.iter().for_each(|call| eprintln!("kfs-mount: lost: {call}"));
+    match fault {
+        HandInFault::Refused { lost, .. } => {
+            lost.iter().for_each(|call| eprintln!("kfs-mount: lost: {call}"));
+            !lost.is_empty()
+        }
+        _ => false,
     }
+}
+
+/// Whether another client has a lease that the log needs.
+fn is_held(fault: &HandInFault) -> bool {
+    matches!(fault, HandInFault::Lease(_, LeaseRefusal::Held(_)))
 }
 
 fn writes(flags: u32) -> bool {
@@ -67,26 +84,55 @@ fn writes(flags: u32) -> bool {
 impl<D: Desk> Volume<D> {
     /// A volume over a session.
     pub fn new(session: Session<D>) -> Volume<D> {
-        Volume { session, clocks: Clocks::default(), handles: Handles::default(), owed: None }
+        Volume { session, clocks: Clocks::default(), handles: Handles::default(), owed: None, kept: HashMap::new() }
     }
 
     /// What is due now and then. What fails is tried again; who asks next that all is kept is told of calls that are lost.
     pub fn poll(&mut self) {
         if let Err(failure) = self.session.poll() {
-            let is_lost = matches!(&failure, Failure::HandIn(HandInFault::Refused { lost, .. }) if !lost.is_empty());
-            let told = errno(failure);
-            self.owed = self.owed.or(Some(told).filter(|_| is_lost));
+            let _nobody_asked = self.told(&failure);
         }
+    }
+
+    /// The number that POSIX has for a failure. Whoever made the calls that are lost by it may be another than who is told of it
+    /// now: so the next who asks that all is kept is told, too.
+    fn told(&mut self, failure: &Failure) -> Errno {
+        match failure {
+            Failure::HandIn(fault) if tell(fault) => self.owed = Some(failure.errno()),
+            Failure::Lease(..) => eprintln!("kfs-mount: a lease isn't to be had: {failure}"),
+            _ => {}
+        }
+        failure.errno()
+    }
+
+    /// The next request begins.
+    pub fn begin_request(&mut self) {
+        self.session.begin_together();
     }
 
     /// Hands all in, and gives all leases up.
     pub fn close(&mut self) -> Result<(), Errno> {
-        self.session.close().map_err(errno)
+        self.session.close().map_err(|failure| self.told(&failure))
     }
 
-    /// Hands all in.
+    /// Hands all in. Where a lease was lost, and another client has it, that one is waited for.
     pub fn sync(&mut self) -> Result<(), Errno> {
-        self.session.sync().map_err(|fault| errno(fault.into()))?;
+        let until = Instant::now() + PATIENCE;
+        while let Err(fault) = self.session.sync() {
+            if !is_held(&fault) || Instant::now() >= until {
+                tell(&fault);
+                return Err(fault.errno());
+            }
+            sleep(PAUSE);
+            // What others want is given up meanwhile.
+            match self.session.poll() {
+                Err(Failure::HandIn(fault)) if is_held(&fault) => {}
+                Err(failure) => {
+                    let _nobody_asked = self.told(&failure);
+                }
+                Ok(()) => {}
+            }
+        }
         self.owed.take().map_or(Ok(()), Err)
     }
 
@@ -123,24 +169,24 @@ impl<D: Desk> Volume<D> {
     }
 
     pub fn shape(&mut self, number: u32) -> Result<Shape, Errno> {
-        let header = self.session.header(number).map_err(errno)?;
+        let header = self.session.header(number).map_err(|failure| self.told(&failure))?;
         Ok(self.shown(number, header))
     }
 
     pub fn lookup(&mut self, directory: u32, name: &[u8]) -> Result<(u32, Shape), Errno> {
         let name = named(name)?;
-        let (number, header) = self.session.lookup(directory, &name).map_err(errno)?;
+        let (number, header) = self.session.lookup(directory, &name).map_err(|failure| self.told(&failure))?;
         Ok((number, self.shown(number, header)))
     }
 
     pub fn read_link(&mut self, number: u32) -> Result<Vec<u8>, Errno> {
-        let header = self.session.header(number).map_err(errno)?;
+        let header = self.session.header(number).map_err(|failure| self.told(&failure))?;
         self.target(number, &header).ok_or(Errno::EINVAL)
     }
 
     /// All names of a directory, as a list that stays while it is read.
     pub fn open_list(&mut self, directory: u32) -> Result<u64, Errno> {
-        let names = self.session.list(directory, None, usize::MAX).map_err(errno)?;
+        let names = self.session.list(directory, None, usize::MAX).map_err(|failure| self.told(&failure))?;
         Ok(self.handles.open_list(names))
     }
 
@@ -149,13 +195,22 @@ impl<D: Desk> Volume<D> {
     }
 
     pub fn read(&mut self, number: u32, start: u64, most: usize) -> Result<Vec<u8>, Errno> {
-        self.session.read(number, start, most).map_err(errno)
+        let bytes = self.session.read(number, start, most).map_err(|failure| self.told(&failure))?;
+        let since = self.session.held_since(number).map_err(|failure| self.told(&failure))?;
+        let kept = self.kept.entry(number).or_insert(Kept::Mixed);
+        *kept = match *kept {
+            // The kernel had none of them.
+            Kept::Since(None) if since.is_some() => Kept::Since(since),
+            Kept::Since(before) if before == since && since.is_some() => Kept::Since(before),
+            _ => Kept::Mixed,
+        };
+        Ok(bytes)
     }
 
     pub fn access(&mut self, number: u32, mask: u32) -> Result<(), Errno> {
         for access in [Access::Read, Access::Write, Access::Search] {
             if mask & access as u32 != 0 {
-                self.session.access(number, access).map_err(errno)?;
+                self.session.access(number, access).map_err(|failure| self.told(&failure))?;
             }
         }
         self.shape(number).map(|_| ())
@@ -163,11 +218,11 @@ impl<D: Desk> Volume<D> {
 
     // ---- Files that are open
 
-    pub fn open(&mut self, number: u32, flags: u32) -> Result<(), Errno> {
+    /// Opens a file. Returns whether the kernel may keep the bytes that it has of it: a lease has kept others from changing it
+    /// since it was opened before.
+    pub fn open(&mut self, number: u32, flags: u32) -> Result<bool, Errno> {
+        // Whether it may be read the kernel has asked. Who writes is told now, and not when the log is handed in.
         let is_new = self.session.draft().has_created(number);
-        if !is_new && flags & ACCESS != WRITE_ONLY {
-            self.access(number, Access::Read as u32)?;
-        }
         if !is_new && writes(flags) {
             self.access(number, Access::Write as u32)?;
         }
@@ -175,14 +230,19 @@ impl<D: Desk> Volume<D> {
             self.truncate(number, 0)?;
         }
         self.handles.open(number);
-        Ok(())
+        let since = self.session.held_since(number).map_err(|failure| self.told(&failure))?;
+        let keeps = since.is_some() && self.kept.get(&number) == Some(&Kept::Since(since));
+        if !keeps {
+            self.kept.insert(number, Kept::Since(since));
+        }
+        Ok(keeps)
     }
 
-    pub fn create(&mut self, directory: u32, name: &[u8], mode: u32, flags: u32) -> Result<(u32, Shape), Errno> {
+    pub fn create(&mut self, directory: u32, name: &[u8], mode: u32) -> Result<(u32, Shape), Errno> {
         let mode = (mode & MODE) as u16;
-        // A log writes what it has created, whatever its mode. A later one needs the bit.
-        let late_mode = Some(mode).filter(|mode| writes(flags) && mode & OWNER_WRITES == 0);
-        let given = if late_mode.is_some() { mode | OWNER_WRITES } else { mode };
+        // A log writes what it has created, whatever its mode. A later one needs the bits, and so do look-ups.
+        let late_mode = Some(mode).filter(|mode| mode & OWNERS != OWNERS);
+        let given = if late_mode.is_some() { mode | OWNERS } else { mode };
         let (number, _) = self.make(directory, name, Kind::File, given)?;
         self.handles.open(number);
         self.handles.set_late_mode(number, late_mode);
@@ -192,10 +252,10 @@ impl<D: Desk> Volume<D> {
     pub fn close_file(&mut self, number: u32) -> Result<(), Errno> {
         let Leftover { late_mode, hidden } = self.handles.close(number);
         if let Some((directory, name)) = hidden {
-            return self.session.unlink(directory, &name, Kind::File).map_err(errno);
+            return self.session.unlink(directory, &name, Kind::File).map_err(|failure| self.told(&failure));
         }
         match late_mode {
-            Some(mode) => self.session.change_mode(number, mode).map_err(errno),
+            Some(mode) => self.session.change_mode(number, mode).map_err(|failure| self.told(&failure)),
             None => Ok(()),
         }
     }
@@ -205,7 +265,7 @@ impl<D: Desk> Volume<D> {
     /// Makes a file or a directory.
     pub fn make(&mut self, directory: u32, name: &[u8], kind: Kind, mode: u16) -> Result<(u32, Shape), Errno> {
         let name = named(name)?;
-        let number = self.session.create(directory, &name, kind, mode).map_err(errno)?;
+        let number = self.session.create(directory, &name, kind, mode).map_err(|failure| self.told(&failure))?;
         self.clocks.create(number);
         self.clocks.write(directory);
         Ok((number, self.shape(number)?))
@@ -219,18 +279,18 @@ impl<D: Desk> Volume<D> {
     pub fn make_link(&mut self, directory: u32, name: &[u8], target: &[u8]) -> Result<(u32, Shape), Errno> {
         let bytes = link_bytes(target).ok_or(Errno::ENAMETOOLONG)?;
         let (number, _) = self.make(directory, name, Kind::File, LINK_FILE_MODE)?;
-        self.session.write(number, 0, &bytes).map_err(errno)?;
+        self.session.write(number, 0, &bytes).map_err(|failure| self.told(&failure))?;
         Ok((number, self.shape(number)?))
     }
 
     pub fn write(&mut self, number: u32, offset: u64, bytes: &[u8]) -> Result<usize, Errno> {
-        let count = self.session.write(number, offset, bytes).map_err(errno)?;
+        let count = self.session.write(number, offset, bytes).map_err(|failure| self.told(&failure))?;
         self.clocks.write(number);
         Ok(count)
     }
 
     fn truncate(&mut self, number: u32, size: u64) -> Result<(), Errno> {
-        self.session.truncate(number, size).map_err(errno)?;
+        self.session.truncate(number, size).map_err(|failure| self.told(&failure))?;
         self.clocks.write(number);
         Ok(())
     }
@@ -248,7 +308,7 @@ impl<D: Desk> Volume<D> {
             self.change_mode(number, (mode & MODE) as u16)?;
         }
         if let Some(gid) = wanted.gid.filter(|gid| *gid != header.gid) {
-            self.session.change_group(number, gid).map_err(errno)?;
+            self.session.change_group(number, gid).map_err(|failure| self.told(&failure))?;
             self.clocks.change(number);
         }
         if let Some(size) = wanted.size {
@@ -262,18 +322,18 @@ impl<D: Desk> Volume<D> {
         self.shape(number)
     }
 
-    /// Changes a mode; of a file that is open with the last close, where the owner couldn't write it then.
+    /// Changes a mode; of a file that is open with the last close, where the owner couldn't read or write it then.
     fn change_mode(&mut self, number: u32, mode: u16) -> Result<(), Errno> {
-        let late_mode = Some(mode).filter(|mode| self.handles.is_open(number) && mode & OWNER_WRITES == 0);
-        let given = if late_mode.is_some() { mode | OWNER_WRITES } else { mode };
-        self.session.change_mode(number, given).map_err(errno)?;
+        let late_mode = Some(mode).filter(|mode| self.handles.is_open(number) && mode & OWNERS != OWNERS);
+        let given = if late_mode.is_some() { mode | OWNERS } else { mode };
+        self.session.change_mode(number, given).map_err(|failure| self.told(&failure))?;
         self.handles.set_late_mode(number, late_mode);
         self.clocks.change(number);
         Ok(())
     }
 
     pub fn link(&mut self, number: u32, directory: u32, name: &[u8]) -> Result<Shape, Errno> {
-        self.session.link(number, directory, &named(name)?).map_err(errno)?;
+        self.session.link(number, directory, &named(name)?).map_err(|failure| self.told(&failure))?;
         self.clocks.write(directory);
         self.clocks.change(number);
         self.shape(number)
@@ -281,11 +341,11 @@ impl<D: Desk> Volume<D> {
 
     pub fn unlink(&mut self, directory: u32, name: &[u8], kind: Kind) -> Result<(), Errno> {
         let name = named(name)?;
-        let (number, header) = self.session.lookup(directory, &name).map_err(errno)?;
+        let (number, header) = self.session.lookup(directory, &name).map_err(|failure| self.told(&failure))?;
         if kind == Kind::File && self.is_to_hide(number, &header) {
             self.hide(number, directory, &name)?;
         } else {
-            self.session.unlink(directory, &name, kind).map_err(errno)?;
+            self.session.unlink(directory, &name, kind).map_err(|failure| self.told(&failure))?;
         }
         self.clocks.write(directory);
         self.clocks.change(number);
@@ -300,7 +360,7 @@ impl<D: Desk> Volume<D> {
     /// Gives an open file a name that goes with its last close.
     fn hide(&mut self, number: u32, directory: u32, name: &Name) -> Result<(), Errno> {
         let hidden = named(self.handles.hidden_name(number).as_bytes())?;
-        self.session.rename(directory, name, directory, &hidden).map_err(errno)?;
+        self.session.rename(directory, name, directory, &hidden).map_err(|failure| self.told(&failure))?;
         self.handles.hide(number, directory, hidden);
         Ok(())
     }
@@ -308,11 +368,11 @@ impl<D: Desk> Volume<D> {
     /// Renames. Where nothing may be replaced, what has the new name stays.
     pub fn rename(&mut self, from: u32, name: &[u8], to: u32, new_name: &[u8], replaces: bool) -> Result<(), Errno> {
         let (name, new_name) = (named(name)?, named(new_name)?);
-        let (moved, header) = self.session.lookup(from, &name).map_err(errno)?;
+        let (moved, header) = self.session.lookup(from, &name).map_err(|failure| self.told(&failure))?;
         let there = match self.session.lookup(to, &new_name) {
             Ok(there) => Some(there),
             Err(failure) if failure.errno() == Errno::ENOENT => None,
-            Err(failure) => return Err(errno(failure)),
+            Err(failure) => return Err(self.told(&failure)),
         };
         match there {
             Some(_) if !replaces => return Err(Errno::EEXIST),
@@ -321,7 +381,7 @@ impl<D: Desk> Volume<D> {
             }
             _ => {}
         }
-        self.session.rename(from, &name, to, &new_name).map_err(errno)?;
+        self.session.rename(from, &name, to, &new_name).map_err(|failure| self.told(&failure))?;
         [from, to].into_iter().for_each(|directory| self.clocks.write(directory));
         self.clocks.change(moved);
         Ok(())
@@ -329,24 +389,93 @@ impl<D: Desk> Volume<D> {
 }
 
 fn named(bytes: &[u8]) -> Result<Name, Errno> {
-    Name::new(bytes).map_err(|fault| errno(fault.into()))
+    Name::new(bytes).map_err(|fault| Failure::from(fault).errno())
 }
 
 #[cfg(test)]
 mod tests {
     use super::*;
+    use kfs_client::desk::{Answer, Unanswered, Wanted, Wish};
+    use kfs_client::log::ENTRY_LIMIT;
     use kfs_client::memory::Memory;
-    use kfs_client::{Client, Options};
+    use kfs_client::{Client, Options, Reason, Shown, Unshown};
+
+    fn client() -> Client {
+        Client { number: 7, uid: 1000, gid: 1000, groups: vec![], is_privileged: false, grant: [2, 99] }
+    }
 
     fn volume() -> Volume<Memory> {
-        let client = Client { number: 7, uid: 1000, gid: 1000, groups: vec![], is_privileged: false, grant: [2, 99] };
-        Volume::new(Session::new(Memory::new(client.clone()), client, Options::default()))
+        Volume::new(Session::new(Memory::new(client()), client(), Options::default()))
+    }
+
+    /// A server that refuses the first entry of each log that has so many.
+    struct Refusing(Memory, usize);
+
+    impl Shown for Refusing {
+        fn header(&mut self, number: u32) -> Result<Option<Header>, Unshown> {
+            self.0.header(number)
+        }
+
+        fn find(&mut self, directory: u32, name: &Name) -> Result<Option<u32>, Unshown> {
+            self.0.find(directory, name)
+        }
+
+        fn list(&mut self, directory: u32, behind: Option<&Name>, most: usize) -> Result<Vec<(Name, u32)>, Unshown> {
+            self.0.list(directory, behind, most)
+        }
+
+        fn read(&mut self, number: u32, start: u64, most: usize) -> Result<Vec<u8>, Unshown> {
+            self.0.read(number, start, most)
+        }
+    }
+
+    impl Desk for Refusing {
+        fn lease(&mut self, wanted: &Wanted) -> Result<Result<(), LeaseRefusal>, Unanswered> {
+            self.0.lease(wanted)
+        }
+
+        fn drop_lease(&mut self, number: u32) -> Result<Result<(), LeaseRefusal>, Unanswered> {
+            self.0.drop_lease(number)
+        }
+
+        fn submit(&mut self, log: &[u8], plan: &[u8]) -> Result<Answer, Unanswered> {
+            let count = kfs_client::Log::read(log).map_or(0, |(_, log)| log.len());
+            match count == self.1 {
+                true => Ok(Answer::Entry(0, Reason::NoWrite)),
+                false => self.0.submit(log, plan),
+            }
+        }
+
+        fn moment(&mut self) -> Result<u64, Unanswered> {
+            self.0.moment()
+        }
+
+        fn wanted_by_others(&mut self) -> Result<Vec<Wish>, Unanswered> {
+            self.0.wanted_by_others()
+        }
+    }
+
+    #[test]
+    fn a_call_that_is_lost_is_told_to_who_asks_that_all_is_kept() {
+        let desk = Refusing(Memory::new(client()), ENTRY_LIMIT);
+        let mut volume = Volume::new(Session::new(desk, client(), Options::default()));
+        let (file, _) = volume.create(1, b"a", 0o644).unwrap();
+        volume.sync().unwrap();
+        for at in 0..ENTRY_LIMIT as u64 {
+            volume.write(file, 3 * at, b"x").unwrap();
+        }
+        // The log is full. What is lost by it was another's call, maybe.
+        let chmod = Attributes { mode: Some(0o600), ..Attributes::default() };
+        assert_eq!(volume.set_attributes(file, &chmod), Err(Errno::EIO));
+        assert_eq!(volume.sync(), Err(Errno::EIO));
+        assert_eq!(volume.sync(), Ok(()));
+        assert_eq!(volume.read(file, 0, 5).unwrap(), b"\0\0\0x\0");
     }
 
     #[test]
     fn a_file_that_is_open_outlives_its_name() {
         let mut volume = volume();
-        let (file, _) = volume.create(1, b"a", 0o644, READ_AND_WRITE).unwrap();
+        let (file, _) = volume.create(1, b"a", 0o644).unwrap();
         volume.write(file, 0, b"abc").unwrap();
         volume.unlink(1, b"a", Kind::File).unwrap();
         assert_eq!(volume.lookup(1, b"a"), Err(Errno::ENOENT));
@@ -360,8 +489,8 @@ mod tests {
     #[test]
     fn a_file_that_is_replaced_while_it_is_open_does_too() {
         let mut volume = volume();
-        let (old, _) = volume.create(1, b"a", 0o644, READ_AND_WRITE).unwrap();
-        let (new, _) = volume.create(1, b"b", 0o644, READ_AND_WRITE).unwrap();
+        let (old, _) = volume.create(1, b"a", 0o644).unwrap();
+        let (new, _) = volume.create(1, b"b", 0o644).unwrap();
         assert_eq!(volume.rename(1, b"b", 1, b"a", false), Err(Errno::EEXIST));
         volume.rename(1, b"b", 1, b"a", true).unwrap();
         assert_eq!(volume.lookup(1, b"a").unwrap().0, new);
@@ -372,9 +501,32 @@ mod tests {
     }
 
     #[test]
+    fn bytes_are_kept_while_a_lease_is() {
+        let mut volume = volume();
+        let (file, _) = volume.create(1, b"a", 0o644).unwrap();
+        volume.close_file(file).unwrap();
+        volume.sync().unwrap();
+        assert_eq!(volume.open(file, 0), Ok(false));
+        (0..3).for_each(|_| assert!(volume.read(file, 0, 9).unwrap().is_empty()));
+        // The lease came meanwhile, so bytes from before it may be there.
+        assert_eq!(volume.open(file, 0), Ok(false));
+        assert_eq!(volume.open(file, 0), Ok(true));
+        volume.session.give_up(file).unwrap();
+        assert_eq!(volume.open(file, 0), Ok(false));
+        assert!(volume.read(file, 0, 9).unwrap().is_empty());
+        assert_eq!(volume.open(file, 0), Ok(false));
+        // A long read takes one at once.
+        let (file, _) = volume.make(1, b"b", Kind::File, 0o644).unwrap();
+        volume.sync().unwrap();
+        assert_eq!(volume.open(file, 0), Ok(false));
+        assert!(volume.read(file, 0, 65_536).unwrap().is_empty());
+        assert_eq!(volume.open(file, 0), Ok(true));
+    }
+
+    #[test]
     fn what_is_open_for_writing_stays_so() {
         let mut volume = volume();
-        let (file, shape) = volume.create(1, b"a", 0o444, READ_AND_WRITE).unwrap();
+        let (file, shape) = volume.create(1, b"a", 0o444).unwrap();
         assert_eq!(shape.header.mode, 0o444);
         volume.sync().unwrap();
         volume.write(file, 0, b"abc").unwrap();
@@ -392,7 +544,7 @@ mod tests {
         volume.sync().unwrap();
         assert_eq!(volume.read_link(link).unwrap(), b"../a");
         assert_eq!(volume.session.header(link).unwrap().size, LENGTH);
-        let (file, _) = volume.create(1, b"a", 0o644, READ_AND_WRITE).unwrap();
+        let (file, _) = volume.create(1, b"a", 0o644).unwrap();
         volume.write(file, 0, &[b' '; LENGTH as usize]).unwrap();
         assert_eq!(volume.read_link(file), Err(Errno::EINVAL));
         assert_eq!(volume.make_link(1, b"m", &[b'x'; 1025]).unwrap_err(), Errno::ENAMETOOLONG);
@@ -401,7 +553,7 @@ mod tests {
     #[test]
     fn what_is_not_there_is_refused() {
         let mut volume = volume();
-        let (file, _) = volume.create(1, b"a", 0o644, 0).unwrap();
+        let (file, _) = volume.create(1, b"a", 0o644).unwrap();
         let owner = Attributes { uid: Some(1), ..Attributes::default() };
         assert_eq!(volume.set_attributes(file, &owner), Err(Errno::EPERM));
         let as_owner = Attributes { mode: Some(0o4755), ..Attributes::default() };

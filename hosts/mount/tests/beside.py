@@ -15,8 +15,8 @@ DEPTH = 4
 class Both:
     """Two folders, and the names that are given in them."""
 
-    def __init__(self, folders, names, chance):
-        self.folders, self.names, self.chance = folders, names, chance
+    def __init__(self, folders, names, modes, chance):
+        self.folders, self.names, self.modes, self.chance = folders, names, modes, chance
         self.known = [""]
 
     def look(self):
@@ -70,7 +70,7 @@ def some_call(both):
     """A random call: what it is, and the function that makes it in a folder."""
     chance = both.chance
     one, other = both.path(), both.path()
-    mode = chance.choice(MODES if chance.random() < 0.1 else OPEN_MODES)
+    mode = chance.choice(both.modes if chance.random() < 0.1 else OPEN_MODES)
     target = "/".join(chance.choice(both.names) for _ in range(chance.choice([1, 1, 2])))
     data, place = chance.randbytes(chance.choice([0, 1, 10, 100, 5000, 70000])), chance.choice([0, 1, 50, 4096, 9000, 100_000])
     flags = chance.choice(FLAGS) | chance.choice([0, 0, os.O_CREAT, os.O_CREAT, os.O_CREAT | os.O_EXCL]) | chance.choice([0, 0, os.O_TRUNC])
@@ -103,9 +103,9 @@ def sync(path):
         os.close(it)
 
 
-def compare(one, other, count, names):
+def compare(one, other, count, seed, names=NAMES, modes=MODES):
     """Makes so many calls in both folders."""
-    both = Both((one, other), names, random.Random(int(os.environ.get("RANDOM_SEED", "1"))))
+    both = Both((one, other), names, modes, random.Random(seed))
     done = 0
     for at in range(count):
         if at % 20 == 0:

@@ -1,14 +1,11 @@
 """kfs-mount, tried with real programs and with random calls, each beside a tmpfs.
 
 Its server is in memory (`Memory` of kfs-client), or the program `kfs`. It needs /dev/fuse and root; what is called runs as another
-user. RANDOM_CALLS says how many random calls are made.
+user. RANDOM_CALLS and RANDOM_SEED say how many random calls are made, and which.
 """
 import contextlib
-import hashlib
 import os
-import re
 import signal
-import stat
 import struct
 import subprocess
 import sys
@@ -18,24 +15,21 @@ import traceback
 
 import beside
 from clients import kfs_program
-from running import Daemon, user
+from programs import Due, differences, snapshot
+from running import Daemon, children_of, user
 
 HERE = os.path.dirname(os.path.realpath(__file__))
 TOP = os.path.dirname(os.path.dirname(os.path.dirname(HERE)))
 CRATE, OUT, REGISTRY = f"{TOP}/hosts/mount", f"{TOP}/hosts/client/out", "/usr/share/cargo/registry"
+# KFS_MOUNT names another build.
+MOUNT = os.environ.get("KFS_MOUNT", f"{OUT}/debug/kfs-mount")
 USER = 1000
 SOON = 30
-# What git writes that tells times, numbers of nodes, where the folder is, and that there are no symbolic links.
-UNLIKE = re.compile(r"/\.git/(index|config|logs/.*)")
-GIT = {f"GIT_{who}_{what}": value for who in ("AUTHOR", "COMMITTER") for what, value in (("NAME", "a"), ("EMAIL", "a@b"), ("DATE", "@0 +0000"))}
-PROGRAMS = [
-    ("git", "git init -q -b main r && cd r && for i in $(seq 60); do echo $i > f$i; done && ln -s f3 l3 && git add . && git commit -qm one && git rm -q f7 && git commit -qm two && git -c gc.auto=0 fsck --strict && git gc -q && git fsck && cd .. && git clone -q r r2 && cd r2 && git fsck && git log --format=%s"),
-    ("sqlite3", "sqlite3 t.db 'create table t(a, b); with recursive c(x) as (select 1 union all select x + 1 from c where x < 3000) insert into t select x, x * 7 from c; delete from t where a % 3 = 0; pragma integrity_check; select count(*) from t'"),
-    ("sqlite3", "sqlite3 w.db 'create table t(a); pragma journal_mode = wal; insert into t values (1), (2); begin; insert into t values (3); rollback; select count(*) from t; pragma integrity_check'"),
-    ("make", r"""mkdir p && cd p && for i in 1 2 3 4; do echo "int f$i(int x){return x*$i;}" > f$i.c; done && echo 'int f1(int);int f2(int);int f3(int);int f4(int);int main(void){return f1(f2(f3(f4(1))));}' > main.c && printf 'p: main.o f1.o f2.o f3.o f4.o\n\tcc -o p $^\n' > Makefile && make -s && { ./p; echo $?; } && make -q && echo done"""),
-    ("tar", "mkdir s && for d in $(seq 20); do mkdir -m 750 s/$d && for f in $(seq 50); do seq $((d * f)) > s/$d/$f; done; done && chmod 400 s/3/4 && ln s/1/1 s/2/one && ln -s ../1/2 s/2/two && ln -s nowhere s/3/none && tar cf s.tar --sort=name --mtime=@0 s && mkdir t && tar xf s.tar -C t && diff -r --no-dereference s t/s && cp -a s u && diff -r --no-dereference s u && rm -rf s && find u -type f | wc -l"),
-    ("python3", "mkdir m && for i in $(seq 30); do echo \"def f(): return $i\" > m/m$i.py; done && python3 -m compileall -q --invalidation-mode checked-hash m && python3 -c 'import m.m7; print(m.m7.f())'"),
-]
+RANDOM_CALLS, RANDOM_SEED = (int(os.environ.get(name, value)) for name, value in (("RANDOM_CALLS", "10000"), ("RANDOM_SEED", "1")))
+# How many files each user puts into the folder of all, and the seconds between kills, and behind which all is seen by all.
+SHARED, BETWEEN_KILLS, SEEN_AFTER = 20, 4, 7
+# What is tried beside a hostile client, and its pauses in milliseconds.
+BESIDE_HOSTILE, HOSTILE_PAUSE = ("git", "sqlite3", "make", "python3"), 10
 
 
 def cargo(command, *rest):
@@ -54,7 +48,7 @@ def mounted(*words, uid=USER):
         os.chmod(room, 0o755)
         folder = f"{room}/at"
         os.mkdir(folder)
-        process = subprocess.Popen([f"{OUT}/debug/kfs-mount", folder, "--uid", str(uid), "--gid", str(uid), "--allow-other", *words], stdout=subprocess.PIPE, text=True)
+        process = subprocess.Popen([MOUNT, folder, "--uid", str(uid), "--gid", str(uid), "--allow-other", *words], stdout=subprocess.PIPE, text=True)
         try:
             assert process.stdout.readline() == "mounted\n"
             yield folder
@@ -63,6 +57,11 @@ def mounted(*words, uid=USER):
             status = process.wait(SOON)
             process.stdout.close()
         assert status == 0, status
+
+
+def unmount(folder):
+    """Takes away a mount whose process was killed."""
+    subprocess.run(["umount", "--lazy", folder], check=True)
 
 
 @contextlib.contextmanager
@@ -74,25 +73,6 @@ def tmpfs():
         os.mkdir(folder)
         os.chmod(folder, 0o777)
         yield folder
-
-
-def snapshot(folder):
-    """What stands in a folder: of each path its kind, mode, links and bytes."""
-    found = {}
-    for path, names, files in os.walk(folder):
-        for name in names + files:
-            whole = f"{path}/{name}"
-            header = os.lstat(whole)
-            short = whole.removeprefix(folder)
-            if stat.S_ISDIR(header.st_mode):
-                found[short] = (oct(header.st_mode), header.st_uid, header.st_gid)
-            elif stat.S_ISLNK(header.st_mode):
-                found[short] = (oct(header.st_mode), header.st_uid, header.st_gid, header.st_nlink, os.readlink(whole))
-            elif not UNLIKE.search(short):
-                with open(whole, "rb") as it:
-                    digest = hashlib.sha256(it.read()).hexdigest()
-                found[short] = (oct(header.st_mode), header.st_uid, header.st_gid, header.st_nlink, header.st_size, digest)
-    return found
 
 
 def in_child(function, *words, user=None):
@@ -113,6 +93,13 @@ def in_child(function, *words, user=None):
         traceback.print_exc(file=sys.stdout)
     sys.stdout.flush()
     os._exit(status)
+
+
+def wait_if_ended(child):
+    """Whether a process has ended by now, which must be well."""
+    found, status = os.waitpid(child, os.WNOHANG)
+    assert status == 0, f"a user's process has ended with status {os.waitstatus_to_exitcode(status)}"
+    return found != 0
 
 
 def wait(child):
@@ -144,26 +131,14 @@ def a_mount(_made):
 
 def real_programs(_made):
     """Programs say and leave on a mount what they do on a tmpfs."""
-    for name, script in PROGRAMS if can_mount() else []:
-        if subprocess.run(["which", name], check=False, capture_output=True).returncode:
-            print(f"    {name} isn't there: left out")
-            continue
-        began = time.monotonic()
-        with tmpfs() as other, mounted() as folder:
-            due, found = run_as_owner(other, script), run_as_owner(folder, script)
-            assert found[0] == due[0], (name, found[0], due[0])
-            differ = {path: (found[1].get(path), due[1].get(path)) for path in found[1].keys() | due[1].keys() if found[1].get(path) != due[1].get(path)}
-            assert not differ, (name, dict(list(differ.items())[:5]))
-        print(f"    {name}: {len(due[1])} paths alike ({time.monotonic() - began:.1f} s)")
-
-
-def run_as_owner(folder, script, user=USER):
-    """A script in a folder that the user has made: what it says and leaves."""
-    home = f"{folder}/work-{user}"
-    words = ["bash", "-ec", f"mkdir {home} && cd {home} && {{ {script}; }}"]
-    ran = subprocess.run(words, cwd="/", env={**os.environ, **GIT, "HOME": "/nonexistent"}, user=user, group=user, extra_groups=[], umask=0o022, capture_output=True, text=True, timeout=600)
-    assert ran.returncode == 0, ran.stderr[-2000:] + ran.stdout[-2000:]
-    return ran.stdout.replace(home, "."), snapshot(home)
+    if not can_mount():
+        return
+    with Due() as due:
+        for at, (name, script) in enumerate(due.programs):
+            began = time.monotonic()
+            with mounted() as folder:
+                count = due.compare(f"{folder}/work", script, USER)
+            print(f"    {at} {name}: {count} paths alike ({time.monotonic() - began:.1f} s)", flush=True)
 
 
 def has_look_ups(daemon):
@@ -184,51 +159,119 @@ def share(folder, user, count):
         os.rename(f"{path}.part", path)
 
 
-def as_programs(folder, user):
-    """What a user does: all programs, beside a tmpfs, and files in the folder of all."""
-    for name, script in PROGRAMS:
-        if subprocess.run(["which", name], check=False, capture_output=True).returncode:
-            continue
-        with tmpfs() as other:
-            due = run_as_owner(other, script, user)
-        found = run_as_owner(folder, script, user)
-        assert found == due, (name, found[0], due[0])
-        # The next one begins anew.
-        os.rename(f"{folder}/work-{user}", f"{folder}/done-{user}-{time.monotonic_ns()}")
-    as_user(share, folder, user, 20, user=user)
+def as_programs(due, folder, user):
+    """What a user does: all programs, each compared with a tmpfs, and files in the folder of all."""
+    for at, (name, script) in enumerate(due.programs):
+        began = time.monotonic()
+        count = due.compare(f"{folder}/{user}-{at}", script, user)
+        print(f"    {user}, {at} {name}: {count} paths alike ({time.monotonic() - began:.1f} s)", flush=True)
+    as_user(share, folder, user, SHARED, user=user)
+
+
+def mounted_for(daemon, it):
+    """The folder at which a user of a daemon has its mount."""
+    return mounted("--socket", f"{daemon.room}/socket", "--client", str(it["client"]), uid=it["uid"])
+
+
+def make_shared(folder):
+    """Makes a folder that all may write to, and is kept."""
+    os.mkdir(f"{folder}/shared")
+    os.chmod(f"{folder}/shared", 0o777)
+    beside.sync(f"{folder}/shared")
+
+
+def kill_daemon(daemon):
+    """Kills kfsd and kfs_serve at once."""
+    children = children_of(daemon.process.pid)
+    daemon.process.kill()
+    for held in children:
+        with contextlib.suppress(ProcessLookupError):
+            signal.pidfd_send_signal(held, signal.SIGKILL)
+        os.close(held)
+    daemon.process.wait()
+
+
+def are_shared(folder, users):
+    """Looks whether the folder of all has what all have put there."""
+    found = {}
+    for name in os.listdir(f"{folder}/shared"):
+        with open(f"{folder}/shared/{name}", "rb") as it:
+            found[name] = it.read()
+    assert found == {f"{it['uid']}-{index}": b"%d %d\n" % (it["uid"], index) * index for it in users for index in range(SHARED)}
 
 
 def three_users(made):
-    """Three users at once, each with a mount through kfsd: each sees what all have made, and kfs_serve is killed meanwhile."""
+    """Three users at once, each with a mount through kfsd: their programs do what they do on a tmpfs, and each sees what all have
+    made, while kfs_serve and kfsd are killed, and behind that."""
     if not can_mount():
         return
     users = [user(USER + at, 7 + at, (2 + at * 20_000, 1 + (at + 1) * 20_000)) for at in range(3)]
-    with Daemon(*made, users=users, tiers=(16_384, 16, 16)).start() as daemon, contextlib.ExitStack() as stack:
+    with Due() as due, Daemon(*made, users=users, tiers=(65_536, 16, 16)).start() as daemon:
         if not has_look_ups(daemon):
             print("    kfs_serve has no look-ups: left out")
             return
-        words = [("--socket", f"{daemon.room}/socket", "--client", str(it["client"])) for it in users]
-        folders = [stack.enter_context(mounted(*each, uid=it["uid"])) for each, it in zip(words, users)]
-        os.mkdir(f"{folders[0]}/shared")
-        os.chmod(f"{folders[0]}/shared", 0o777)
-        it = os.open(f"{folders[0]}/shared", os.O_RDONLY)
-        os.fsync(it)
-        os.close(it)
-        began = time.monotonic()
-        children = [in_child(as_programs, folder, it["uid"]) for folder, it in zip(folders, users)]
-        for _ in range(3):
-            time.sleep(1)
-            daemon.kill_desk()
-        assert [wait(child) for child in children] == [0, 0, 0]
-        due = {f"{it['uid']}-{index}": b"%d %d\n" % (it["uid"], index) * index for it in users for index in range(20)}
-        for folder in folders:
-            time.sleep(6)
-            found = {}
-            for name in os.listdir(f"{folder}/shared"):
-                with open(f"{folder}/shared/{name}", "rb") as it:
-                    found[name] = it.read()
-            assert found == due
-        print(f"    three users ({time.monotonic() - began:.1f} s)")
+        began, kills = time.monotonic(), 0
+        with contextlib.ExitStack() as stack:
+            folders = [stack.enter_context(mounted_for(daemon, it)) for it in users]
+            make_shared(folders[0])
+            children = {in_child(as_programs, due, folder, it["uid"]) for folder, it in zip(folders, users)}
+            while children:
+                time.sleep(BETWEEN_KILLS)
+                ended = {child for child in children if wait_if_ended(child)}
+                children -= ended
+                kills += 1
+                if kills % 2:
+                    daemon.kill_desk()
+                else:
+                    kill_daemon(daemon)
+                    daemon.start()
+            time.sleep(SEEN_AFTER)
+            for folder in folders:
+                are_shared(folder, users)
+            due_trees = [snapshot(folder) for folder in folders]
+        kill_daemon(daemon)
+        daemon.start()
+        with contextlib.ExitStack() as stack:
+            for it, due_tree in zip(users, due_trees):
+                differ = differences(snapshot(stack.enter_context(mounted_for(daemon, it))), due_tree)
+                assert not differ, (it["uid"], len(differ), list(differ.items())[:5])
+        print(f"    three users, {kills} kills, {len(due_trees[0])} paths ({time.monotonic() - began:.1f} s)")
+
+
+def beside_a_hostile_client(made):
+    """Two users' programs do what they do on a tmpfs, beside a client that takes leases on all and hands in what is wrong."""
+    if not can_mount():
+        return
+    users = [user(0, 6, (2, 2)), *(user(USER + at, 7 + at, (100 + at * 20_000, 99 + (at + 1) * 20_000)) for at in range(3))]
+    duties = {"lease_seconds": 4, "wanted_seconds": 1}
+    with Due() as due, Daemon(*made, users=users, tiers=(65_536, 16, 16), duties=duties).start() as daemon:
+        if not has_look_ups(daemon):
+            return
+        with mounted_for(daemon, users[0]) as folder:
+            os.chmod(folder, 0o1777)
+        due.programs = [each for each in due.programs if each[0] in BESIDE_HOSTILE]
+        with contextlib.ExitStack() as stack:
+            honest = users[1:3]
+            folders = [stack.enter_context(mounted_for(daemon, it)) for it in honest]
+            os.mkdir(f"{folders[0]}/shared")
+            os.chmod(f"{folders[0]}/shared", 0o1777)
+            beside.sync(f"{folders[0]}/shared")
+            words = [f"{os.path.dirname(MOUNT)}/examples/hostile", f"{daemon.room}/socket", str(users[3]["client"]), str(HOSTILE_PAUSE)]
+            hostile = subprocess.Popen(words, user=users[3]["uid"], group=users[3]["uid"], extra_groups=[], stdin=subprocess.PIPE, stdout=subprocess.PIPE, text=True)
+            children = [in_child(as_programs, due, folder, it["uid"]) for folder, it in zip(folders, honest)]
+            assert [wait(child) for child in children] == [0, 0]
+            said, _ = hostile.communicate(timeout=SOON)
+            print(said, end="")
+            assert hostile.returncode == 0, hostile.returncode
+            time.sleep(SEEN_AFTER)
+            for folder in folders:
+                are_shared(folder, honest)
+
+
+def compare_calls(folder, other, count, seed, *more):
+    """Random calls on a mount and on a tmpfs, and the trees that they leave."""
+    as_user(beside.compare, folder, other, count, seed, *more)
+    assert snapshot(folder) == snapshot(other)
 
 
 def random_calls(_made):
@@ -237,10 +280,18 @@ def random_calls(_made):
     for words in servers:
         # No line of the program can say a path with a space.
         names = [name for name in beside.NAMES if not words or " " not in name]
-        count = int(os.environ.get("RANDOM_CALLS", "10000"))
         with tmpfs() as other, mounted(*words) as folder:
-            as_user(beside.compare, folder, other, count, names)
-            assert snapshot(folder) == snapshot(other)
+            compare_calls(folder, other, RANDOM_CALLS, RANDOM_SEED, names)
 
 
-TESTS = [a_mount, real_programs, random_calls, three_users]
+def random_calls_through_kfsd(made, count=RANDOM_CALLS, seed=RANDOM_SEED):
+    """They have also through kfsd."""
+    users = [user(USER, 7, (2, 65_000))]
+    with Daemon(*made, users=users, tiers=(65_536, 16, 16)).start() as daemon:
+        if can_mount() and has_look_ups(daemon):
+            with tmpfs() as other, mounted_for(daemon, users[0]) as folder:
+                # Of a directory that its client can't read nobody tells whether it is empty.
+                compare_calls(folder, other, count, seed, beside.NAMES, [mode for mode in beside.MODES if mode & 0o400])
+
+
+TESTS = [a_mount, real_programs, random_calls, random_calls_through_kfsd, three_users, beside_a_hostile_client]
