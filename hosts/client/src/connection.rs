@@ -65,6 +65,9 @@ pub enum Unconnected {
     /// The user has as many connections as it may.
     #[error("this user has too many connections")]
     TooMany,
+    /// The user is listed, and the desk was made without it.
+    #[error("the desk has no client for this user")]
+    NoClient,
     /// The user is another client, or has another grant by now.
     #[error("this user is another client")]
     Another,
@@ -193,6 +196,7 @@ impl Connection {
             Some(Reply::Welcome(..) | Reply::Refused(5)) => return Err(Unconnected::Another),
             Some(Reply::Refused(130)) => return Err(Unconnected::Unlisted),
             Some(Reply::Refused(131)) => return Err(Unconnected::TooMany),
+            Some(Reply::Refused(136)) => return Err(Unconnected::NoClient),
             _ => return Err(Unconnected::Nonsense),
         };
         self.clock = match exchange(&mut stream, self.number, self.client, &[MOMENT])? {
@@ -319,7 +323,7 @@ fn exchange(stream: &mut UnixStream, number: u32, client: u32, body: &[u8]) -> i
     // Where kfsd refuses the connection it has said so before it closed: that can be read still.
     let sent = stream.write_all(&frame(number, client, body));
     let reply = receive(stream, number)?;
-    if !matches!(reply, Some(Reply::Refused(130 | 131))) {
+    if !matches!(reply, Some(Reply::Refused(130 | 131 | 136))) {
         sent?;
     }
     Ok(reply)
@@ -337,7 +341,7 @@ fn receive(stream: &mut UnixStream, number: u32) -> io::Result<Option<Reply>> {
     let mut said = vec![0; length as usize];
     stream.read_exact(&mut said)?;
     let reply = reply_of(&said);
-    if replied != number && !matches!(reply, Some(Reply::Refused(130 | 131))) {
+    if replied != number && !matches!(reply, Some(Reply::Refused(130 | 131 | 136))) {
         return Err(io::Error::new(io::ErrorKind::InvalidData, format!("the reply to frame {replied}, and not {number}")));
     }
     Ok(reply)
