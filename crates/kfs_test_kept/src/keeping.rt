@@ -16,7 +16,7 @@ use std::thread::Threads;
 pub const AMPLE: u64 = 1 << 40;
 
 /// How many rows a docket has room for.
-const LIMIT: u32 = 100;
+pub const LIMIT: u32 = 100;
 
 /// How many bytes a step of a checkpoint writes.
 const MOST: usize = 32;
@@ -25,7 +25,7 @@ const MOST: usize = 32;
 pub type Heap<'a> = &'a Refusing<Global>;
 
 /// A journal's file: no group behind a state. It has client 7, who may make files 2 to 99, and an image with the root alone.
-const FILE: &[u8] = b"KDJL\0\0\0\0\0\0\0\0\x01\0\0\0\0\0\0\0\x61\
+pub const FILE: &[u8] = b"KDJL\0\0\0\0\0\0\0\0\x01\0\0\0\0\0\0\0\x61\
     KDSK\x01\0\0\0\0\0\0\0\0\0\0\0\x01\0\0\0\0\
     \0\0\0\x07\0\0\x03\xe8\0\0\x03\xe8\0\0\0\0\x02\0\0\0\x63\0\
     KIMG\x01\0\0\0\x08\0\0\0\x08\0\0\0\x08\0\0\0\x01\0\0\0\0\0\0\0\0\

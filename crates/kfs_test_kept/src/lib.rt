@@ -13,6 +13,8 @@ mod crashes;
 #[cfg(test)]
 mod due;
 #[cfg(test)]
+mod early;
+#[cfg(test)]
 mod journal;
 #[cfg(test)]
 mod keeping;
