@@ -8,7 +8,7 @@ use Rattle.std.proofs.lemmas.Nat.{le_or_l, le_or_r}
 use Rattle.std.specs.Prelude.{IsErr, slice_index, slice_set}
 use Rattle.hex.specs.declared.error.FromHexError.{FromHexError}
 use Rattle.hex.specs.Hex.{decode_pairs, hex_digit_value, pair_value}
-use Rattle.hex.proofs.Pairs.{prepend, decode_err, decode_start, decode_step}
+use Rattle.hex.proofs.Pairs.{prepend, decode_err, decode_step}
 use Rattle.kfs_model.proofs.Tape.{below_or_not}
 use Rattle.kfs_program_text.specs.declared.digits.TheConstants.{HIGH, LOW}
 use Rattle.kfs_program_text.specs.Digits.{scaled}
@@ -85,22 +85,19 @@ bad_pair word out i fits bad so_far = at (pair_value (slice_index word (2 * i)) 
 -- ---- pairs read so far
 
 -- the first `count` pairs are read: their bytes stand in `out`, or a pair isn't of digits
-abbrev pub AreRead : (word out : List ℕ) (count all : ℕ) → Type 0
-AreRead word out count all =
+abbrev pub ArePairsRead : (word out : List ℕ) (count all : ℕ) → Type 0
+ArePairsRead word out count all =
     (all < 256 → decode_pairs 0 word ≡ prepend (take count out) (decode_pairs (2 * count) (drop (2 * count) word)))
     × (256 ≤ all → IsErr (decode_pairs 0 word))
 
-pub none_read : (word out : List ℕ) → AreRead word out 0 0
-none_read word out = ((λ small. decode_start word out), (λ large. absurd (omega (arith, large))))
-
-pub one_read : (word out after : List ℕ) (i next all byte : ℕ)
+pub one_more_pair : (word out after : List ℕ) (i next all byte : ℕ)
     → length word ≡ 2 * length out → i < length out → next ≡ i + 1 → after ≡ slice_set out i (byte % 256)
     → (byte < 256 → (k : ℕ) → pair_value (slice_index word (2 * i)) (slice_index word (2 * i + 1)) k ≡ Ok byte)
     → (256 ≤ byte → (k : ℕ) → IsErr (pair_value (slice_index word (2 * i)) (slice_index word (2 * i + 1)) k))
-    → AreRead word out i all
-    → AreRead word after next (bit_or all byte)
-one_read word out after i next all byte pairs below follows put good bad so_far =
-    subst (λ (o : List ℕ). AreRead word o next (bit_or all byte)) (sym put) (subst (λ (n : ℕ). AreRead word (slice_set out i (byte % 256)) n (bit_or all byte)) (sym follows) read)
+    → ArePairsRead word out i all
+    → ArePairsRead word after next (bit_or all byte)
+one_more_pair word out after i next all byte pairs below follows put good bad so_far =
+    subst (λ (o : List ℕ). ArePairsRead word o next (bit_or all byte)) (sym put) (subst (λ (n : ℕ). ArePairsRead word (slice_set out i (byte % 256)) n (bit_or all byte)) (sym follows) read)
   where
     yes : bit_or all byte < 256 → decode_pairs 0 word ≡ prepend (take (i + 1) (slice_set out i (byte % 256))) (decode_pairs (2 * (i + 1)) (drop (2 * (i + 1)) word))
     yes small =
@@ -109,6 +106,7 @@ one_read word out after i next all byte pairs below follows put good bad so_far 
         let fits : byte < 256 = omega (arith, this, small) in
         let same : byte ≡ byte % 256 = omega (arith, fits) in
         decode_step word out i (byte % 256) (omega (arith, pairs, below)) below (good fits (2 * i) ∙ ap Ok same) (so_far.0 (omega (arith, before, small)))
+
     no : 256 ≤ bit_or all byte → IsErr (decode_pairs 0 word)
     no large =
         ⊎_elim so_far.1
@@ -117,5 +115,6 @@ one_read word out after i next all byte pairs below follows put good bad so_far 
         so_far.1
         (below_or_not all 256))
         (one_large all byte large)
-    read : AreRead word (slice_set out i (byte % 256)) (i + 1) (bit_or all byte)
+
+    read : ArePairsRead word (slice_set out i (byte % 256)) (i + 1) (bit_or all byte)
     read = (yes, no)
