@@ -1,5 +1,5 @@
 //! Bytes in hexadecimal.
-ghost use Rattle.std.specs.Prelude.{◌≡◌, ◌≤◌, ◌<◌, ◌*◌, ℕ, length, Ok, IsErr, IsTrue, IsFalse};
+ghost use Rattle.std.specs.Prelude.{◌≡◌, ◌≤◌, ◌<◌, ◌+◌, ◌*◌, ◌%◌, ℕ, length, slice_index, slice_set, Ok, IsErr, IsTrue, IsFalse};
 ghost use Rattle.hex.specs.Hex.{decode_pairs, hex_digit_value, pair_value};
 ghost use Rattle.kfs_program_text.specs.Digits.{scaled};
 
@@ -69,6 +69,23 @@ fn low_value(digit: u8) -> u16
     LOW[digit as usize]
 }
 
+/// How many pairs are read in one turn of a loop, so that the loop's own steps are shared.
+const AT_ONCE: usize = 8;
+
+/// Puts the byte of the pair with this index into the slice, and answers the pair's byte as `pair` does.
+/// What is put for a pair that isn't of digits doesn't matter.
+fn put_byte(digits: &[u8], out: &mut [u8], index: usize) -> u16
+    requires pairs { length digits.now ≡ 2 * length out.old }
+    requires index { index < length out.old }
+    ensures byte { result < 256 → (i : ℕ) → pair_value (slice_index digits.now (2 * index)) (slice_index digits.now (2 * index + 1)) i ≡ Ok result }
+    ensures none { 256 ≤ result → (i : ℕ) → IsErr (pair_value (slice_index digits.now (2 * index)) (slice_index digits.now (2 * index + 1)) i) }
+    ensures out { out.new ≡ slice_set out.old index (result % 256) }
+{
+    let byte = pair(digits[2 * index], digits[2 * index + 1]);
+    out[index] = (byte % 256) as u8;
+    byte
+}
+
 /// Puts the bytes that the digits stand for into the slice. Answers whether all are digits; where not,
 /// what the slice holds doesn't matter. Condition: there are two digits for each byte.
 ///
@@ -79,10 +96,17 @@ pub(crate) fn decode_into(digits: &[u8], out: &mut [u8]) -> bool
     ensures no { IsFalse result → IsErr (decode_pairs 0 digits.now) }
 {
     let mut all = 0;
-    'bytes: for i in 0..out.len() {
-        let byte = pair(digits[2 * i], digits[2 * i + 1]);
+    let mut done = 0;
+    'turns: while out.len() - done >= AT_ONCE {
+        'turn: for place in 0..AT_ONCE {
+            let byte = put_byte(digits, out, done + place);
+            all |= byte;
+        }
+        done += AT_ONCE;
+    }
+    'rest: for index in done..out.len() {
+        let byte = put_byte(digits, out, index);
         all |= byte;
-        out[i] = (byte % 256) as u8;
     }
     all < 256
 }

@@ -1,10 +1,21 @@
-use Rattle.std.proofs.Common.{◌≡◌, ◌*◌, ◌<◌, ◌≤◌, take, drop}
-use Rattle.std.specs.Prelude.{IsErr}
-use Rattle.hex.specs.Hex.{decode_pairs}
-use Rattle.hex.proofs.Pairs.{prepend}
+use Rattle.std.proofs.Common.{◌+◌, ◌-◌, ◌≤◌, length}
+use Rattle.kfs_program_text.proofs.Hexadecimals.{ArePairsRead}
 use Rattle.kfs_program_text.proofs.digits.decode_into.Given as goal
 
-abbrev pub invariant-bytes : goal.invariant-bytes
-invariant-bytes l =
-    (l.all < 256 → decode_pairs 0 l.digits ≡ prepend (take l.i l.out) (decode_pairs (2 * l.i) (drop (2 * l.i) l.digits)))
-    × (256 ≤ l.all → IsErr (decode_pairs 0 l.digits))
+abbrev pub invariant-turns : goal.invariant-turns
+invariant-turns l = record {
+  within : l.done ≤ length l.out;
+  read : ArePairsRead l.digits l.out l.done l.all;
+}
+
+abbrev pub decreases-turns : goal.decreases-turns
+decreases-turns l = length l.out - l.done
+
+abbrev pub invariant-turn : goal.invariant-turn
+invariant-turn l = record {
+  room : l.done + 8 ≤ length l.out;
+  read : ArePairsRead l.digits l.out (l.done + l.place) l.all;
+}
+
+abbrev pub invariant-rest : goal.invariant-rest
+invariant-rest l = ArePairsRead l.digits l.out l.index l.all
