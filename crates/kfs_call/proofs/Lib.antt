@@ -7,3 +7,4 @@ pub mod AnswerLaws
 pub mod StateLaws
 pub mod DecodedState
 pub mod OneStateAnswer
+pub mod Zips

@@ -9,4 +9,5 @@ pub mod AnswerReaders
 pub mod StateRows
 pub mod StateReaders
 pub mod StateViews
+pub mod Asking
 pub mod Examples

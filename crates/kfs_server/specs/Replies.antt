@@ -1,2 +1,3 @@
 pub mod Reply
 pub mod Views
+pub mod Refusals

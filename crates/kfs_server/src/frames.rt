@@ -1,9 +1,8 @@
 //! Frames from bytes that come in pieces.
 mod begun;
-mod frame;
 #[doc(hidden)]
 pub mod laws;
 mod reader;
 
-pub use self::frame::{BODY_LIMIT, BodyFault, FRONT, Incoming};
+pub use self::begun::BODY_LIMIT;
 pub use self::reader::FrameReader;

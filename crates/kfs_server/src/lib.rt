@@ -5,7 +5,6 @@
 //! docs/PROTOCOL.md has the layouts.
 #![tactic(auto)]
 
-mod asking;
 #[doc(hidden)]
 pub mod examples;
 mod frames;
@@ -14,7 +13,8 @@ mod put;
 mod replies;
 mod serving;
 
-pub use frames::{BODY_LIMIT, BodyFault, FRONT, FrameReader, Incoming};
+pub use frames::{BODY_LIMIT, FrameReader};
+pub use kfs_call::{BodyFault, FRONT, Incoming};
 pub use kfs_kept::Judges;
 pub use look_ups::{
     FOUND_HEAD_LIMIT, FOUND_LIMIT, Figures, Found, LookUp, TierFigures, found_tail, look_up_of,

@@ -1,26 +1,20 @@
 -- Frames that are read one after another.
-use Rattle.std.proofs.Common.{◌≡◌, ℕ, zero, suc, ◌+◌, ◌^◌, ◌<◌, List, [], ◌∷◌, ◌++◌, length, take, get_or, Option, Some, None, Result, refl, sym, ap, subst, ◌∙◌, append_assoc, append-nil, arith}
+use Rattle.std.proofs.Common.{◌≡◌, ℕ, suc, ◌+◌, ◌^◌, ◌<◌, List, [], ◌∷◌, ◌++◌, length, take, get_or, Option, Some, None, Result, refl, sym, ap, subst, ◌∙◌, append_assoc, append-nil, arith}
 use Rattle.std.specs.List.{flat_map, AllByRecursion, AllZip}
 use Rattle.std.proofs.lemmas.List.{take_more}
 use Rattle.std.proofs.lemmas.Grind.{flat_map-append}
+use Rattle.kfs_call.proofs.Zips.{zip_more}
 use Rattle.kfs_server.specs.Frames.Frame.{Frame, IsFrame, frame_bytes, head_bytes, stream_of}
 use Rattle.kfs_server.specs.Frames.Begun.{AreRead, AreReadTo, IsBody, IsFrameOf, IsHead, IsNextFrame, IsPending, whole_ones}
 use Rattle.std.specs.declared.vec.Vec.{Vec}
-use Rattle.kfs_server.specs.declared.frames.frame.BodyFault.{BodyFault}
-use Rattle.kfs_server.specs.declared.frames.frame.Incoming.{Incoming}
+use Rattle.kfs_call.specs.declared.frame.BodyFault.{BodyFault}
+use Rattle.kfs_call.specs.declared.frame.Incoming.{Incoming}
 use Rattle.kfs_server.specs.declared.frames.begun.Begun.{Begun}
 
 -- one more has it
 pub all_more : {X : Type 0} (P : X → Type 0) (xs : List X) (x : X) → AllByRecursion P xs → P x → AllByRecursion P (xs ++ x ∷ [])
 all_more P [] x all p = (p, tt)
 all_more P (y ∷ xs) x all p = (all.0, all_more P xs x all.1 p)
-
--- one more of each are so
-pub zip_more : {X Y : Type 0} (R : X → Y → Type 0) (xs : List X) (ys : List Y) (x : X) (y : Y) → AllZip R xs ys → R x y → AllZip R (xs ++ x ∷ []) (ys ++ y ∷ [])
-zip_more R [] [] x y all is = (is, tt)
-zip_more R [] (z ∷ ys) x y all is = absurd all
-zip_more R (z ∷ xs) [] x y all is = absurd all
-zip_more R (w ∷ xs) (z ∷ ys) x y all is = (all.0, zip_more R xs ys x y all.1 is)
 
 -- the next item of a list has it, too
 pub all_taken : {X : Type 0} (P : X → Type 0) (xs : List X) (i : ℕ) (x : X) → i < length xs → x ≡ get_or xs i x → AllByRecursion P (take i xs) → P x → AllByRecursion P (take (i + 1) xs)
@@ -32,18 +26,6 @@ pub all_first : {X : Type 0} (P : X → Type 0) (x : X) (xs : List X) (k : ℕ) 
 all_first {X} P x xs k one all =
     let more : suc k ≡ 1 + k = omega arith in
     subst (λ (n : ℕ). AllByRecursion P (take n (x ∷ xs))) more (one, all)
-
--- the item at a place has what all have
-pub all_at : {X : Type 0} (P : X → Type 0) (xs : List X) (i : ℕ) (d : X) → AllByRecursion P xs → i < length xs → P (get_or xs i d)
-all_at P [] i d all lt = absurd (omega (arith, lt))
-all_at P (x ∷ xs) zero d all lt = all.0
-all_at P (x ∷ xs) (suc i) d all lt = all_at P xs i d all.1 (omega (arith, lt))
-
--- so they are of one item of a list more
-pub zip_take : {X Y : Type 0} (R : X → Y → Type 0) (xs : List X) (ys : List Y) (i : ℕ) (x : X) (y : Y) → i < length xs → x ≡ get_or xs i x → AllZip R (take i xs) ys → R x y
-    → AllZip R (take (i + 1) xs) (ys ++ y ∷ [])
-zip_take {X} R xs ys i x y lt is all one =
-    subst (λ (zs : List X). AllZip R zs (ys ++ y ∷ [])) (ap (λ (z : X). take i xs ++ z ∷ []) is ∙ sym (take_more xs i x lt)) (zip_more R (take i xs) ys x y all one)
 
 module _ {A : Type 0} where
   -- a head and all of its body are a frame

@@ -13,7 +13,7 @@ use Rattle.kfs_server.specs.Serving.Machine.{Serves}
 use Rattle.kfs_server.specs.Serving.Standing.{StandForSome}
 use Rattle.kfs_server.proofs.ServingLemmas.Runs.{IsDecidedOf}
 use Rattle.kfs_server.proofs.ServingLemmas.Due.{replies_due}
-use Rattle.kfs_server.specs.declared.asking.Decided.{Decided}
+use Rattle.kfs_call.specs.declared.asking.Decided.{Decided}
 
 -- what a crash leaves where these files are there alone
 pub left_stand : (files : Files) (may_leave : Files → Type 0) (s : State) → Only files may_leave → StandFor files s → (c : Files) → may_leave c → StandFor c s

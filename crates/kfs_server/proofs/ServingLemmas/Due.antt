@@ -15,18 +15,20 @@ use Rattle.kfs_call_desk.specs.declared.made.Called.TheVariants.{Submitted, Acte
 use Rattle.kfs_call_desk.specs.declared.made.CallFault.{CallFault}
 use Rattle.kfs_call_desk.specs.declared.made.CallFault.TheVariants as faults
 use Rattle.kfs_kept.specs.Calls.Making.{Runs}
-use Rattle.kfs_server.specs.Asking.{IsDecided}
+use Rattle.kfs_server.specs.Asking.{IsBad}
 use Rattle.kfs_server.specs.Frames.Frame.{Frame}
+use Rattle.kfs_server.specs.Replies.Refusals.{refusal_for_body, refusal_for_fields}
+use Rattle.kfs_server.specs.Replies.Reply as spelled
 use Rattle.kfs_server.specs.Replies.Reply.{Refusal, BadField, Trailing, OutOfMemory, DocketFull, Reply, Answered, Refused}
 use Rattle.kfs_server.specs.Replies.Views.{refusal_shown}
 use Rattle.kfs_server.specs.Serving.Group.{call_in, calls_of}
 use Rattle.kfs_server.specs.LookUps.LookUp.{IsNoLookUp}
 use Rattle.kfs_server.proofs.LookUpsLemmas.Apart.{call_is_no_look_up}
 use Rattle.kfs_server.specs.Serving.Machine.{IsRefusedFor, Replies, Serves}
-use Rattle.kfs_server.proofs.ServingLemmas.Runs.{IsDecidedOf, same_call}
-use Rattle.kfs_server.specs.declared.asking.Decided.{Decided}
-use Rattle.kfs_server.specs.declared.asking.Decision.{Decision}
-use Rattle.kfs_server.specs.declared.asking.Decision.TheVariants.{Make, Refuse}
+use Rattle.kfs_server.proofs.ServingLemmas.Runs.{IsDecidedAs, IsDecidedOf, same_call}
+use Rattle.kfs_call.specs.declared.asking.Decided.{Decided}
+use Rattle.kfs_call.specs.declared.asking.Decision.{Decision}
+use Rattle.kfs_call.specs.declared.asking.Decision.TheVariants.{Make, NotKept, NoCall, NotYours}
 
 -- ---- what an answer says
 
@@ -87,7 +89,11 @@ pub record IsStepDue (desk last : Desk) (f : Frame) (calls : List (List ℕ)) : 
   pub replied : Replies desk f reply next
   pub runs : Runs next calls others last
 
-step_due : (desk last : Desk) (f : Frame) (what : Decision) (calls : List (List ℕ)) (answers : List (Result Called CallFault)) → IsDecided f what → Runs desk (call_in what ++ calls) answers last
+-- a frame that is refused
+refused_due : (desk last : Desk) (f : Frame) (refusal : Refusal) (calls : List (List ℕ)) (answers : List (Result Called CallFault)) → IsBad f refusal → Runs desk calls answers last → IsStepDue desk last f calls
+refused_due desk last f refusal calls answers bad runs = record { next = desk; reply = Refused refusal; others = answers; replied = (inl bad, refl); runs = runs }
+
+step_due : (desk last : Desk) (f : Frame) (what : Decision) (calls : List (List ℕ)) (answers : List (Result Called CallFault)) → IsDecidedAs f what → Runs desk (call_in what ++ calls) answers last
     → IsStepDue desk last f calls
 step_due desk last f (Make bytes) calls [] decided runs = absurd runs
 step_due desk last f (Make bytes) calls (Ok called ∷ answers) decided runs =
@@ -102,8 +108,9 @@ step_due desk last f (Make bytes) calls (Ok called ∷ answers) decided runs =
     }
 step_due desk last f (Make bytes) calls (Err fault ∷ answers) decided runs =
     record { next = desk; reply = Refused (refusal_due fault); others = answers; replied = (refusal_right desk f bytes.now fault decided.0 (subst IsNoLookUp (sym decided.2.spelled) (call_is_no_look_up decided.1)) runs.0, refl); runs = runs.1 }
-step_due desk last f (Refuse refusal) calls answers decided runs =
-    record { next = desk; reply = Refused (refusal_shown refusal); others = answers; replied = (inl decided, refl); runs = runs }
+step_due desk last f (NotKept fault) calls answers decided runs = refused_due desk last f (refusal_shown (refusal_for_body fault)) calls answers decided runs
+step_due desk last f (NoCall fault) calls answers decided runs = refused_due desk last f (refusal_shown (refusal_for_fields fault)) calls answers decided runs
+step_due desk last f NotYours calls answers decided runs = refused_due desk last f spelled.NotYours calls answers decided runs
 
 pub record IsDue (desk last : Desk) (frames : List Frame) : Type 0 where
   pub replies : List Reply

@@ -4,7 +4,7 @@ use Rattle.std.proofs.lemmas.List.{at_drop_more, drop_all}
 use Rattle.kfs_call_desk.specs.declared.made.Called.{Called}
 use Rattle.kfs_call_desk.specs.declared.made.CallFault.{CallFault}
 use Rattle.kfs_server.specs.Serving.Group.{AreReplies, IsReplied, call_in, calls_of}
-use Rattle.kfs_server.specs.declared.asking.Decided.{Decided}
+use Rattle.kfs_call.specs.declared.asking.Decided.{Decided}
 use Rattle.kfs_server.specs.declared.replies.reply.NumberedReply.{NumberedReply}
 
 -- the replies so far, of the decisions up to this one; these answers are left

@@ -8,7 +8,7 @@ use Rattle.kfs_kept.specs.declared.kept.Kept.{Kept}
 use Rattle.kfs_program_text.specs.Streams.{Writes}
 use Rattle.kfs_server.specs.Frames.Begun.{IsFrameOf}
 use Rattle.kfs_server.specs.Frames.Frame.{Frame}
-use Rattle.kfs_server.specs.declared.frames.frame.Incoming.{Incoming}
+use Rattle.kfs_call.specs.declared.frame.Incoming.{Incoming}
 use Rattle.kfs_server.specs.Serving.Onward.{IsServedOn}
 use Rattle.kfs_server.specs.Serving.Standing.{StandForSome}
 use Rattle.kfs_server.specs.Serving.Transcript.{IsServed, ServedAll, ServedSome}

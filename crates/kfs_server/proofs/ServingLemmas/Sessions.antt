@@ -13,7 +13,7 @@ use Rattle.kfs_server.specs.Frames.Frame.{Frame, IsFrame, Splits, frame_bytes, s
 use Rattle.kfs_server.proofs.FramesLemmas.OneCut.{nothing_partial, pending_partial}
 use Rattle.kfs_server.proofs.ServingLemmas.Crashes.{all_served, left_stand, none_served, unmoved}
 use Rattle.kfs_server.specs.declared.frames.begun.Begun.{Begun}
-use Rattle.kfs_server.specs.declared.frames.frame.Incoming.{Incoming}
+use Rattle.kfs_call.specs.declared.frame.Incoming.{Incoming}
 use Rattle.kfs_server.specs.Replies.Reply.{Reply, reply_bytes, text_of}
 use Rattle.kfs_server.specs.Replies.Views.{numbered_bytes, reply_shown}
 use Rattle.kfs_server.specs.Serving.Group.{AreServed}

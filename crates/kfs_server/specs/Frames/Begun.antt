@@ -3,9 +3,9 @@ use Rattle.std.specs.Prelude.{◌≡◌, ℕ, ◌^◌, ◌<◌, ◌≤◌, List,
 use Rattle.std.specs.List.{AllByRecursion, AllZip}
 use Rattle.std.specs.declared.vec.Vec.{Vec}
 use Rattle.kfs_server.specs.Frames.Frame.{Frame, IsFrame, frame_bytes, head_bytes, stream_of}
-use Rattle.kfs_server.specs.declared.frames.frame.BodyFault.{BodyFault}
-use Rattle.kfs_server.specs.declared.frames.frame.BodyFault.TheVariants.{TooLong, OutOfMemory}
-use Rattle.kfs_server.specs.declared.frames.frame.Incoming.{Incoming}
+use Rattle.kfs_call.specs.declared.frame.BodyFault.{BodyFault}
+use Rattle.kfs_call.specs.declared.frame.BodyFault.TheVariants.{TooLong, OutOfMemory}
+use Rattle.kfs_call.specs.declared.frame.Incoming.{Incoming}
 use Rattle.kfs_server.specs.declared.frames.begun.Begun.{Begun}
 use Rattle.kfs_server.specs.declared.frames.begun.Begun.TheVariants.{InHead, InBody}
 

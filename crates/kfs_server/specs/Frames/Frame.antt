@@ -9,10 +9,6 @@ pub record Frame : Type 0 where
   pub from : ℕ
   pub body : List ℕ
 
--- the front, in the place of a client
-abbrev pub front : ℕ
-front = 4294967295
-
 -- what stands before a body: its length, the number, and whom the frame comes from
 abbrev pub head_bytes : (len number from : ℕ) → List ℕ
 head_bytes len number from = number32 len ++ number32 number ++ number32 from

@@ -1,7 +1,8 @@
 -- Look-ups: what frames ask that make no call of a desk. Numbers are big-endian.
 use Rattle.std.specs.Prelude.{◌≡◌, ◌≢◌, ℕ, ◌^◌, ◌<◌, List, [], ◌++◌, Option, Some, None}
 use Rattle.kfs_model.specs.Spelling.{IsName, byte, number32, number64}
-use Rattle.kfs_server.specs.Frames.Frame.{Frame, front}
+use Rattle.kfs_call.specs.Asking.{front}
+use Rattle.kfs_server.specs.Frames.Frame.{Frame}
 
 pub data LookUp : Type 0 where
   -- the header of the node with this number

@@ -3,18 +3,18 @@ use Rattle.std.specs.Prelude.{◌≡◌, ℕ, List, [], ◌∷◌, map, Result, 
 use Rattle.std.specs.List.{AllZip, flat_map}
 use Rattle.kfs_desk.specs.Machine.{Desk}
 use Rattle.kfs_call.specs.AnswerViews.{answer_shown}
-use Rattle.kfs_call.specs.declared.fault.FieldFault.TheVariants as fields
 use Rattle.kfs_call_desk.specs.Told.{IsAnswer}
 use Rattle.kfs_call_desk.specs.declared.made.Called.{Called}
 use Rattle.kfs_call_desk.specs.declared.made.CallFault.{CallFault}
 use Rattle.kfs_call_desk.specs.declared.made.CallFault.TheVariants as faults
 use Rattle.kfs_server.specs.Frames.Frame.{Frame}
+use Rattle.kfs_server.specs.Replies.Refusals.{refusal_for_body, refusal_for_fields}
 use Rattle.kfs_server.specs.Replies.Views.{reply_shown}
 use Rattle.kfs_server.specs.Serving.Machine.{Serves}
-use Rattle.kfs_server.specs.declared.frames.frame.Incoming.{Incoming}
-use Rattle.kfs_server.specs.declared.asking.Decided.{Decided}
-use Rattle.kfs_server.specs.declared.asking.Decision.{Decision}
-use Rattle.kfs_server.specs.declared.asking.Decision.TheVariants as decisions
+use Rattle.kfs_call.specs.declared.frame.Incoming.{Incoming}
+use Rattle.kfs_call.specs.declared.asking.Decided.{Decided}
+use Rattle.kfs_call.specs.declared.asking.Decision.{Decision}
+use Rattle.kfs_call.specs.declared.asking.Decision.TheVariants as decisions
 use Rattle.kfs_server.specs.declared.replies.reply.NumberedReply.{NumberedReply}
 use Rattle.kfs_server.specs.declared.replies.reply.Refusal.TheVariants as refusals
 use Rattle.kfs_server.specs.declared.replies.reply.Reply.{Reply}
@@ -23,7 +23,9 @@ use Rattle.kfs_server.specs.declared.replies.reply.Reply.TheVariants.{Answered, 
 -- the call to be made, where there is one
 abbrev pub call_in : Decision → List (List ℕ)
 call_in (decisions.Make bytes) = bytes.now ∷ []
-call_in (decisions.Refuse refusal) = []
+call_in (decisions.NotKept fault) = []
+call_in (decisions.NoCall fault) = []
+call_in decisions.NotYours = []
 
 -- the calls to be made, in order
 abbrev pub calls_of : List Decided → List (List ℕ)
@@ -34,9 +36,7 @@ abbrev pub IsReplyTo : Result Called CallFault → Reply → Type 0
 IsReplyTo (Ok called) (Answered answer) = IsAnswer called (answer_shown answer)
 IsReplyTo (Ok called) (Refused refusal) = ⊥
 IsReplyTo (Err fault) (Answered answer) = ⊥
-IsReplyTo (Err (faults.BadCall (fields.BadField k))) (Refused refusal) = refusal ≡ refusals.BadField k
-IsReplyTo (Err (faults.BadCall fields.Trailing)) (Refused refusal) = refusal ≡ refusals.Trailing
-IsReplyTo (Err (faults.BadCall fields.OutOfMemory)) (Refused refusal) = refusal ≡ refusals.OutOfMemory
+IsReplyTo (Err (faults.BadCall fault)) (Refused refusal) = refusal ≡ refusal_for_fields fault
 IsReplyTo (Err faults.OutOfMemory) (Refused refusal) = refusal ≡ refusals.OutOfMemory
 IsReplyTo (Err faults.DocketFull) (Refused refusal) = refusal ≡ refusals.DocketFull
 
@@ -48,7 +48,9 @@ IsFirstReplied (answer ∷ answers) others reply = IsReplyTo answer reply × (ot
 -- the reply to a decision, where the calls from there on have these answers, and those behind it have the others
 abbrev pub IsReplied : Decision → (answers others : List (Result Called CallFault)) → Reply → Type 0
 IsReplied (decisions.Make bytes) answers others reply = IsFirstReplied answers others reply
-IsReplied (decisions.Refuse refusal) answers others reply = (reply ≡ Refused refusal) × (others ≡ answers)
+IsReplied (decisions.NotKept fault) answers others reply = (reply ≡ Refused (refusal_for_body fault)) × (others ≡ answers)
+IsReplied (decisions.NoCall fault) answers others reply = (reply ≡ Refused (refusal_for_fields fault)) × (others ≡ answers)
+IsReplied decisions.NotYours answers others reply = (reply ≡ Refused refusals.NotYours) × (others ≡ answers)
 
 -- the replies to decisions, given the answers to their calls
 abbrev pub AreReplies : List Decided → List (Result Called CallFault) → List NumberedReply → Type 0

@@ -2,6 +2,7 @@
 use Rattle.std.specs.Prelude.{◌≡◌, ◌⊎◌, List, [], ◌∷◌, length}
 use Rattle.kfs_desk.specs.Machine.{Desk}
 use Rattle.kfs_call.specs.AnswerRow.{AnswerRow}
+use Rattle.kfs_call.specs.Asking.{owner}
 use Rattle.kfs_call.specs.Call.{Call}
 use Rattle.kfs_call_desk.specs.Calls.{IsMade}
 use Rattle.kfs_call_desk.specs.Told.{IsAnswer}
@@ -10,7 +11,7 @@ use Rattle.kfs_server.specs.Frames.Frame.{Frame}
 use Rattle.kfs_server.specs.LookUps.LookUp.{LookUp, AsksLookUp, MayAsk}
 use Rattle.kfs_server.specs.LookUps.Found as finding
 use Rattle.kfs_server.specs.LookUps.Found.{IsFound}
-use Rattle.kfs_server.specs.Asking.{Asks, AsksForAnother, IsBad, owner}
+use Rattle.kfs_server.specs.Asking.{Asks, AsksForAnother, IsBad}
 use Rattle.kfs_server.specs.Replies.Reply.{Refusal, DocketFull, NotYours, Reply, Answered, Refused, Found}
 
 -- the frame's call is its sender's own; it is made on the desk, and this is its answer

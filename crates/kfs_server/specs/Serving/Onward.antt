@@ -9,7 +9,7 @@ use Rattle.kfs_program_text.specs.Streams.{Writes}
 use Rattle.kfs_server.specs.Frames.Begun.{IsFrameOf}
 use Rattle.kfs_server.specs.Frames.Frame.{Frame}
 use Rattle.kfs_server.specs.Serving.Transcript.{IsServed, ServedAll}
-use Rattle.kfs_server.specs.declared.frames.frame.Incoming.{Incoming}
+use Rattle.kfs_call.specs.declared.frame.Incoming.{Incoming}
 use Rattle.kfs_server.specs.declared.serving.fault.ServeFault.{ServeFault}
 
 module _ {A B D : Type 0} (may_leave : D → Files → Type 0) (moment : D → ℕ) (left_since : D → ℕ → Files → Type 0) where

@@ -3,10 +3,13 @@ ghost use Rattle.std.specs.Prelude.{◌≡◌, ◌≢◌, ℕ, List, [], ◌++�
 ghost use Rattle.kfs_server.specs.Frames.Frame.{head_bytes};
 ghost use Rattle.kfs_server.specs.Frames.Begun.{IsBegun, IsBody, IsHead, IsInBody, IsNextFrame, IsPending};
 
-use crate::frames::frame::{BODY_LIMIT, BodyFault, Incoming};
 use crate::put::put;
 use arrayvec::ArrayVec;
+use kfs_call::{BodyFault, Incoming};
 use std::alloc::Allocator;
+
+/// The most bytes of a body that is kept.
+pub const BODY_LIMIT: usize = 16_777_216;
 
 /// How many bytes a head has.
 const HEAD_LEN: usize = 12;

@@ -4,7 +4,7 @@ ghost use Rattle.kfs_server.specs.Frames.Frame.{IsPartial};
 ghost use Rattle.kfs_server.specs.Frames.Begun.{AreRead, HasHead, IsBegun, IsPending, whole_ones};
 
 use crate::frames::begun::{Begun, Taken};
-use crate::frames::frame::Incoming;
+use kfs_call::Incoming;
 use std::alloc::Allocator;
 use std::mem;
 

@@ -6,8 +6,8 @@ ghost use Rattle.kfs_server.specs.LookUps.LookUp.{AsksLookUp, IsLookUp, IsNoLook
 ghost use Rattle.kfs_server.specs.LookUps.Views.{look_up_shown};
 ghost use Rattle.kfs_server.specs.Asking.{HasNoLookUp};
 
-use crate::frames::Incoming;
 use crate::look_ups::reading::read_look_up;
+use kfs_call::Incoming;
 use kfs_types::Name;
 use std::alloc::Allocator;
 

@@ -1,8 +1,9 @@
 //! What a frame is replied.
 ghost use Rattle.std.specs.Prelude.{◌≡◌};
+ghost use Rattle.kfs_server.specs.Replies.Refusals.{refusal_for_body, refusal_for_fields};
 ghost use Rattle.kfs_server.specs.declared.replies.reply.Refusal.TheVariants as refusals;
 
-use kfs_call::AnswerRow;
+use kfs_call::{AnswerRow, BodyFault, FieldFault};
 use std::alloc::AllocError;
 use thiserror::Error;
 
@@ -37,6 +38,29 @@ impl From<AllocError> for Refusal {
 
     fn from(_error: AllocError) -> Refusal {
         Refusal::OutOfMemory
+    }
+}
+
+impl From<BodyFault> for Refusal {
+    ghost from_gives = { λ fault why. why ≡ refusal_for_body fault };
+
+    fn from(fault: BodyFault) -> Refusal {
+        match fault {
+            BodyFault::TooLong => Refusal::TooLong,
+            BodyFault::OutOfMemory => Refusal::OutOfMemory,
+        }
+    }
+}
+
+impl From<FieldFault> for Refusal {
+    ghost from_gives = { λ fault why. why ≡ refusal_for_fields fault };
+
+    fn from(fault: FieldFault) -> Refusal {
+        match fault {
+            FieldFault::BadField(index) => Refusal::BadField(index),
+            FieldFault::Trailing => Refusal::Trailing,
+            FieldFault::OutOfMemory => Refusal::OutOfMemory,
+        }
     }
 }
 

@@ -12,10 +12,9 @@ ghost use Rattle.kfs_server.specs.Serving.Group.{AreServed, call_in, calls_of};
 ghost use Rattle.kfs_server.specs.Serving.Standing.{StandForSome};
 ghost use Rattle.kfs_server.specs.declared.serving.calling.Missed.TheVariants as variants;
 
-use crate::asking::{Decided, Decision, decide_all};
-use crate::frames::Incoming;
 use crate::replies::NumberedReply;
 use crate::serving::merging::merge;
+use kfs_call::{Decided, Decision, Incoming, decide_all};
 use kfs_call_desk::{CallFault, Called};
 use kfs_journal::Disk;
 use kfs_kept::{CallsFault, Judges, Kept};
@@ -103,7 +102,7 @@ fn push_call<'a, B: Allocator>(
 {
     match what {
         Decision::Make(bytes) => Ok(calls.push(bytes)?),
-        Decision::Refuse(_) => Ok(()),
+        Decision::NotKept(_) | Decision::NoCall(_) | Decision::NotYours => Ok(()),
     }
 }
 

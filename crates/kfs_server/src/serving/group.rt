@@ -10,10 +10,10 @@ ghost use Rattle.kfs_server.specs.Frames.Frame.{Frame};
 ghost use Rattle.kfs_server.specs.Serving.Group.{AreServed, refused_for_memory};
 ghost use Rattle.kfs_server.specs.Serving.Standing.{StandForSome};
 
-use crate::frames::Incoming;
 use crate::replies::{NumberedReply, Refusal, Reply};
 use crate::serving::calling::{Missed, make_calls};
 use crate::serving::fault::GroupFault;
+use kfs_call::Incoming;
 use kfs_journal::Disk;
 use kfs_kept::{Judges, Kept};
 use std::alloc::Allocator;

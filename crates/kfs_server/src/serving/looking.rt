@@ -6,7 +6,8 @@ ghost use Rattle.kfs_kept.specs.Keeping.{IsKept};
 ghost use Rattle.kfs_kept.specs.Standing.{StandFor};
 ghost use Rattle.kfs_program_text.specs.Streams.{IsWritten, Writes};
 ghost use Rattle.kfs_server.specs.Frames.Begun.{IsFrameOf};
-ghost use Rattle.kfs_server.specs.Frames.Frame.{Frame, front};
+ghost use Rattle.kfs_call.specs.Asking.{front};
+ghost use Rattle.kfs_server.specs.Frames.Frame.{Frame};
 ghost use Rattle.kfs_server.specs.LookUps.LookUp as asked;
 ghost use Rattle.kfs_server.specs.LookUps.LookUp.{AsksLookUp, MayAsk};
 ghost use Rattle.kfs_server.specs.LookUps.Views.{IsWithin, found_shown, look_up_shown};
@@ -17,13 +18,13 @@ ghost use Rattle.kfs_server.specs.Serving.Onward.{IsAnswered};
 ghost use Rattle.kfs_server.specs.declared.serving.fault.GroupFault.TheVariants as groups;
 ghost use Rattle.kfs_server.specs.declared.serving.fault.ServeFault.TheVariants as faults;
 
-use crate::frames::{FRONT, Incoming};
 use crate::look_ups::{
     Found, LookUp, figures_now, found_bytes, found_leases, found_names, found_number, found_tail,
     spell_found_head, tier_now,
 };
 use crate::replies::{NumberedReply, Refusal, Reply, spell_reply};
 use crate::serving::fault::{GroupFault, ServeFault};
+use kfs_call::{FRONT, Incoming};
 use kfs_desk::Desk;
 use kfs_journal::Disk;
 use kfs_kept::{Kept, SaveFault};

@@ -2,9 +2,8 @@
 ghost use Rattle.std.specs.Prelude.{◌≡◌, [], ◌+◌, ◌<◌, ◌≤◌, length, vec_capacity};
 ghost use Rattle.kfs_server.specs.Serving.Group.{AreReplies, IsFirstReplied, IsReplied, IsReplyTo, call_in, calls_of};
 
-use crate::asking::{Decided, Decision};
 use crate::replies::{NumberedReply, Refusal, Reply};
-use kfs_call::FieldFault;
+use kfs_call::{Decided, Decision};
 use kfs_call_desk::{CallFault, Called, answer_row};
 use std::alloc::Allocator;
 
@@ -45,7 +44,9 @@ fn reply_in<'a>(
 {
     match what {
         Decision::Make(_) => first_reply(answers),
-        Decision::Refuse(refusal) => (Reply::Refused(*refusal), answers),
+        Decision::NotKept(fault) => (Reply::Refused(Refusal::from(*fault)), answers),
+        Decision::NoCall(fault) => (Reply::Refused(Refusal::from(*fault)), answers),
+        Decision::NotYours => (Reply::Refused(Refusal::NotYours), answers),
     }
 }
 
@@ -68,11 +69,7 @@ fn reply_to(answer: &Result<Called, CallFault>) -> Reply
 {
     match answer {
         Ok(called) => Reply::Answered(answer_row(called)),
-        Err(CallFault::BadCall(FieldFault::BadField(index))) => {
-            Reply::Refused(Refusal::BadField(*index))
-        }
-        Err(CallFault::BadCall(FieldFault::Trailing)) => Reply::Refused(Refusal::Trailing),
-        Err(CallFault::BadCall(FieldFault::OutOfMemory)) => Reply::Refused(Refusal::OutOfMemory),
+        Err(CallFault::BadCall(fault)) => Reply::Refused(Refusal::from(*fault)),
         Err(CallFault::OutOfMemory) => Reply::Refused(Refusal::OutOfMemory),
         Err(CallFault::DocketFull) => Reply::Refused(Refusal::DocketFull),
     }

@@ -8,13 +8,13 @@ ghost use Rattle.kfs_server.specs.Serving.Room.{IsAmpleSaid, IsUnsaid};
 ghost use Rattle.kfs_server.specs.declared.serving.fault.GroupFault.TheVariants as groups;
 ghost use Rattle.kfs_server.specs.declared.serving.fault.ServeFault.TheVariants as faults;
 
-use crate::frames::Incoming;
 use crate::look_ups::look_up_in;
 use crate::replies::write_replies;
 use crate::serving::fault::ServeFault;
 use crate::serving::group::answer_group;
 use crate::serving::looking::answer_look_up;
 use crate::serving::room::Said;
+use kfs_call::Incoming;
 use kfs_journal::Disk;
 use kfs_kept::{Judges, Kept};
 use kfs_program_text::{flush, write_whole};

@@ -2,8 +2,8 @@
 ghost use Rattle.std.specs.Prelude.{◌≡◌, [], ◌≤◌, IfOk};
 ghost use Rattle.kfs_server.specs.Serving.Room.{IsAmple, IsAmpleSaid, IsRoom, IsUnsaid};
 
-use crate::frames::Incoming;
 use crate::replies::NumberedReply;
+use kfs_call::Incoming;
 use std::alloc::{AllocError, Allocator};
 
 /// How many bytes are read at once, and so how many frames a group has at most.

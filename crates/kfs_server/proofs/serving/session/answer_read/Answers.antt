@@ -1,7 +1,7 @@
 use Rattle.std.proofs.Common.{◌≡◌, List, [], length, rules, subst, sym}
 use Rattle.std.specs.List.{AllZip}
 use Rattle.kfs_server.specs.Frames.Begun.{IsFrameOf}
-use Rattle.kfs_server.specs.declared.frames.frame.Incoming.{Incoming}
+use Rattle.kfs_call.specs.declared.frame.Incoming.{Incoming}
 use Rattle.std.proofs.KnownBytes.{Appends-nil}
 use Rattle.std.proofs.lemmas.List.{nil_from_length}
 use Rattle.std.proofs.lemmas.Result.{err_from_is_err_and}

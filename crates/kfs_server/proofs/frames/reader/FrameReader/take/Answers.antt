@@ -1,6 +1,6 @@
 use Rattle.std.proofs.Common.{◌≡◌, ℕ, List, [], ◌∷◌, ◌++◌, length, refl, sym, ap, subst, ◌∙◌, arith, rules}
 use Rattle.kfs_server.specs.Frames.Begun.{AreReadTo, IsPending}
-use Rattle.kfs_server.specs.declared.frames.frame.Incoming.{Incoming}
+use Rattle.kfs_call.specs.declared.frame.Incoming.{Incoming}
 use Rattle.kfs_server.specs.declared.frames.begun.Begun.{Begun}
 use Rattle.kfs_server.proofs.FramesLemmas.OneCut.{pending_partial}
 use Rattle.kfs_server.proofs.FramesLemmas.Reads.{reads_begin, reads_end, reads_on}

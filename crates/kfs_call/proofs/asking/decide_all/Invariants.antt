@@ -1,7 +1,7 @@
 use Rattle.std.proofs.Common.{take}
 use Rattle.std.specs.List.{AllZip}
-use Rattle.kfs_server.specs.Asking.{IsDecidedFor}
-use Rattle.kfs_server.proofs.asking.decide_all.Given as goal
+use Rattle.kfs_call.specs.Asking.{IsDecidedFor}
+use Rattle.kfs_call.proofs.asking.decide_all.Given as goal
 
 abbrev pub invariant-loop-incoming : goal.invariant-loop-incoming
 invariant-loop-incoming g l = AllZip IsDecidedFor (take l.incoming-index l.group) l.decided.items

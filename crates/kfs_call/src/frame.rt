@@ -3,9 +3,6 @@
 use std::alloc::Allocator;
 use thiserror::Error;
 
-/// The most bytes of a body that is kept.
-pub const BODY_LIMIT: usize = 16_777_216;
-
 /// Who stands in the place of a client where a frame comes from the front itself.
 pub const FRONT: u32 = u32::MAX;
 

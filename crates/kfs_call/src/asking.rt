@@ -1,15 +1,13 @@
-//! What a frame asks for, decided before any call is made.
-ghost use Rattle.std.specs.Prelude.{◌≡◌, ◌≤◌, IfOk, length};
-ghost use Rattle.std.specs.List.{AllByRecursion, AllZip};
+//! Whether frames make calls of their senders' own, decided before any call is made.
+ghost use Rattle.std.specs.Prelude.{◌≡◌, IfOk};
+ghost use Rattle.std.specs.List.{AllZip};
+ghost use Rattle.kfs_call.specs.Asking.{IsDecided, IsDecidedFor, owner};
 ghost use Rattle.kfs_call.specs.Views.{call_shown};
-ghost use Rattle.kfs_server.specs.Frames.Begun.{IsFrameOf, body_limit};
-ghost use Rattle.kfs_server.specs.Frames.Frame.{Frame};
-ghost use Rattle.kfs_server.specs.Asking.{HasNoLookUp, IsDecided, IsDecidedFor, owner};
-ghost use Rattle.kfs_server.specs.LookUps.LookUp.{IsNoLookUp};
 
-use crate::frames::{BodyFault, FRONT, Incoming};
-use crate::replies::Refusal;
-use kfs_call::{Call, FieldFault, decode_call};
+use crate::call::Call;
+use crate::decoding::decode_call;
+use crate::fault::FieldFault;
+use crate::frame::{BodyFault, FRONT, Incoming};
 use std::alloc::{AllocError, Allocator};
 
 /// What is decided of the frame with this number.
@@ -24,17 +22,20 @@ pub struct Decided<'a> {
 pub enum Decision<'a> {
     /// Its body is a call of its sender's own, to be made.
     Make(&'a [u8]),
-    /// It is refused.
-    Refuse(Refusal),
+    /// Its body isn't kept.
+    NotKept(BodyFault),
+    /// Its body is no call.
+    NoCall(FieldFault),
+    /// Its body is a call of another client's than its sender, or the front's.
+    NotYours,
 }
 
-/// Decides of each frame, in order. Condition: none asks for a look-up. `alloc` serves the list of moves of a call, too.
-/// `Err` where memory for the decisions is refused.
+/// Decides of each frame, in order. `alloc` serves the list of moves of a call, too. `Err` where memory for the decisions
+/// is refused.
 pub fn decide_all<A: Allocator, B: Allocator + Copy>(
     alloc: B,
     group: &[Incoming<A>],
 ) -> Result<Vec<Decided<'_>, B>, AllocError>
-    requires { AllByRecursion HasNoLookUp group.now }
     ensures { IfOk result (λ decided. AllZip IsDecidedFor group.entry.now decided.items) }
 {
     let mut decided = Vec::with_capacity(alloc, group.len())?;
@@ -44,15 +45,13 @@ pub fn decide_all<A: Allocator, B: Allocator + Copy>(
     Ok(decided)
 }
 
-/// Decides of a frame. Condition: it asks for no look-up.
+/// Decides of a frame.
 fn decide<A: Allocator, B: Allocator>(alloc: B, incoming: &Incoming<A>) -> Decided<'_>
-    requires { HasNoLookUp incoming.now }
     ensures { IsDecidedFor incoming.entry.now result }
 {
     let what = match &incoming.body {
         Ok(body) => decide_body(alloc, incoming.from, body),
-        Err(BodyFault::TooLong) => Decision::Refuse(Refusal::TooLong),
-        Err(BodyFault::OutOfMemory) => Decision::Refuse(Refusal::OutOfMemory),
+        Err(fault) => Decision::NotKept(*fault),
     };
     Decided {
         number: incoming.number,
@@ -60,17 +59,14 @@ fn decide<A: Allocator, B: Allocator>(alloc: B, incoming: &Incoming<A>) -> Decid
     }
 }
 
-/// Decides of a body. Condition: it is no look-up's.
+/// Decides of a body.
 fn decide_body<B: Allocator>(alloc: B, from: u32, body: &[u8]) -> Decision<'_>
-    requires { IsNoLookUp body.now }
-    ensures { (f : Frame) → f.body ≡ body.entry.now → f.from ≡ from → length f.body ≤ body_limit → IsDecided f result }
+    ensures { IsDecided from body.entry.now result }
 {
     match decode_call(alloc, body) {
         Ok(call) if owner_of(&call) == from => Decision::Make(body),
-        Ok(_) => Decision::Refuse(Refusal::NotYours),
-        Err(FieldFault::BadField(index)) => Decision::Refuse(Refusal::BadField(index)),
-        Err(FieldFault::Trailing) => Decision::Refuse(Refusal::Trailing),
-        Err(FieldFault::OutOfMemory) => Decision::Refuse(Refusal::OutOfMemory),
+        Ok(_) => Decision::NotYours,
+        Err(fault) => Decision::NoCall(fault),
     }
 }
 
