@@ -269,8 +269,8 @@ def bytes_are_limited(made):
         assert daemon.status()["user"][0]["bytes_left"] == 300_000 - 3 * cost
         taken += [fill(it, data) for it in mine[1:]]
         assert settled(daemon, lambda status: status["kfs_serve"]["waiting_calls"]) == 5
-        # less than a frame is left, and it waits for the next one
-        assert daemon.status()["user"][0]["bytes_left"] == 0
+        # less than a frame is left
+        assert daemon.status()["user"][0]["bytes_left"] == 300_000 - 5 * cost
         assert max(taken) < 1 << 20, taken
 
 
