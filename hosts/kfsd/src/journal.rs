@@ -245,9 +245,9 @@ mod tests {
         assert_eq!(clients(&room.0).unwrap(), None);
         std::fs::write(room.0.join(FILES[1]), file(4, 1, &[b"a"])).unwrap();
         let mut other = file(5, 1, &[]);
-        other[46] = 1;
+        other[52] = 1;
         std::fs::write(room.0.join(FILES[0]), &other).unwrap();
-        assert_eq!(clients(&room.0).unwrap().unwrap(), "client 7 1 256 0 2 9 5\n");
+        assert_eq!(clients(&room.0).unwrap().unwrap(), "client 7 1 257 0 2 9 5\n");
         other[12] = 0;
         std::fs::write(room.0.join(FILES[0]), &other).unwrap();
         assert_eq!(clients(&room.0).unwrap().unwrap(), "client 7 1 1 0 2 9 5\n");

@@ -213,6 +213,8 @@ def a_new_user_is_let_in(made):
         assert daemon.status()["kfs_serve"]["starts"] == 2 and "kept out" not in daemon.ask("users")
         assert daemon.stop()[0] == 0
         daemon.users[-1] = second
+        # the two files have the clients
+        os.remove(f"{daemon.folder}/clients")
         daemon.start()
         assert create_one(daemon, second) == 0
         assert daemon.stranger(5000, 100).reply().refusal == ("Unlisted", 0)
@@ -298,24 +300,25 @@ def new_users_beside_load(made):
 
 
 def kill_one(daemon, chance):
-    """Kills kfsd, or all that it has started, at once. Returns which."""
+    """Kills kfsd, or all that it has started, at once. Returns which, and whether new clients were about to be taken."""
+    is_open = daemon.status()["kfs_serve"]["is_open"]
     if chance.random() < 0.4:
         daemon.process.kill()
         daemon.process.wait()
         daemon.start()
-        return "kfsd"
+        return "kfsd", not is_open
     for held in children_of(daemon.process.pid):
         try:
             signal.pidfd_send_signal(held, signal.SIGKILL)
         except ProcessLookupError:
             pass
         os.close(held)
-    return "kfs_serve"
+    return "kfs_serve", not is_open
 
 
 def new_users_under_kills(made):
     """30 times a user becomes a client while kfsd or kfs_serve is killed at a random moment of it, beside 8 users with numbered calls."""
-    chance, killed = random.Random(KILLS), {"kfsd": 0, "kfs_serve": 0}
+    chance, killed, opening = random.Random(KILLS), {"kfsd": 0, "kfs_serve": 0}, 0
     with with_admission(Shared(*made, users=USERS)) as daemon:
         daemon.start()
         with Load(daemon) as load:
@@ -326,7 +329,9 @@ def new_users_under_kills(made):
                     daemon.put_config()
                     daemon.process.send_signal(signal.SIGHUP)
                     time.sleep(chance.uniform(0, 0.25))
-                    killed[kill_one(daemon, chance)] += 1
+                    which, is_opening = kill_one(daemon, chance)
+                    killed[which] += 1
+                    opening += is_opening
                     create_one(daemon, it)
         assert daemon.stop()[0] == 0
         answered, journals = load.compare()
@@ -336,7 +341,8 @@ def new_users_under_kills(made):
             it = new_user(at)
             found = daemon.connect(it["client"]).ask(1, numbered(1))
             assert found.answer[4] == YES, (it, found)
-        print(f"    {killed['kfs_serve']} kills of kfs_serve and {killed['kfsd']} of kfsd; {answered} numbered calls of others were answered, each made once; {journals} journals")
+        assert opening > 0, "no kill was beside an opening"
+        print(f"    {killed['kfs_serve']} kills of kfs_serve and {killed['kfsd']} of kfsd, {opening} of them while it opened the files; {answered} numbered calls of others were answered, each made once; {journals} journals")
 
 
 TESTS = [a_new_user_is_let_in, those_who_cannot_be_are_told_apart, a_refusal_changes_nothing, new_users_beside_load, new_users_under_kills]

@@ -1,15 +1,14 @@
 """Limits and duties that are read anew: less harms nobody's answer, more is of use at once, and a wrong file changes nothing."""
 import contextlib
-import os
 import random
 import signal
-import struct
 import time
 
 from hanging import settled
 from killing import USERS, Client, Shared, answered_by, look, run_with_kills, say
 from living import reload
-from running import READY, Daemon, Gone, children_of, frame, lease, numbered, pretender
+from machines import Cluster
+from running import READY, Daemon, children_of, frame, lease, pretender, user
 
 TOO_LONG, TOO_MANY, TOO_FAR = ("TooLong", 0), ("TooMany", 0), ("TooFar", 0)
 # No limit on the bytes of a user may be less.
@@ -188,7 +187,7 @@ def a_wrong_file_changes_nothing(made):
         for limits, others, why in wrong:
             daemon.limits, daemon.users = {"frames_a_connection": 9, "frames_a_user": 5} | limits, others
             reload(daemon)
-            assert f"the configuration stays as it is: " in daemon.said() and why in daemon.said().splitlines()[-1], daemon.said()[-500:]
+            assert "the configuration stays as it is: " in daemon.said() and why in daemon.said().splitlines()[-1], daemon.said()[-500:]
             assert daemon.frames_left() == 1024
         daemon.users = users
         with desk_stands_still(daemon):
@@ -222,4 +221,21 @@ def limits_change_under_load(made):
         say(f"{CHANGES} other limits", clients)
 
 
-TESTS = [fewer_frames, fewer_bytes, more_is_of_use_at_once, fewer_connections, other_times, duties_are_read_anew, a_wrong_file_changes_nothing, limits_change_under_load]
+def members_read_it_anew(made):
+    """On several machines the leader and a standby read it anew, each its own. Who is new is kept out: a volume's clients are fixed."""
+    with Cluster(made) as cluster:
+        leader = cluster.leader()
+        standby = next(it for it in cluster.machines if it is not leader)
+        seven = standby.connect(7)
+        assert seven.ask(1, lease(7, 10)).answer
+        for it in (leader, standby):
+            it.users, it.limits = [*it.users, user(1003, 10, (500, 599))], {"frames_a_user": 77}
+            reload(it)
+            assert "is read anew: frames_a_user is 77 and was 1024; users: with 1003" in it.said()
+            assert "user 1003 is kept out" in it.said() and "the volume's clients were fixed" in it.said()
+            assert it.connect(10).reply().refusal == ("NoClient", 0)
+        assert leader.frames_left() == 77 and standby.frames_left() == 77
+        assert seven.ask(2, lease(7, 11)).answer and standby.connect(8).ask(1, lease(8, 10)).answer
+
+
+TESTS = [members_read_it_anew, fewer_frames, fewer_bytes, more_is_of_use_at_once, fewer_connections, other_times, duties_are_read_anew, a_wrong_file_changes_nothing, limits_change_under_load]
