@@ -299,26 +299,40 @@ def new_users_beside_load(made):
         print(f"    {answered} numbered calls of others were answered meanwhile, each made once; {journals} journals")
 
 
+def told(daemon):
+    """How often kfsd has said that there is a new client."""
+    return daemon.said().count("new in the desk")
+
+
+def is_started_with_clients(daemon):
+    """Whether there is a process that takes new clients, or has taken them."""
+    with contextlib.suppress(OSError), open(f"/proc/{daemon.status()['kfs_serve']['process']}/cmdline", "rb") as it:
+        return b"--clients" in it.read()
+    return False
+
+
 def kill_one(daemon, chance):
-    """Kills kfsd, or all that it has started, at once. Returns which, and whether new clients were about to be taken."""
-    is_open = daemon.status()["kfs_serve"]["is_open"]
+    """Kills kfsd, or all that it has started, at once. Returns which."""
     if chance.random() < 0.4:
         daemon.process.kill()
         daemon.process.wait()
         daemon.start()
-        return "kfsd", not is_open
+        return "kfsd"
     for held in children_of(daemon.process.pid):
         try:
             signal.pidfd_send_signal(held, signal.SIGKILL)
         except ProcessLookupError:
             pass
         os.close(held)
-    return "kfs_serve", not is_open
+    return "kfs_serve"
 
 
 def new_users_under_kills(made):
-    """30 times a user becomes a client while kfsd or kfs_serve is killed at a random moment of it, beside 8 users with numbered calls."""
-    chance, killed, opening = random.Random(KILLS), {"kfsd": 0, "kfs_serve": 0}, 0
+    """30 times a user becomes a client while kfsd or kfs_serve is killed at a random moment of it, beside 8 users with numbered calls.
+
+    Every second time the moment is behind the start of a process that takes new clients.
+    """
+    chance, killed, within = random.Random(KILLS), {"kfsd": 0, "kfs_serve": 0}, 0
     with with_admission(Shared(*made, users=USERS)) as daemon:
         daemon.start()
         with Load(daemon) as load:
@@ -326,12 +340,15 @@ def new_users_under_kills(made):
                 it = new_user(at)
                 daemon.users.append(it)
                 with daemon.lock:
+                    before = told(daemon)
                     daemon.put_config()
                     daemon.process.send_signal(signal.SIGHUP)
-                    time.sleep(chance.uniform(0, 0.25))
-                    which, is_opening = kill_one(daemon, chance)
-                    killed[which] += 1
-                    opening += is_opening
+                    if at % 2:
+                        daemon.wait_for(lambda: is_started_with_clients(daemon))
+                    time.sleep(chance.uniform(0, 0.1))
+                    # kfsd hasn't heard of it, and it may be so or not
+                    within += told(daemon) == before and is_started_with_clients(daemon)
+                    killed[kill_one(daemon, chance)] += 1
                     create_one(daemon, it)
         assert daemon.stop()[0] == 0
         answered, journals = load.compare()
@@ -341,8 +358,8 @@ def new_users_under_kills(made):
             it = new_user(at)
             found = daemon.connect(it["client"]).ask(1, numbered(1))
             assert found.answer[4] == YES, (it, found)
-        assert opening > 0, "no kill was beside an opening"
-        print(f"    {killed['kfs_serve']} kills of kfs_serve and {killed['kfsd']} of kfsd, {opening} of them while it opened the files; {answered} numbered calls of others were answered, each made once; {journals} journals")
+        assert within > 0, "no kill was between a start and its answer"
+        print(f"    {killed['kfs_serve']} kills of kfs_serve and {killed['kfsd']} of kfsd, {within} of them while a process was about to take a new client; {answered} numbered calls of others were answered, each made once; {journals} journals")
 
 
 TESTS = [a_new_user_is_let_in, those_who_cannot_be_are_told_apart, a_refusal_changes_nothing, new_users_beside_load, new_users_under_kills]
