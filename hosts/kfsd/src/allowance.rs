@@ -13,8 +13,14 @@ pub struct Taken {
 
 impl Drop for Taken {
     fn drop(&mut self) {
-        self.of.state().taken -= self.count;
-        self.of.hand_out();
+        let is_waited_for = {
+            let mut state = self.of.state();
+            state.taken -= self.count;
+            !state.waiting.is_empty()
+        };
+        if is_waited_for {
+            self.of.hand_out();
+        }
     }
 }
 
