@@ -233,12 +233,12 @@ impl Daemon {
 
     /// Serves connections until a signal says to stop, or the desk is lost.
     async fn serve(mut self, sockets: Sockets, mut signals: Signals) -> Result<(), DaemonFault> {
-        let accepting = tokio::spawn(accept(sockets, Arc::clone(&self.shared)));
-        let ticking = tokio::spawn(duties::tick_on(Arc::clone(&self.shared)));
-        let moving = tokio::spawn(moves::move_on(Arc::clone(&self.shared), self.config.tiers));
         let mut clients = self.clients.changes();
         // What has changed before this.
         self.put_rules();
+        let accepting = tokio::spawn(accept(sockets, Arc::clone(&self.shared)));
+        let ticking = tokio::spawn(duties::tick_on(Arc::clone(&self.shared)));
+        let moving = tokio::spawn(moves::move_on(Arc::clone(&self.shared), self.config.tiers));
         let lost = loop {
             tokio::select! {
                 asked = signals.next() => match asked {
