@@ -245,6 +245,20 @@ def those_who_cannot_be_are_told_apart(made):
         assert daemon.status()["kfs_serve"]["starts"] == starts
 
 
+def a_program_that_is_there(made):
+    """The kfs_serve of this run, with nothing before it: it takes a new user, or kfsd says that it can't, and all else goes on."""
+    with Shared(*made).start() as daemon:
+        seven, it = daemon.connect(7), new_user(0)
+        daemon.users.append(it)
+        reload(daemon)
+        if takes_clients(made[1]):
+            assert create_one(daemon, it) == 0 and listed(daemon) == [7, 8, 9, 100]
+        else:
+            daemon.wait_for(lambda: "this kfs_serve takes no new clients" in daemon.said())
+            assert daemon.connect(100).reply().refusal == NO_CLIENT and listed(daemon) == [7, 8, 9]
+        assert seven.ask(1, drop(7)).answer and daemon.stop()[0] == 0
+
+
 def refused(daemon, program, words):
     """Has the program end so where it is to take new clients."""
     return put_program(daemon, f'#!/bin/sh\ncase "$*" in *--clients*) echo x >> {daemon.room}/tried; {words};; esac\nexec {program} "$@"\n')
@@ -362,4 +376,4 @@ def new_users_under_kills(made):
         print(f"    {killed['kfs_serve']} kills of kfs_serve and {killed['kfsd']} of kfsd, {within} of them while a process was about to take a new client; {answered} numbered calls of others were answered, each made once; {journals} journals")
 
 
-TESTS = [a_new_user_is_let_in, those_who_cannot_be_are_told_apart, a_refusal_changes_nothing, new_users_beside_load, new_users_under_kills]
+TESTS = [a_program_that_is_there, a_new_user_is_let_in, those_who_cannot_be_are_told_apart, a_refusal_changes_nothing, new_users_beside_load, new_users_under_kills]
