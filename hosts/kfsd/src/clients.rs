@@ -200,6 +200,7 @@ impl State {
 #[cfg(test)]
 mod tests {
     use super::*;
+    use std::slice::from_ref;
     use std::time::Duration;
     use tokio::time::timeout;
 
@@ -214,24 +215,24 @@ mod tests {
     #[test]
     fn who_can_be_beside_the_others_is_wanted() {
         let (one, two) = (user(1, 7, [2, 9]), user(2, 8, [10, 19]));
-        let desk = clients(&[one.clone()]);
+        let desk = clients(from_ref(&one));
         assert_eq!(desk.wanted(), None);
-        desk.list(&[one.clone()]);
+        desk.list(from_ref(&one));
         assert_eq!(desk.wanted(), None);
         let wrong =
             [user(3, 7, [30, 31]), user(4, 9, [9, 9]), user(5, 10, [0, 0]), user(6, 11, [20, 65_537]), user(7, 12, [19, 20])];
-        desk.list(&[&[two.clone()], &wrong[..]].concat());
+        desk.list(&[from_ref(&two), &wrong[..]].concat());
         assert_eq!(desk.wanted(), Some(lines_of(&[one.clone(), two.clone()])));
         // without numbers it is in nobody's way, and client 7 isn't listed and stays
         let third = user(9, 13, [1, 0]);
-        desk.list(&[third.clone()]);
+        desk.list(from_ref(&third));
         assert_eq!(desk.wanted(), Some(lines_of(&[one, third])));
     }
 
     #[test]
     fn what_was_refused_is_not_tried_again() {
         let (one, two) = (user(1, 7, [2, 9]), user(2, 8, [10, 19]));
-        let desk = clients(&[one.clone()]);
+        let desk = clients(from_ref(&one));
         desk.list(&[one.clone(), two.clone()]);
         let lines = desk.wanted().unwrap();
         assert!(desk.failed(&lines, Refusal::Clients));
@@ -255,7 +256,7 @@ mod tests {
     #[tokio::test]
     async fn it_is_due_once_somebody_is_new() {
         let (one, two) = (user(1, 7, [2, 9]), user(2, 8, [10, 19]));
-        let desk = clients(&[one.clone()]);
+        let desk = clients(from_ref(&one));
         let is_due = || async { timeout(Duration::from_millis(30), desk.due()).await.is_ok() };
         assert!(!is_due().await);
         desk.list(&[one, two]);
