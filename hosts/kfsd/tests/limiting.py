@@ -1,5 +1,6 @@
 """Limits and duties that are read anew: less harms nobody's answer, more is of use at once, and a wrong file changes nothing."""
 import contextlib
+import os
 import random
 import signal
 import time
