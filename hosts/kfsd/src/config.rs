@@ -3,7 +3,7 @@
 use crate::cluster::Settings;
 use crate::frames::{BODY_LIMIT, FOUND_BYTES};
 use crate::users::{User, UsersFault};
-use serde::Deserialize;
+use serde::{Deserialize, Serialize};
 use std::net::SocketAddr;
 use std::path::{Path, PathBuf};
 use std::time::Duration;
@@ -30,7 +30,7 @@ pub enum ConfigFault {
 }
 
 /// The whole file.
-#[derive(Clone, Debug, Deserialize)]
+#[derive(Clone, Debug, Deserialize, Serialize)]
 #[serde(deny_unknown_fields)]
 pub struct Config {
     /// Where clients connect.
@@ -63,7 +63,7 @@ fn most_rows() -> u32 {
 }
 
 /// What clients may take, and how long they may take for it.
-#[derive(Clone, Copy, Debug, Deserialize, PartialEq, Eq)]
+#[derive(Clone, Copy, Debug, Deserialize, Serialize, PartialEq, Eq)]
 #[serde(default, deny_unknown_fields)]
 pub struct Limits {
     /// Connections of a user.
@@ -85,7 +85,7 @@ pub struct Limits {
 }
 
 /// What kfsd does by itself.
-#[derive(Clone, Copy, Debug, Deserialize, PartialEq, Eq)]
+#[derive(Clone, Copy, Debug, Deserialize, Serialize, PartialEq, Eq)]
 #[serde(default, deny_unknown_fields)]
 pub struct Duties {
     /// How long the desk may be without a tick while a lease is live.
@@ -174,7 +174,7 @@ impl Config {
         Config::of_text(&text, path)
     }
 
-    fn of_text(text: &str, path: &Path) -> Result<Config, ConfigFault> {
+    pub(crate) fn of_text(text: &str, path: &Path) -> Result<Config, ConfigFault> {
         let config: Config = toml::from_str(text).map_err(|fault| ConfigFault::Toml(path.to_path_buf(), fault))?;
         config.limits.check()?;
         config.duties.check()?;
@@ -189,20 +189,6 @@ impl Config {
         }
         crate::users::check(&config.users)?;
         Ok(config)
-    }
-
-    /// Whether all but the users is the same.
-    pub fn differs_in_users_alone(&self, other: &Config) -> bool {
-        self.socket == other.socket
-            && self.control == other.control
-            && self.figures == other.figures
-            && self.folder == other.folder
-            && self.program == other.program
-            && self.tiers == other.tiers
-            && self.rows == other.rows
-            && self.limits == other.limits
-            && self.duties == other.duties
-            && self.cluster == other.cluster
     }
 }
 
@@ -260,14 +246,5 @@ mod tests {
         assert!(matches!(read(&text), Err(ConfigFault::Limit(_))));
         let text = format!("{SMALL}\n[limits]\nframe_bytes = 100000\nbytes_a_user = 100256");
         assert!(read(&text).is_ok());
-    }
-
-    #[test]
-    fn other_users_are_told_from_another_folder() {
-        let one = read(SMALL).unwrap();
-        let two = read(&SMALL.replace("1000", "1001")).unwrap();
-        let three = read(&SMALL.replace("/var/lib/kfsd", "/srv")).unwrap();
-        assert!(one.differs_in_users_alone(&two));
-        assert!(!one.differs_in_users_alone(&three));
     }
 }

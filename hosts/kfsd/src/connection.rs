@@ -2,6 +2,7 @@
 //!
 //! What it waits for is its own: its reader's bytes, its writer's room, and places of its own user. So it holds up no other user.
 
+use crate::allowance::Allowance;
 use crate::calls::{time_call, Note, Setting, Wish};
 use crate::cluster::term::Term;
 use crate::config::{Duties, Limits, FRAME_COST};
@@ -13,14 +14,15 @@ use crate::frames::{
 };
 use crate::outcomes::Stands;
 use crate::queue::{Answer, Asker, Call, Permits, Queue};
-use crate::users::{Account, Place, Table};
+use crate::rules::Rules;
+use crate::users::{Account, Place};
 use std::future::Future;
 use std::io;
 use std::pin::Pin;
 use std::sync::Arc;
 use std::time::{Duration, Instant};
 use tokio::io::{sink, AsyncRead, AsyncReadExt, AsyncWrite, AsyncWriteExt, BufReader};
-use tokio::sync::{mpsc, oneshot, watch, AcquireError, Semaphore};
+use tokio::sync::{mpsc, oneshot, watch};
 use tokio::time::{sleep, timeout};
 use tracing::debug;
 
@@ -38,26 +40,34 @@ const WAITING: Duration = Duration::from_secs(20);
 pub struct Shared {
     pub queue: Queue,
     pub figures: Figures,
-    pub limits: Limits,
-    pub duties: Duties,
     /// How the desk stands.
     pub following: Following,
     /// Until when nobody else leads.
     pub term: Term,
-    /// The users that may be connected now.
-    pub table: watch::Receiver<Arc<Table>>,
+    /// What the configuration says now.
+    pub rules: watch::Receiver<Arc<Rules>>,
     /// Whether no frame is read any more.
     pub stopping: watch::Receiver<bool>,
 }
 
 impl Shared {
+    /// The limits that hold now.
+    pub fn limits(&self) -> Limits {
+        self.rules.borrow().limits
+    }
+
+    /// What kfsd has to do by itself now.
+    pub fn duties(&self) -> Duties {
+        self.rules.borrow().duties
+    }
+
     /// A place for one more connection of a user, where it is listed and may have one.
     pub fn place_of(&self, uid: io::Result<u32>) -> Result<Place, Refusal> {
         let uid = uid.map_err(|_| Refusal::Unlisted)?;
-        let table = self.table.borrow();
-        match table.of(uid) {
-            Some(account) => account.connect(self.limits.connections_a_user).ok_or(Refusal::TooMany),
-            None if table.is_stranger(uid) => Err(Refusal::NoClient),
+        let rules = self.rules.borrow();
+        match rules.table.of(uid) {
+            Some(account) => account.connect(rules.limits.connections_a_user).ok_or(Refusal::TooMany),
+            None if rules.table.is_stranger(uid) => Err(Refusal::NoClient),
             None => Err(Refusal::Unlisted),
         }
     }
@@ -69,8 +79,6 @@ enum End {
     Input,
     /// A frame takes too long.
     Slow,
-    /// kfsd is at fault.
-    Limits,
 }
 
 impl From<io::Error> for End {
@@ -82,12 +90,6 @@ impl From<io::Error> for End {
 impl From<tokio::time::error::Elapsed> for End {
     fn from(_fault: tokio::time::error::Elapsed) -> End {
         End::Slow
-    }
-}
-
-impl From<AcquireError> for End {
-    fn from(_fault: AcquireError) -> End {
-        End::Limits
     }
 }
 
@@ -151,26 +153,31 @@ enum Said {
 
 /// Serves a connection to its end.
 pub async fn serve(from: impl AsyncRead + Unpin, to: impl AsyncWrite + Unpin, place: Place, shared: Arc<Shared>) {
-    let limits = &shared.limits;
-    // There is room for as many as may be under way, so a reader doesn't wait here.
-    let (slots, waiting) = mpsc::channel(limits.frames_a_connection as usize);
+    // Each has its place among the frames that are under way, so there are as many as may be.
+    let (slots, waiting) = mpsc::unbounded_channel();
+    let limits = shared.limits();
+    let (frames, bytes) = (Allowance::new(limits.frames_a_connection), Allowance::new(limits.bytes_a_connection));
     let mut reader = Reader {
         from: BufReader::with_capacity(BUFFER, from),
         slots,
         account: Arc::clone(&place.account),
-        frames: Arc::new(Semaphore::new(limits.frames_a_connection as usize)),
-        bytes: Arc::new(Semaphore::new(limits.bytes_a_connection as usize)),
+        frames: Arc::clone(&frames),
+        bytes: Arc::clone(&bytes),
         shared: &shared,
+    };
+    let limit = |limits: &Limits| {
+        frames.set_most(limits.frames_a_connection);
+        bytes.set_most(limits.bytes_a_connection);
     };
     let reading = async {
         let end = tokio::select! {
             end = reader.read_all() => end,
-            () = closing(&shared, &place.account) => End::Input,
+            () = closing(&shared, &place.account, limit) => End::Input,
         };
         drop(reader);
         end
     };
-    let writing = write_replies(to, waiting, limits.reply_time());
+    let writing = write_replies(to, waiting, &shared);
     tokio::pin!(reading, writing);
     let is_slow = tokio::select! {
         written = &mut writing => written.is_err(),
@@ -182,19 +189,18 @@ pub async fn serve(from: impl AsyncRead + Unpin, to: impl AsyncWrite + Unpin, pl
     }
 }
 
-/// Returns when the user isn't listed any more, or kfsd stops.
-async fn closing(shared: &Shared, account: &Arc<Account>) {
-    let (mut table, mut stopping) = (shared.table.clone(), shared.stopping.clone());
+/// Returns when the user isn't listed any more, or kfsd stops. Tells of other limits meanwhile.
+async fn closing(shared: &Shared, account: &Arc<Account>, limit: impl Fn(&Limits)) {
+    let (mut rules, mut stopping) = (shared.rules.clone(), shared.stopping.clone());
     loop {
-        let is_listed = match table.borrow_and_update().of(account.user.uid) {
-            Some(now) => Arc::ptr_eq(&now, account),
-            None => false,
-        };
+        let now = Arc::clone(&rules.borrow_and_update());
+        let is_listed = matches!(now.table.of(account.user.uid), Some(now) if Arc::ptr_eq(&now, account));
         if !is_listed || *stopping.borrow_and_update() {
             return;
         }
+        limit(&now.limits);
         let is_gone = tokio::select! {
-            changed = table.changed() => changed.is_err(),
+            changed = rules.changed() => changed.is_err(),
             changed = stopping.changed() => changed.is_err(),
         };
         if is_gone {
@@ -206,10 +212,10 @@ async fn closing(shared: &Shared, account: &Arc<Account>) {
 /// The half of a connection that frames come from.
 struct Reader<'a, R> {
     from: BufReader<R>,
-    slots: mpsc::Sender<Slot>,
+    slots: mpsc::UnboundedSender<Slot>,
     account: Arc<Account>,
-    frames: Arc<Semaphore>,
-    bytes: Arc<Semaphore>,
+    frames: Arc<Allowance>,
+    bytes: Arc<Allowance>,
     shared: &'a Arc<Shared>,
 }
 
@@ -226,14 +232,15 @@ impl<R: AsyncRead + Unpin> Reader<'_, R> {
     /// Reads a frame, and has it answered.
     async fn read_one(&mut self) -> Result<(), End> {
         let head = self.read_head().await?;
-        let frame = Arc::new(take(&self.frames, &self.account.frames, 1).await?);
-        let time = self.shared.limits.frame_time();
-        if head.length > self.shared.limits.frame_bytes {
+        let frame = Arc::new(take(&self.frames, &self.account.frames, 1).await);
+        let limits = self.shared.limits();
+        let time = limits.frame_time();
+        if head.length > limits.frame_bytes {
             let passed = timeout(time, tokio::io::copy(&mut (&mut self.from).take(head.length.into()), &mut sink())).await?;
             let is_whole = matches!(passed, Ok(count) if count == u64::from(head.length));
             return self.refuse(head, frame, if is_whole { Refusal::TooLong } else { Refusal::CutShort }).await;
         }
-        let bytes = take(&self.bytes, &self.account.bytes, head.length + FRAME_COST).await?;
+        let bytes = take(&self.bytes, &self.account.bytes, head.length + FRAME_COST).await;
         let mut body = vec![0; head.length as usize];
         if timeout(time, self.from.read_exact(&mut body)).await?.is_err() {
             return self.refuse(head, frame, Refusal::CutShort).await;
@@ -245,7 +252,7 @@ impl<R: AsyncRead + Unpin> Reader<'_, R> {
     async fn read_head(&mut self) -> Result<Head, End> {
         let mut head = [0; HEAD];
         self.from.read_exact(&mut head[..1]).await?;
-        timeout(self.shared.limits.frame_time(), self.from.read_exact(&mut head[1..])).await??;
+        timeout(self.shared.limits().frame_time(), self.from.read_exact(&mut head[1..])).await??;
         Ok(Head::of(head))
     }
 
@@ -280,25 +287,25 @@ impl<R: AsyncRead + Unpin> Reader<'_, R> {
         if let Some(said) = number.and_then(|own| self.said_before(head.number, own)) {
             return self.put(head, frame, Said::Here(said)).await;
         }
-        let (bytes, found) = self.with_found(&body, bytes).await?;
+        let (bytes, found) = self.with_found(&body, bytes).await;
         let (to, answer) = oneshot::channel();
         let asker = Asker { to, frame: Some(Arc::clone(&frame)) };
         self.shared.queue.push(Call { client, body, note, came: Instant::now(), number, bytes, asker });
         let said = Said::Waits(answer);
-        self.slots.send(Slot { number: head.number, said, _frame: frame, _found: found }).await?;
+        self.slots.send(Slot { number: head.number, said, _frame: frame, _found: found })?;
         Ok(())
     }
 
     /// The bytes that a frame takes until it is sent; or those that it takes with its reply until that is written, where it
     /// may be long. Those that it had are given back first: who waits for more may hold none.
-    async fn with_found(&self, body: &[u8], bytes: Permits) -> Result<(Option<Permits>, Option<Permits>), End> {
+    async fn with_found(&self, body: &[u8], bytes: Permits) -> (Option<Permits>, Option<Permits>) {
         match found_in(body) {
-            0 => Ok((Some(bytes), None)),
+            0 => (Some(bytes), None),
             count => {
                 drop(bytes);
                 // Such a body has at most 264 bytes.
                 let all = count + FRAME_COST + body.len() as u32;
-                Ok((None, Some(take(&self.bytes, &self.account.bytes, all).await?)))
+                (None, Some(take(&self.bytes, &self.account.bytes, all).await))
             }
         }
     }
@@ -308,7 +315,7 @@ impl<R: AsyncRead + Unpin> Reader<'_, R> {
         let (user, following) = (&self.account.user, &self.shared.following);
         match what {
             Asked::Hello => Some(welcome(number, user.client, user.grant)),
-            Asked::Moment => Some(moment(number, following.clock.now(), self.shared.duties.lease_seconds)),
+            Asked::Moment => Some(moment(number, following.clock.now(), self.shared.duties().lease_seconds)),
             Asked::Times(node) => Some(times(number, following.times().of(node))),
             Asked::Outcome(own) => Some(match following.outcomes.look(user.client, own) {
                 Stands::Done(answer) => told_again(number, &answer),
@@ -343,7 +350,7 @@ impl<R: AsyncRead + Unpin> Reader<'_, R> {
 
     /// Why kfsd refuses a lease: it would live for longer than any may, or isn't renewed, since another client wants it.
     fn refusal_of(&self, wish: &Wish) -> Option<Refusal> {
-        let (following, longest) = (&self.shared.following, self.shared.duties.lease_seconds);
+        let (following, longest) = (&self.shared.following, self.shared.duties().lease_seconds);
         if longest != 0 && wish.end > following.clock.now().saturating_add(longest) {
             return Some(Refusal::TooFar);
         }
@@ -363,16 +370,15 @@ impl<R: AsyncRead + Unpin> Reader<'_, R> {
                 sleep(wait).await;
             }
         }
-        self.slots.send(Slot { number: head.number, said, _frame: frame, _found: None }).await?;
+        self.slots.send(Slot { number: head.number, said, _frame: frame, _found: None })?;
         Ok(())
     }
 }
 
 /// Takes so many places of the connection, and then of its user, when they are free.
-async fn take(of_connection: &Arc<Semaphore>, of_user: &Arc<Semaphore>, count: u32) -> Result<Permits, AcquireError> {
-    let of_connection = Arc::clone(of_connection).acquire_many_owned(count).await?;
-    let of_user = Arc::clone(of_user).acquire_many_owned(count).await?;
-    Ok(Permits { of_connection, of_user })
+async fn take(of_connection: &Arc<Allowance>, of_user: &Arc<Allowance>, count: u32) -> Permits {
+    let of_connection = of_connection.take(count).await;
+    Permits { of_connection, of_user: of_user.take(count).await }
 }
 
 /// The reply that tells which leases others want: when there is one behind this serial, after a while, or when kfsd stops.
@@ -441,8 +447,8 @@ async fn set_time(shared: Arc<Shared>, account: Arc<Account>, node: u32, time: i
 /// Writes replies in the order of their frames, each as soon as it is there. Those that are there together are written at once.
 async fn write_replies(
     mut to: impl AsyncWrite + Unpin,
-    mut waiting: mpsc::Receiver<Slot>,
-    time: Duration,
+    mut waiting: mpsc::UnboundedReceiver<Slot>,
+    shared: &Shared,
 ) -> Result<(), tokio::time::error::Elapsed> {
     let mut next = waiting.recv().await;
     while let Some(mut slot) = next {
@@ -461,7 +467,7 @@ async fn write_replies(
                 break;
             }
         }
-        if timeout(time, to.write_all(&bytes)).await?.is_err() {
+        if timeout(shared.limits().reply_time(), to.write_all(&bytes)).await?.is_err() {
             break;
         }
         drop(written);

@@ -1,5 +1,6 @@
 //! From start to stop.
 
+use crate::clients::Clients;
 use crate::cluster::member::Member;
 use crate::cluster::term::Term;
 use crate::config::{Config, ConfigFault};
@@ -13,6 +14,7 @@ use crate::frames::CHECKPOINT;
 use crate::metrics;
 use crate::moves;
 use crate::queue::Queue;
+use crate::rules::{Changes, Rules};
 use crate::sockets::{accept, Sockets};
 use crate::store::Store;
 use crate::users::{lines_of, Table};
@@ -85,9 +87,9 @@ struct Daemon {
     config: Config,
     path: PathBuf,
     /// The clients that the desk has.
-    clients: String,
+    clients: Arc<Clients>,
     shared: Arc<Shared>,
-    table: watch::Sender<Arc<Table>>,
+    rules: watch::Sender<Arc<Rules>>,
     stopping: watch::Sender<bool>,
     desk: JoinHandle<Result<(), DeskFault>>,
 }
@@ -101,9 +103,9 @@ pub async fn run(path: &Path) -> Result<(), DaemonFault> {
         place = Place::of(&config, folder) => place?,
         _ = signals.stop() => return Ok(()),
     };
-    let (daemon, mut ready) = Daemon::start(config, path, place)?;
+    let (mut daemon, mut ready) = Daemon::start(config, path, place)?;
     daemon.tell_figures().await?;
-    if !is_opened(&mut ready, &mut signals).await {
+    if !daemon.is_opened(&mut ready, &mut signals).await {
         return daemon.end_desk().await;
     }
     let sockets = Sockets::bind(&daemon.config.socket, &daemon.config.control)?;
@@ -116,19 +118,6 @@ fn read_config(path: &Path) -> Result<Config, DaemonFault> {
     let config = Config::read(path)?;
     raise_files(&config)?;
     Ok(config)
-}
-
-/// Waits until the desk is open. False where it has ended, or a signal says to stop.
-async fn is_opened(ready: &mut watch::Receiver<bool>, signals: &mut Signals) -> bool {
-    loop {
-        tokio::select! {
-            // Where the desk has ended, nobody changes this any more.
-            changed = ready.changed() => return changed.is_ok(),
-            asked = signals.next() => if matches!(asked, Asked::Stop) {
-                return false;
-            },
-        }
-    }
 }
 
 /// Where the desk is: on this machine alone, or on several.
@@ -155,13 +144,14 @@ impl Place {
         Ok(Place::Member(Box::new(member)))
     }
 
-    /// The lines of the clients of the desk.
-    fn clients(&self, config: &Config) -> Result<String, DaemonFault> {
+    /// The clients of the desk.
+    fn clients(&self, config: &Config) -> Result<Clients, DaemonFault> {
         match self {
             Place::Alone(folder) => {
-                folder.clients(&lines_of(&config.users)).map_err(|fault| DaemonFault::Io(folder.clients_path(), fault))
+                let failed = |fault| DaemonFault::Io(folder.clients_path(), fault);
+                Ok(Clients::of_desk(folder.clients(&lines_of(&config.users)).map_err(failed)?))
             }
-            Place::Member(member) => Ok(member.clients().to_string()),
+            Place::Member(member) => Ok(Clients::of_volume(member.clients().to_string())),
         }
     }
 
@@ -172,7 +162,7 @@ impl Place {
         }
     }
 
-    fn begin(self, config: &Config) -> Result<Begun, DaemonFault> {
+    fn begin(self, config: &Config, clients: &Arc<Clients>) -> Result<Begun, DaemonFault> {
         match self {
             Place::Alone(folder) => Ok(Begun::Alone(Desk {
                 program: config.program.clone(),
@@ -180,6 +170,7 @@ impl Place {
                 folder,
                 rows: config.rows,
                 tiers: config.tiers,
+                clients: Arc::clone(clients),
             })),
             Place::Member(member) => Ok(Begun::Member(member)),
         }
@@ -188,23 +179,21 @@ impl Place {
 
 impl Daemon {
     fn start(config: Config, path: &Path, place: Place) -> Result<(Daemon, watch::Receiver<bool>), DaemonFault> {
-        let clients = place.clients(&config)?;
-        let first = table_of(&config, &clients, &Table::default());
-        let (table, tables) = watch::channel(Arc::new(first));
+        let clients = Arc::new(place.clients(&config)?);
+        clients.list(&config.users);
+        let (rules, now) = watch::channel(Arc::new(rules_of(&config, &clients, &Table::default())));
         let (stopping, stops) = watch::channel(false);
         let (is_ready, ready) = watch::channel(false);
         let shared = Arc::new(Shared {
             queue: Queue::default(),
             figures: Figures::default(),
-            limits: config.limits,
-            duties: config.duties,
             following: Following::default(),
             term: place.term(),
-            table: tables,
+            rules: now,
             stopping: stops,
         });
-        shared.following.wants().set_time(Duration::from_secs(shared.duties.wanted_seconds));
-        let desk = place.begin(&config)?;
+        shared.following.wants().set_time(Duration::from_secs(config.duties.wanted_seconds));
+        let desk = place.begin(&config, &clients)?;
         let of_desk = Arc::clone(&shared);
         let desk = tokio::spawn(async move {
             let ended = match desk {
@@ -215,7 +204,21 @@ impl Daemon {
             of_desk.queue.give_up();
             ended
         });
-        Ok((Daemon { config, path: path.to_path_buf(), clients, shared, table, stopping, desk }, ready))
+        Ok((Daemon { config, path: path.to_path_buf(), clients, shared, rules, stopping, desk }, ready))
+    }
+
+    /// Waits until the desk is open. False where it has ended, or a signal says to stop.
+    async fn is_opened(&mut self, ready: &mut watch::Receiver<bool>, signals: &mut Signals) -> bool {
+        loop {
+            tokio::select! {
+                // Where the desk has ended, nobody changes this any more.
+                changed = ready.changed() => return changed.is_ok(),
+                asked = signals.next() => match asked {
+                    Asked::Stop => return false,
+                    Asked::Reload => self.reload(),
+                },
+            }
+        }
     }
 
     /// Tells figures where the configuration says so.
@@ -230,16 +233,19 @@ impl Daemon {
 
     /// Serves connections until a signal says to stop, or the desk is lost.
     async fn serve(mut self, sockets: Sockets, mut signals: Signals) -> Result<(), DaemonFault> {
+        let mut clients = self.clients.changes();
+        // What has changed before this.
+        self.put_rules();
         let accepting = tokio::spawn(accept(sockets, Arc::clone(&self.shared)));
         let ticking = tokio::spawn(duties::tick_on(Arc::clone(&self.shared)));
-        let moving = (self.shared.duties.free_percent > 0)
-            .then(|| tokio::spawn(moves::move_on(Arc::clone(&self.shared), self.config.tiers)));
+        let moving = tokio::spawn(moves::move_on(Arc::clone(&self.shared), self.config.tiers));
         let lost = loop {
             tokio::select! {
                 asked = signals.next() => match asked {
                     Asked::Reload => self.reload(),
                     Asked::Stop => break None,
                 },
+                Ok(()) = clients.changed() => self.put_rules(),
                 ended = &mut self.desk => break Some(ended),
             }
         };
@@ -249,7 +255,7 @@ impl Daemon {
             warn!("some connections haven't ended in time");
         }
         // One that is at the desk is made, and no other one.
-        moving.iter().for_each(JoinHandle::abort);
+        moving.abort();
         if timeout(LAST_TICK, ticking).await.is_err() {
             warn!("the desk isn't told the last moment in time");
         }
@@ -261,7 +267,7 @@ impl Daemon {
 
     /// Ends the desk, once what waits is answered.
     async fn end_desk(mut self) -> Result<(), DaemonFault> {
-        let is_for_later = self.shared.duties.checkpoint_at_stop && self.config.cluster.is_none();
+        let is_for_later = self.config.duties.checkpoint_at_stop && self.config.cluster.is_none();
         if is_for_later && self.shared.figures.opened.get() == 1 {
             // Where it isn't made, the next start takes longer.
             drop(self.shared.queue.push_own(vec![CHECKPOINT]));
@@ -278,29 +284,42 @@ impl Daemon {
         }
     }
 
-    /// Reads the users anew. Where the file is wrong all stays as it is.
+    /// Reads the file anew. Where it is wrong all stays as it is.
     fn reload(&mut self) {
-        let config = match read_config(&self.path) {
-            Ok(config) => config,
-            Err(fault) => return warn!("the users stay as they are: {fault}"),
+        let (config, changes) = match self.read_anew() {
+            Ok(found) => found,
+            Err(fault) => return warn!("the configuration stays as it is: {fault}"),
         };
-        if !config.differs_in_users_alone(&self.config) {
-            warn!("of the configuration the users alone are read anew; the rest is for the next start");
+        let Config { limits, duties, users, .. } = config;
+        self.config = Config { limits, duties, users, ..self.config.clone() };
+        self.clients.list(&self.config.users);
+        self.put_rules();
+        let taken = if changes.taken.is_empty() { "nothing has changed".to_string() } else { changes.taken.join("; ") };
+        info!("the configuration is read anew: {taken}");
+        if !changes.waiting.is_empty() {
+            warn!("for the next start, since the configuration has it otherwise: {}", changes.waiting.join(", "));
         }
-        self.config.users = config.users;
-        let before = Arc::clone(&self.table.borrow());
-        self.table.send_replace(Arc::new(table_of(&self.config, &self.clients, &before)));
-        info!("users are read anew");
+    }
+
+    /// What the file says now, and what of it is otherwise.
+    fn read_anew(&self) -> Result<(Config, Changes), DaemonFault> {
+        let config = read_config(&self.path)?;
+        let changes = Changes::between(&self.config, &config)?;
+        Ok((config, changes))
+    }
+
+    /// Has the configuration and the desk's clients hold from now on, all at once.
+    fn put_rules(&self) {
+        let rules = rules_of(&self.config, &self.clients, &self.rules.borrow().table);
+        self.shared.following.wants().set_time(Duration::from_secs(rules.duties.wanted_seconds));
+        self.rules.send_replace(Arc::new(rules));
     }
 }
 
-/// The table of a configuration's users. Those who aren't clients of the desk are named in the log, and kept out.
-fn table_of(config: &Config, clients: &str, before: &Table) -> Table {
-    let table = Table::new(&config.users, clients, &config.limits, before);
-    for user in table.strangers() {
-        warn!("user {} is kept out: the desk was begun without `{}`, and takes no new client", user.uid, user.line());
-    }
-    table
+/// What a configuration says for these clients of the desk.
+fn rules_of(config: &Config, clients: &Clients, before: &Table) -> Rules {
+    let table = Table::new(&config.users, &clients.lines(), &config.limits, before);
+    Rules { limits: config.limits, duties: config.duties, table }
 }
 
 /// Opens what kfsd itself keeps. A desk that isn't there yet has nothing of it.

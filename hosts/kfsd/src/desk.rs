@@ -1,6 +1,7 @@
 //! `kfs_serve`: the process, its two pipes, and a new one where it ends before its time.
 
 use crate::calls::Told;
+use crate::clients::{Clients, Refusal};
 use crate::cluster::ClusterFault;
 use crate::connection::Shared;
 use crate::flight::Flight;
@@ -69,13 +70,24 @@ pub struct Desk {
     pub tiers: [u32; 3],
     /// What kfsd keeps itself.
     pub store: Arc<Mutex<Store>>,
+    /// Who is a client, and who is to become one.
+    pub clients: Arc<Clients>,
+}
+
+/// Why a process is sent nothing more.
+#[derive(Clone, Copy, Debug, PartialEq, Eq)]
+enum Why {
+    /// No call comes any more.
+    Closed,
+    /// There are new clients, which the next process takes.
+    NewClients,
 }
 
 /// How a process of `kfs_serve` ended.
 struct Ended {
     status: ExitStatus,
-    /// Whether it ended because its input did, with all frames answered.
-    is_done: bool,
+    /// Why it ended because its input did, with all frames answered; none where that isn't so.
+    done: Option<Why>,
     /// Whether it answered the first frame.
     has_begun: bool,
     /// The frames that it has left without an answer.
@@ -89,10 +101,21 @@ impl Desk {
         self.begin(shared)?;
         let mut fruitless = 0;
         loop {
-            let ended = self.once(shared, ready).await?;
+            let lines = self.new_clients()?;
+            let ended = self.once(shared, ready, lines.as_deref()).await?;
             self.keep(shared)?;
-            if ended.is_done {
-                return Ok(self.store().end()?);
+            match ended.done {
+                Some(Why::Closed) => return Ok(self.store().end()?),
+                Some(Why::NewClients) => {
+                    fruitless = 0;
+                    continue;
+                }
+                None => {}
+            }
+            let tried = lines.as_deref().filter(|_| !ended.has_begun);
+            if self.keeps_out(tried, ended.status)? {
+                fruitless = 0;
+                continue;
             }
             fault_of(ended.status)?;
             self.settle(shared, ended.left)?;
@@ -102,6 +125,29 @@ impl Desk {
             }
             warn!("kfs_serve has ended before its input did: {}", ended.status);
             sleep(PAUSE * 2u32.pow(fruitless)).await;
+        }
+    }
+
+    /// The lines of the clients that a start takes, where there are new ones. The first start takes all that are listed anyway.
+    fn new_clients(&self) -> Result<Option<String>, DeskFault> {
+        let has_files = self.folder.files().map_err(DeskFault::Folder)? == Found::Both;
+        Ok(if has_files { self.clients.wanted() } else { None })
+    }
+
+    /// Whether the clients that a process was to take are kept out from now on, since it has ended so before it had begun.
+    fn keeps_out(&self, tried: Option<&str>, status: ExitStatus) -> Result<bool, DeskFault> {
+        let how = match status.code() {
+            Some(1) => Refusal::Clients,
+            Some(2) => Refusal::Word,
+            Some(3) => return Ok(false),
+            _ => Refusal::Ended,
+        };
+        match tried {
+            Some(lines) if self.clients.failed(lines, how) => {
+                self.folder.keep_clients(&self.clients.lines()).map_err(DeskFault::Folder)?;
+                Ok(true)
+            }
+            _ => Ok(false),
         }
     }
 
@@ -166,55 +212,58 @@ impl Desk {
         Ok(())
     }
 
-    /// Starts a process, and has it answer calls until it ends.
-    async fn once(&self, shared: &Shared, ready: &watch::Sender<bool>) -> Result<Ended, DeskFault> {
+    /// Starts a process with these clients, or with those that there are, and has it answer calls until it ends.
+    async fn once(&self, shared: &Shared, ready: &watch::Sender<bool>, lines: Option<&str>) -> Result<Ended, DeskFault> {
         let figures = &shared.figures;
-        let (mut child, mut to, from) = self.start()?;
+        let (mut child, mut to, from) = self.start(lines)?;
         figures.starts.add(1);
         figures.process.set(child.id().map_or(0, u64::from));
         let mut from = BufReader::new(from);
         let flight = Flight::default();
         shared.queue.begin_anew();
         let has_begun = is_open(&mut to, &mut from).await;
-        let mut is_done = false;
+        let mut done = None;
         if has_begun {
             info!("kfs_serve is ready");
             figures.opened.set(1);
+            if let Some(lines) = lines {
+                self.clients.admitted(lines);
+            }
             ready.send_replace(true);
-            is_done = self.talk(to, &mut from, shared, &flight).await?;
+            done = self.talk(to, &mut from, shared, &flight).await?;
         } else {
             drop(to);
         }
         figures.opened.set(0);
         let status = end(&mut child, &self.program).await?;
         figures.process.set(0);
-        Ok(Ended { status, is_done: is_done && status.success(), has_begun, left: flight.take_all() })
+        Ok(Ended { status, done: done.filter(|_| status.success()), has_begun, left: flight.take_all() })
     }
 
-    /// Sends calls and hands their answers out. Answers whether the queue has ended, and all calls were answered.
+    /// Sends calls and hands their answers out. Answers why nothing more is sent, where all calls were answered.
     async fn talk(
         &self,
         to: ChildStdin,
         from: &mut (impl AsyncRead + Unpin),
         shared: &Shared,
         flight: &Flight,
-    ) -> Result<bool, DeskFault> {
-        let writing = write_calls(to, shared, flight);
+    ) -> Result<Option<Why>, DeskFault> {
+        let writing = write_calls(to, shared, flight, &self.clients);
         let reading = read_replies(from, shared, flight);
         let keeping = self.keep_on(shared, flight);
         tokio::pin!(writing, reading, keeping);
-        let is_sent = tokio::select! {
+        let why = tokio::select! {
             // Where it fails, what was answered is in the pipe still.
-            sent = &mut writing => sent.is_ok(),
+            sent = &mut writing => sent.ok(),
             read = &mut reading => {
                 say_why(read);
-                return Ok(false);
+                return Ok(None);
             }
             fault = &mut keeping => return Err(fault),
         };
-        let read = if is_sent { reading.await } else { timeout(LAST_MOMENT, reading).await.unwrap_or(Ok(())) };
+        let read = if why.is_some() { reading.await } else { timeout(LAST_MOMENT, reading).await.unwrap_or(Ok(())) };
         say_why(read);
-        Ok(is_sent && flight.is_empty())
+        Ok(why.filter(|_| flight.is_empty()))
     }
 
     /// Keeps outcomes now and then, and whenever much was sent behind them. Returns where that fails.
@@ -238,9 +287,9 @@ impl Desk {
         }
     }
 
-    fn start(&self) -> Result<(Child, ChildStdin, ChildStdout), DeskFault> {
+    fn start(&self, lines: Option<&str>) -> Result<(Child, ChildStdin, ChildStdout), DeskFault> {
         let mut child = Command::new(&self.program)
-            .args(self.words()?)
+            .args(self.words(lines)?)
             .stdin(Stdio::piped())
             .stdout(Stdio::piped())
             .kill_on_drop(true)
@@ -252,12 +301,18 @@ impl Desk {
         }
     }
 
-    /// `open` where both files are there, and `new` where there is none.
-    fn words(&self) -> Result<Vec<OsString>, DeskFault> {
+    /// `open` where both files are there, with these clients where they are given; and `new` where there is none.
+    fn words(&self, lines: Option<&str>) -> Result<Vec<OsString>, DeskFault> {
         let folder = self.folder.path();
         let mut words: Vec<OsString> = vec!["open".into(), folder.into(), self.rows.to_string().into()];
         match self.folder.files().map_err(DeskFault::Folder)? {
-            Found::Both => Ok(words),
+            Found::Both => {
+                if let Some(lines) = lines {
+                    self.folder.keep_clients(lines).map_err(DeskFault::Folder)?;
+                    words.extend(["--clients".into(), self.folder.clients_path().into()]);
+                }
+                Ok(words)
+            }
             Found::One => Err(DeskFault::HalfMade(folder.to_path_buf())),
             Found::None => {
                 words[0] = "new".into();
@@ -293,14 +348,26 @@ fn say_why(read: io::Result<()>) {
     }
 }
 
-/// Sends calls until the queue has ended. Then the input of `kfs_serve` ends, too.
-async fn write_calls(mut to: ChildStdin, shared: &Shared, flight: &Flight) -> io::Result<()> {
-    while let Some(Batch { bytes, sent }) = shared.queue.next(flight.room().await).await {
-        count_sent(&sent, shared);
-        flight.add(sent).await;
-        to.write_all(&bytes).await?;
+/// Sends calls until the queue has ended, or there are new clients. Then the input of `kfs_serve` ends, too.
+async fn write_calls(mut to: ChildStdin, shared: &Shared, flight: &Flight, clients: &Clients) -> io::Result<Why> {
+    let are_new = clients.due();
+    tokio::pin!(are_new);
+    loop {
+        // Where this is dropped it has taken nothing.
+        let next = async { shared.queue.next(flight.room().await).await };
+        let batch = tokio::select! {
+            batch = next => batch,
+            () = &mut are_new => return Ok(Why::NewClients),
+        };
+        match batch {
+            None => return Ok(Why::Closed),
+            Some(Batch { bytes, sent }) => {
+                count_sent(&sent, shared);
+                flight.add(sent).await;
+                to.write_all(&bytes).await?;
+            }
+        }
     }
-    Ok(())
 }
 
 /// Hands answers out until the output of `kfs_serve` ends.

@@ -17,7 +17,7 @@ const LOOK: Duration = Duration::from_millis(500);
 pub async fn tick_on(shared: Arc<Shared>) {
     let mut stopping = shared.stopping.clone();
     while !*stopping.borrow_and_update() {
-        let due = shared.following.leases().tick_due(shared.following.clock.now(), shared.duties.tick_seconds);
+        let due = shared.following.leases().tick_due(shared.following.clock.now(), shared.duties().tick_seconds);
         if let Some(moment) = due {
             // Where nobody knows the answer, the leases are read anew, and the next look finds out.
             let _ = shared.queue.push_own(tick(moment)).await;

@@ -1,5 +1,6 @@
-//! The folder of a desk: its two files, the clients that it was begun with, and the lock that keeps other daemons out.
+//! The folder of a desk: its two files, the list of its clients, and the lock that keeps other daemons out.
 
+use crate::journal;
 use nix::errno::Errno;
 use nix::fcntl::{fcntl, flock, FcntlArg, FdFlag, FlockArg};
 use std::fs::{self, File, OpenOptions};
@@ -46,7 +47,7 @@ impl Folder {
         &self.path
     }
 
-    /// The file of the clients that the desk was begun with.
+    /// The file of clients that `kfs_serve` reads.
     pub fn clients_path(&self) -> PathBuf {
         self.path.join("clients")
     }
@@ -64,16 +65,19 @@ impl Folder {
         Ok([Found::None, Found::One, Found::Both][count])
     }
 
-    /// The lines of the clients of the desk. Where there is no desk yet these become the lines given.
+    /// The lines of the clients of the desk, as its files have them. Where there is no desk yet these become the lines given.
     pub fn clients(&self, first: &str) -> io::Result<String> {
         if self.files()? == Found::None {
             self.keep_clients(first)?;
         }
-        fs::read_to_string(self.clients_path())
+        match journal::clients(&self.path)? {
+            Some(lines) => Ok(lines),
+            None => fs::read_to_string(self.clients_path()),
+        }
     }
 
-    /// Puts the lines of the clients in place, so that a crash leaves the old ones or these.
-    fn keep_clients(&self, lines: &str) -> io::Result<()> {
+    /// Puts the lines of clients in place for `kfs_serve`, so that a crash leaves the old ones or these.
+    pub fn keep_clients(&self, lines: &str) -> io::Result<()> {
         let part = self.path.join("clients.part");
         let mut file = OpenOptions::new().create(true).truncate(true).write(true).mode(0o600).open(&part)?;
         file.write_all(lines.as_bytes())?;

@@ -5,6 +5,7 @@
 use crate::bytes::Bytes;
 use crate::folder::FILES;
 use crate::leases::{Lease, Leases};
+use crate::users::{lines_of, User};
 use std::fs::File;
 use std::io::{self, BufReader, ErrorKind, Read, Seek, SeekFrom};
 use std::path::Path;
@@ -43,6 +44,17 @@ pub fn read(folder: &Path, mut tell: impl FnMut(Part<'_>)) -> io::Result<()> {
     }
     tell(Part::State(counts.state()?));
     counts.tell_calls(&mut tell)
+}
+
+/// The lines of the clients of the state that the file which counts begins with; none where no file counts.
+pub fn clients(folder: &Path) -> io::Result<Option<String>> {
+    match whole_in(folder)?.first_mut() {
+        Some(counts) => {
+            let (_moment, clients, _leases) = counts.state_head()?;
+            Ok(Some(lines_of(&counts.clients(clients)?)))
+        }
+        None => Ok(None),
+    }
 }
 
 /// The files whose heads are whole, the one that counts first.
@@ -96,16 +108,28 @@ impl Whole {
         Ok(bytes)
     }
 
-    /// The moment and the leases of the state. The file stands at the state.
-    fn state(&mut self) -> io::Result<Leases> {
+    /// The moment of the state, and how many clients and leases it has. The file stands at the state.
+    fn state_head(&mut self) -> io::Result<(u64, u32, u32)> {
         let head = self.take(HEAD)?;
         let mut bytes = Bytes(&head[5..]);
-        let moment = bytes.long().unwrap_or(0);
-        let (clients, leases) = (bytes.word().unwrap_or(0), bytes.word().unwrap_or(0));
-        for _ in 0..clients {
+        Ok((bytes.long().unwrap_or(0), bytes.word().unwrap_or(0), bytes.word().unwrap_or(0)))
+    }
+
+    /// So many clients. The file stands at the first of them.
+    fn clients(&mut self, count: u32) -> io::Result<Vec<User>> {
+        let mut found = Vec::new();
+        for _ in 0..count {
             let row = self.take(22)?;
-            self.take(4 * usize::from(row[21]))?;
+            let groups = self.take(4 * usize::from(row[21]))?;
+            found.extend(client_of(&row, &groups));
         }
+        Ok(found)
+    }
+
+    /// The moment and the leases of the state. The file stands at the state.
+    fn state(&mut self) -> io::Result<Leases> {
+        let (moment, clients, leases) = self.state_head()?;
+        self.clients(clients)?;
         let mut found = Leases::at(moment);
         for _ in 0..leases {
             let row = self.take(17)?;
@@ -135,6 +159,15 @@ impl Whole {
         }
         Ok(())
     }
+}
+
+/// The client that a row and the groups behind it are.
+fn client_of(row: &[u8], groups: &[u8]) -> Option<User> {
+    let (mut bytes, mut groups) = (Bytes(row), Bytes(groups));
+    let (client, uid, gid, privilege) = (bytes.word()?, bytes.word()?, bytes.word()?, bytes.byte()?);
+    let grant = [bytes.word()?, bytes.word()?];
+    let groups = std::iter::from_fn(|| groups.word()).collect();
+    Some(User { uid, gid, client, groups, privileged: privilege == 1, grant })
 }
 
 /// Tells the calls of a group: each behind its length of four bytes, and its answer behind one of one byte.
@@ -204,6 +237,20 @@ mod tests {
         assert_eq!(told(&old[..30], &new), [state, "c[1, 1]"]);
         assert_eq!(told(&[], &new), [state, "c[1, 1]"]);
         assert_eq!(told(&[], &[]), Vec::<String>::new());
+    }
+
+    #[test]
+    fn clients_are_those_of_the_file_that_counts() {
+        let room = Room::new("rows");
+        assert_eq!(clients(&room.0).unwrap(), None);
+        std::fs::write(room.0.join(FILES[1]), file(4, 1, &[b"a"])).unwrap();
+        let mut other = file(5, 1, &[]);
+        other[52] = 1;
+        std::fs::write(room.0.join(FILES[0]), &other).unwrap();
+        assert_eq!(clients(&room.0).unwrap().unwrap(), "client 7 1 257 0 2 9 5\n");
+        other[12] = 0;
+        std::fs::write(room.0.join(FILES[0]), &other).unwrap();
+        assert_eq!(clients(&room.0).unwrap().unwrap(), "client 7 1 1 0 2 9 5\n");
     }
 
     #[test]

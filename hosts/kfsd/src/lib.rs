@@ -6,8 +6,10 @@
 
 #![forbid(unsafe_code)]
 
+pub mod allowance;
 pub mod bytes;
 pub mod calls;
+pub mod clients;
 pub mod clock;
 pub mod cluster;
 pub mod config;
@@ -29,6 +31,7 @@ pub mod outcomes;
 pub mod pace;
 pub mod peer;
 pub mod queue;
+pub mod rules;
 pub mod sockets;
 pub mod status;
 pub mod store;

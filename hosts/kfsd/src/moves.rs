@@ -81,7 +81,10 @@ pub async fn move_on(shared: Arc<Shared>, sizes: [u32; 3]) {
     let mut stopping = shared.stopping.clone();
     let mut places = Places { sizes, used: Default::default() };
     while !*stopping.borrow_and_update() {
-        make_room(&shared, &mut places).await;
+        let percent = shared.duties().free_percent;
+        if percent > 0 {
+            make_room(&shared, &mut places, percent).await;
+        }
         let waiting = async {
             tokio::select! {
                 () = shared.following.is_short() => {}
@@ -94,9 +97,9 @@ pub async fn move_on(shared: Arc<Shared>, sizes: [u32; 3]) {
     }
 }
 
-/// Moves blocks where fewer places are free than should be, until twice as many are or no file is left.
-async fn make_room(shared: &Shared, places: &mut Places) {
-    let least = u64::from(places.sizes[0]) * u64::from(shared.duties.free_percent) / 100;
+/// Moves blocks where fewer of 100 places are free than should be, until twice as many are or no file is left.
+async fn make_room(shared: &Shared, places: &mut Places, percent: u8) {
+    let least = u64::from(places.sizes[0]) * u64::from(percent) / 100;
     let mut moved = 0;
     if matches!(free_places(shared).await, Some(free) if free < least) {
         let oldest = shared.following.times().oldest();

@@ -1,5 +1,6 @@
 //! The calls that wait for `kfs_serve`, by client. Clients take turns by bytes, so none waits for all that another has sent.
 
+use crate::allowance::Taken;
 use crate::calls::Note;
 use crate::config::FRAME_COST;
 use crate::frames::{Head, Reply, CHECKPOINT, HEAD};
@@ -8,7 +9,7 @@ use crate::users::FRONT;
 use std::collections::{HashMap, VecDeque};
 use std::sync::{Mutex, MutexGuard, PoisonError};
 use std::time::{Duration, Instant};
-use tokio::sync::{oneshot, Notify, OwnedSemaphorePermit};
+use tokio::sync::{oneshot, Notify};
 use tokio::time::timeout_at;
 
 /// How many bytes a client may send in one turn, each frame with its cost. A longer frame waits for some turns.
@@ -23,8 +24,8 @@ const BYTES_A_SECOND: u64 = 4 << 20;
 /// What a connection has taken of its own limit and of its user's, given back once this is gone.
 #[derive(Debug)]
 pub struct Permits {
-    pub of_connection: OwnedSemaphorePermit,
-    pub of_user: OwnedSemaphorePermit,
+    pub of_connection: Taken,
+    pub of_user: Taken,
 }
 
 /// How a call ended. Where nothing comes, nobody knows.
@@ -396,31 +397,15 @@ impl Lines {
 #[cfg(test)]
 mod tests {
     use super::*;
-    use std::sync::Arc;
-    use tokio::sync::Semaphore;
     use tokio::time::timeout;
 
     const MOST: usize = 65_536;
 
-    fn permits() -> Permits {
-        let all = Arc::new(Semaphore::new(2));
-        let one = || Arc::clone(&all).try_acquire_owned().unwrap();
-        Permits { of_connection: one(), of_user: one() }
-    }
-
     fn call(client: u32, length: usize) -> (Call, oneshot::Receiver<Answer>) {
         let (to, answer) = oneshot::channel();
-        let asker = Asker { to, frame: Some(Arc::new(permits())) };
+        let asker = Asker { to, frame: None };
         (
-            Call {
-                client,
-                body: vec![7; length],
-                note: Note::Nothing,
-                came: Instant::now(),
-                number: None,
-                bytes: Some(permits()),
-                asker,
-            },
+            Call { client, body: vec![7; length], note: Note::Nothing, came: Instant::now(), number: None, bytes: None, asker },
             answer,
         )
     }

@@ -69,19 +69,19 @@ pub struct UserStatus {
     pub uid: u32,
     pub client: u32,
     pub connections: u32,
-    pub frames_left: usize,
-    pub bytes_left: usize,
+    pub frames_left: u64,
+    pub bytes_left: u64,
 }
 
 /// How kfsd stands now.
 pub fn status(shared: &Shared) -> Status {
-    let (figures, table) = (&shared.figures, Arc::clone(&shared.table.borrow()));
-    let user = table.all().into_iter().map(|account| UserStatus {
+    let (figures, rules) = (&shared.figures, Arc::clone(&shared.rules.borrow()));
+    let user = rules.table.all().into_iter().map(|account| UserStatus {
         uid: account.user.uid,
         client: account.user.client,
         connections: account.connections(),
-        frames_left: account.frames.available_permits(),
-        bytes_left: account.bytes.available_permits(),
+        frames_left: account.frames.left(),
+        bytes_left: account.bytes.left(),
     });
     let micros = figures.times.sum().as_micros() as u64;
     Status {
@@ -129,7 +129,7 @@ pub fn users(shared: &Shared) -> String {
         // Nothing is refused where a String is written to, here and below.
         let _ = writeln!(text, "{uid:>8} {client:>8} {connections:>11} {frames_left:>11} {bytes_left:>10}");
     }
-    for user in shared.table.borrow().strangers() {
+    for user in shared.rules.borrow().table.strangers() {
         let _ = writeln!(text, "{:>8} {:>8} is kept out: the desk has no such client", user.uid, user.client);
     }
     text

@@ -1,14 +1,14 @@
 //! Who may connect, and which client of the desk each one is.
 
+use crate::allowance::Allowance;
 use crate::config::Limits;
 use crate::pace::Pace;
-use serde::Deserialize;
+use serde::{Deserialize, Serialize};
 use std::collections::{BTreeSet, HashMap};
 use std::fmt::Write as _;
 use std::sync::atomic::{AtomicU32, Ordering};
 use std::sync::Arc;
 use thiserror::Error;
-use tokio::sync::Semaphore;
 
 /// The client number that stands for the front itself.
 pub const FRONT: u32 = u32::MAX;
@@ -22,7 +22,7 @@ const ARRIVALS: u32 = 1_000;
 const AT_ONCE: u32 = 1_000;
 
 /// A user of the configuration.
-#[derive(Clone, Debug, Deserialize, PartialEq, Eq)]
+#[derive(Clone, Debug, Deserialize, Serialize, PartialEq, Eq)]
 #[serde(deny_unknown_fields)]
 pub struct User {
     /// The user's number on this machine, which the kernel tells of a connection.
@@ -49,6 +49,17 @@ impl User {
             let _ = write!(line, " {group}");
         }
         line
+    }
+
+    /// The user that such a line is; none where it is no such line.
+    pub fn of_line(line: &str) -> Option<User> {
+        let numbers = line.strip_prefix("client ")?.split(' ').map(|word| word.parse().ok());
+        match *numbers.collect::<Option<Vec<u32>>>()? {
+            [client, uid, gid, privilege @ (0 | 1), first, last, ref groups @ ..] => {
+                Some(User { uid, gid, client, groups: groups.to_vec(), privileged: privilege == 1, grant: [first, last] })
+            }
+            _ => None,
+        }
     }
 }
 
@@ -94,8 +105,8 @@ pub fn lines_of(users: &[User]) -> String {
 #[derive(Debug)]
 pub struct Account {
     pub user: User,
-    pub frames: Arc<Semaphore>,
-    pub bytes: Arc<Semaphore>,
+    pub frames: Arc<Allowance>,
+    pub bytes: Arc<Allowance>,
     /// Frames that kfsd answers itself, and new connections. Where a user has more of them, they wait.
     pub answers: Pace,
     pub arrivals: Pace,
@@ -106,12 +117,18 @@ impl Account {
     fn new(user: User, limits: &Limits) -> Account {
         Account {
             user,
-            frames: Arc::new(Semaphore::new(limits.frames_a_user as usize)),
-            bytes: Arc::new(Semaphore::new(limits.bytes_a_user as usize)),
+            frames: Allowance::new(limits.frames_a_user),
+            bytes: Allowance::new(limits.bytes_a_user),
             answers: Pace::new(ANSWERS, AT_ONCE),
             arrivals: Pace::new(ARRIVALS, AT_ONCE),
             connections: AtomicU32::new(0),
         }
+    }
+
+    /// Holds it to other limits from now on. What it has in flight stays.
+    fn limit(&self, limits: &Limits) {
+        self.frames.set_most(limits.frames_a_user);
+        self.bytes.set_most(limits.bytes_a_user);
     }
 
     /// How many connections it has.
@@ -139,7 +156,7 @@ impl Drop for Place {
     }
 }
 
-/// The users that may connect now, by uid.
+/// The users that may connect, by uid.
 #[derive(Debug, Default)]
 pub struct Table {
     accounts: HashMap<u32, Arc<Account>>,
@@ -158,7 +175,10 @@ impl Table {
                 continue;
             }
             let account = match before.of(user.uid) {
-                Some(account) if account.user == *user => account,
+                Some(account) if account.user == *user => {
+                    account.limit(limits);
+                    account
+                }
                 _ => Arc::new(Account::new(user.clone(), limits)),
             };
             accounts.insert(user.uid, account);
@@ -203,6 +223,12 @@ mod tests {
     fn a_line_is_as_the_desk_reads_it() {
         assert_eq!(user(1000, 7).line(), "client 7 1000 1000 0 2 99 50 60");
         assert_eq!(lines_of(&[user(0, 1), user(5, 2)]), "client 1 0 0 1 2 99 50 60\nclient 2 5 5 0 2 99 50 60\n");
+        for one in [user(1000, 7), user(0, 1), User { groups: vec![], ..user(5, 2) }] {
+            assert_eq!(User::of_line(&one.line()), Some(one));
+        }
+        for line in ["", "client", "client 7 1 1 2 2 99", "client 7 1 1 0 2", "client 7 1 1 0 2 x", "client 7 1 1 0 2 99 "] {
+            assert_eq!(User::of_line(line), None, "{line}");
+        }
     }
 
     #[test]
@@ -235,5 +261,20 @@ mod tests {
         assert!(after.of(1).unwrap().connect(1).is_none());
         drop(place);
         assert!(after.of(1).unwrap().connect(1).is_some());
+    }
+
+    #[tokio::test]
+    async fn what_is_in_flight_outlives_other_limits() {
+        let users = [user(1, 7)];
+        let lines = lines_of(&users);
+        let table = |limits, before: &Table| Table::new(&users, &lines, &limits, before);
+        let before = table(Limits { frames_a_user: 2, ..Limits::default() }, &Table::default());
+        let account = before.of(1).unwrap();
+        let frame = account.frames.take(2).await;
+        let after = table(Limits { frames_a_user: 1, bytes_a_user: 70_000, ..Limits::default() }, &before);
+        assert!(Arc::ptr_eq(&account, &after.of(1).unwrap()));
+        assert_eq!((account.frames.left(), account.bytes.left()), (0, 70_000));
+        drop(frame);
+        assert_eq!(account.frames.left(), 1);
     }
 }

@@ -99,11 +99,15 @@ def runs_without_privilege(made):
 
 
 def reload(daemon):
-    """Has the users read anew."""
-    count = daemon.said().count("users are read anew") + daemon.said().count("users stay as they are")
+    """Has the configuration read anew."""
+
+    def count():
+        return daemon.said().count("configuration is read anew") + daemon.said().count("configuration stays as it is")
+
+    before = count()
     daemon.put_config()
     daemon.process.send_signal(signal.SIGHUP)
-    daemon.wait_for(lambda: daemon.said().count("users are read anew") + daemon.said().count("users stay as they are") > count)
+    daemon.wait_for(lambda: count() > before)
 
 
 def the_example_is_right(made):
@@ -124,7 +128,7 @@ def the_example_is_right(made):
 
 
 def users_are_read_anew(made):
-    """SIGHUP: who is left out is out at once, others go on, and who was no client at the first start is kept out."""
+    """SIGHUP: who is left out is out at once, others go on, and who can be no client is kept out."""
     with Daemon(*made).start() as daemon:
         seven, eight = daemon.connect(7), daemon.connect(8)
         assert seven.ask(1, lease(7, 10)).answer and eight.ask(1, lease(8, 10)).answer
@@ -134,7 +138,7 @@ def users_are_read_anew(made):
         assert eight.is_ended()
         assert daemon.stranger(1001).reply().refusal == ("Unlisted", 0)
         assert seven.ask(2, lease(7, 11)).answer
-        daemon.users = [*whole, user(1003, 10)]
+        daemon.users = [*whole, user(1003, 10, (1, 5))]
         reload(daemon)
         assert daemon.connect(8).ask(1, lease(8, 11)).answer
         assert daemon.connect(10).reply().refusal == ("NoClient", 0)

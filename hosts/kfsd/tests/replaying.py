@@ -85,15 +85,20 @@ def groups_in(path):
             yield copy.read(int.from_bytes(head, "big"))
 
 
+def pairs_in(group):
+    """Each call of a group with its answer, in their order."""
+    at = 0
+    while at < len(group):
+        end = at + 4 + int.from_bytes(group[at : at + 4], "big")
+        last = end + 1 + group[end]
+        yield group[at + 4 : end], group[end + 1 : last]
+        at = last
+
+
 def calls_in(path):
-    """Each call with its answer, in their order."""
+    """Each call of a copy with its answer, in their order."""
     for group in groups_in(path):
-        at = 0
-        while at < len(group):
-            end = at + 4 + int.from_bytes(group[at : at + 4], "big")
-            last = end + 1 + group[end]
-            yield group[at + 4 : end], group[end + 1 : last]
-            at = last
+        yield from pairs_in(group)
 
 
 # ---- Numbered calls

@@ -221,7 +221,7 @@ class Daemon:
     def ask(self, *words):
         """What kfsctl prints."""
         words = [f"{self.binaries}/kfsctl", "--control", f"{self.room}/control", *words]
-        return subprocess.run(words, check=True, capture_output=True, text=True, timeout=SOON).stdout
+        return subprocess.run(words, check=True, capture_output=True, text=True, timeout=self.patience).stdout
 
     def status(self):
         return tomllib.loads(self.ask("status"))
