@@ -177,7 +177,7 @@ class Cluster:
         self.settings, self.is_watched, self.watchers = settings or {}, is_watched, []
         self.room = tempfile.mkdtemp(prefix="kfsd-cluster-")
         self.lock = threading.Lock()
-        # The revision at which the leader's key came to be that was found last.
+        # The revision at which the leader's key that was found last was put.
         self.term = 0
         self.machines = []
         self.machines = [Machine(self, name, made, **words) for name in NAMES]
@@ -287,14 +287,14 @@ class Cluster:
         return [(base64.b64decode(row["key"]).decode(), base64.b64decode(row.get("value", ""))) for row in self.asked(first, *words)]
 
     def leader(self, behind=0):
-        """The machine that leads by a key that came to be behind this revision, once its socket is there."""
+        """The machine that leads by a key that was put behind this revision, once its socket is there."""
         found = []
 
         def is_there():
             for row in self.asked("leader"):
                 name = base64.b64decode(row["value"]).decode().split()[0]
-                found[:] = [it for it in self.machines if it.name == name and row["create_revision"] > behind and it.leads()]
-                self.term = row["create_revision"]
+                found[:] = [it for it in self.machines if it.name == name and row["mod_revision"] > behind and it.leads()]
+                self.term = row["mod_revision"]
             return bool(found)
 
         self.wait_for(is_there)

@@ -22,6 +22,7 @@ use serde::Deserialize;
 use std::io;
 use std::net::SocketAddr;
 use std::path::PathBuf;
+use std::time::Duration;
 use thiserror::Error;
 
 /// Why a kfsd is no member of a volume any more.
@@ -94,7 +95,7 @@ pub struct Settings {
     pub volume: String,
     /// The name of this kfsd, which no other one of the volume has.
     pub member: String,
-    /// How long a leader's lease lasts behind its last renewal. etcd may make it longer.
+    /// How long others wait behind the last sign of a leader.
     #[serde(default = "lease_seconds")]
     pub lease_seconds: u64,
     /// Where the other members reach this one.
@@ -115,6 +116,11 @@ fn state_bytes() -> u64 {
 }
 
 impl Settings {
+    /// How long others wait behind the last sign of a leader.
+    pub fn lease(&self) -> Duration {
+        Duration::from_secs(self.lease_seconds)
+    }
+
     /// Why they aren't taken.
     pub fn fault(&self) -> Option<&'static str> {
         let is_name = |text: &str| {

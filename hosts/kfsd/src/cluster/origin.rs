@@ -14,12 +14,17 @@ pub struct Origin {
     pub clients: String,
 }
 
+/// A number that nobody else takes.
+pub fn random() -> io::Result<u64> {
+    let mut bytes = [0; 8];
+    File::open("/dev/urandom")?.read_exact(&mut bytes)?;
+    Ok(u64::from_be_bytes(bytes))
+}
+
 impl Origin {
     /// That of a volume that isn't there yet.
     pub fn new(tiers: [u32; 3], clients: &str) -> io::Result<Origin> {
-        let mut bytes = [0; 8];
-        File::open("/dev/urandom")?.read_exact(&mut bytes)?;
-        Ok(Origin { volume: u64::from_be_bytes(bytes), tiers, clients: clients.to_string() })
+        Ok(Origin { volume: random()?, tiers, clients: clients.to_string() })
     }
 
     /// Its text.
