@@ -11,7 +11,7 @@ use super::{blocking, ClusterFault, Settings};
 use crate::calls::Note;
 use crate::config::Config;
 use crate::connection::Shared;
-use crate::folder::Folder;
+use crate::folder::{Folder, Found};
 use crate::outcomes::Finder;
 use crate::queue::Queue;
 use crate::sockets::Sockets;
@@ -83,7 +83,7 @@ impl Member {
         let volume = Arc::new(Volume::new(settings));
         let wanted = Origin::new(config.tiers, clients).map_err(ClusterFault::Folder)?.text();
         let origin = loop {
-            match volume.begin(&wanted, 0).await {
+            match begin(&volume, &wanted, &folder).await {
                 Err(ClusterFault::Etcd(fault)) => {
                     warn!("{fault}");
                     sleep(REST).await;
@@ -260,11 +260,8 @@ impl Member {
             let (bases, to) = (self.bases.clone(), folder.clone());
             blocking(move || bases.put(&to)).await?;
             words[0] = "open".into();
-            let following = &shared.following;
-            following.read(&folder, |_, _| false).map_err(ClusterFault::Folder)?;
-            following.outcomes.begin_with(base.outcomes, vec![]);
-            following.times().begin_with(base.stamps);
             follower = Follower { next: base.number, moment: base.moment, ..follower };
+            base.recall(&folder, &shared.following).map_err(ClusterFault::Folder)?;
         } else {
             words.push(clients.into());
             words.extend(self.origin.tiers.iter().map(|blocks| blocks.to_string().into()));
@@ -327,6 +324,15 @@ impl Member {
         debug!("group {} is next", shared.figures.group.get());
         led
     }
+}
+
+/// What a volume was begun with. Where it isn't there it is begun with this, and there may be no desk in the folder.
+async fn begin(volume: &Volume, wanted: &str, folder: &Folder) -> Result<String, ClusterFault> {
+    let found = folder.files().map_err(ClusterFault::Folder)?;
+    if found != Found::None && volume.origin().await?.is_none() {
+        return Err(ClusterFault::Unused(folder.path().to_path_buf()));
+    }
+    volume.begin(wanted, 0).await
 }
 
 /// Takes the questions of `kfsctl`, which a member that doesn't lead has no answer to, until the queue is closed.

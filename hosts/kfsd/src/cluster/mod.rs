@@ -4,6 +4,7 @@
 //! `run` in `member.rs`; docs/CLUSTER.md is for those who run it.
 
 pub mod base;
+pub mod beginning;
 pub mod etcd;
 pub mod group;
 pub mod http;
@@ -63,6 +64,14 @@ pub enum ClusterFault {
     Peer(SocketAddr, io::Error),
     #[error("the state in {0} is of another volume that has had this name: where it isn't needed any more, remove it")]
     Another(PathBuf),
+    #[error("volume {0} is there already: it goes on from the states that its members keep")]
+    Begun(String),
+    #[error("{0} has a state of another volume, before group {1}: where it isn't needed any more, remove it")]
+    Kept(PathBuf, u64),
+    #[error("a volume can't begin with the desk in {0}: {1}")]
+    NoDesk(PathBuf, String),
+    #[error("{0} has the files of a desk, and the volume isn't there: begin it with them (--begin-with), or move them away")]
+    Unused(PathBuf),
 }
 
 impl ClusterFault {
@@ -74,6 +83,7 @@ impl ClusterFault {
             ClusterFault::Differs { .. } | ClusterFault::BadGroup(_) | ClusterFault::Unread(_) => 6,
             ClusterFault::Ahead { .. } | ClusterFault::Etcd(_) | ClusterFault::Folder(_) => 6,
             ClusterFault::Another(_) => 6,
+            ClusterFault::Begun(_) | ClusterFault::Kept(..) | ClusterFault::NoDesk(..) | ClusterFault::Unused(_) => 1,
             ClusterFault::Process(..) | ClusterFault::Path(..) | ClusterFault::Peer(..) | ClusterFault::Socket(_) => 1,
         }
     }
