@@ -8,6 +8,7 @@ from fuzzing.codec import decode_image
 from fuzzing.images import finding
 from loading import NUMBERS, load_users, prepare, said_by, start_load
 from machines import Cluster
+from moments import Moments
 from replaying import of_image, recorded, replayed, same
 from running import Daemon
 
@@ -29,27 +30,28 @@ class Part:
 
 
 def kill(cluster, _chance):
-    leader = cluster.leader()
+    leader, moments = cluster.leader(), Moments(cluster)
     leader.process.kill()
     leader.process.wait()
-    return cluster.another_leads()[1]
+    cluster.another_leads()
+    return moments.took()
 
 
 def cut(cluster, _chance):
-    leader, count = cluster.leader(), len(cluster.leader().statuses)
+    leader, count, moments = cluster.leader(), len(cluster.leader().statuses), Moments(cluster)
     leader.cut(True)
-    took = cluster.another_leads()[1]
+    cluster.another_leads()
     cluster.wait_for(lambda: len(leader.statuses) > count)
     leader.cut(False)
-    return took
+    return moments.took()
 
 
 def stand_still(cluster, _chance):
-    leader = cluster.leader()
+    leader, moments = cluster.leader(), Moments(cluster)
     leader.stand_still()
-    took = cluster.another_leads()[1]
+    cluster.another_leads()
     leader.go_on()
-    return took
+    return moments.took()
 
 
 def kill_etcd(cluster, chance):
@@ -123,7 +125,7 @@ def run(made, connections, calls, faults, is_watched=False, **settings):
         print(f"    {answered} calls of {connections} connections in {seconds:.0f} s, {again} handed in again; three images are the same, and keep the ten rules")
         for fault, times in took.items():
             if times:
-                print(f"    {fault.__name__}: {len(times)} times; calls went on after {min(times):.1f} to {max(times):.1f} s, in the middle {sorted(times)[len(times) // 2]:.1f}")
+                print(f"    {fault.__name__}: {len(times)} times; calls went on after {' '.join(f'{it:.1f}' for it in sorted(times))} s, in the middle {sorted(times)[len(times) // 2]:.1f}")
         print(f"    kfsd ended {sum(len(it.statuses) for it in cluster.machines)} times, and has removed the groups before {cluster_first(cluster)} of {cluster.next()}")
         if is_watched:
             count, files = compare(cluster, parts, images)

@@ -130,6 +130,11 @@ impl Bases {
         File::open(&self.0)?.sync_all()
     }
 
+    /// Whether one is kept.
+    pub fn is_there(&self) -> bool {
+        self.0.join(NAME).exists()
+    }
+
     /// The file that is kept, whole.
     pub fn open(&self) -> io::Result<File> {
         File::open(self.0.join(NAME))

@@ -111,7 +111,7 @@ impl Etcd {
     /// Reads as one member has it, also while etcd has no leader. That may be older than what another one has told.
     pub async fn look(&self, steps: &[Do], end: Instant) -> Result<Done, EtcdFault> {
         let question = json!({ "success": steps.iter().map(Do::own_question).collect::<Vec<_>>() });
-        done_of(&self.ask("kv/txn", &question, QUICK, end).await?, true, steps)
+        done_of(&self.ask("kv/txn", &question, ATTEMPT, end).await?, true, steps)
     }
 
     /// Asks one member after another until there is an answer, or the time is over.

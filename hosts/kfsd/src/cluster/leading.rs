@@ -17,7 +17,7 @@ use std::io::ErrorKind;
 use std::time::{Duration, Instant};
 use tokio::sync::mpsc::{channel, Receiver, Sender};
 use tokio::sync::oneshot;
-use tokio::time::sleep;
+use tokio::time::{sleep, timeout};
 use tracing::{info, warn};
 
 /// How many bytes of frames go into one group, or one frame more.
@@ -36,6 +36,8 @@ pub struct Leading<'a> {
     pub id: u64,
     /// A state is kept behind groups of so many bytes.
     pub state_bytes: u64,
+    /// How long the calls of a group may take.
+    pub most: Duration,
 }
 
 /// What comes next for etcd.
@@ -83,7 +85,8 @@ async fn make(
     let mut bytes_since = 0;
     while let Some(Batch { bytes, sent }) = shared.queue.next(MOST).await {
         count_sent(&sent, shared);
-        let replies = replica.talk(&bytes, sent.len()).await?;
+        let talking = timeout(leading.most, replica.talk(&bytes, sent.len())).await;
+        let replies = talking.map_err(|_| ClusterFault::Hangs(leading.most.as_secs()))??;
         if replies.iter().zip(&sent).any(|(reply, one)| reply.number != one.number) {
             return Err(ClusterFault::Ended(ErrorKind::InvalidData.into()));
         }

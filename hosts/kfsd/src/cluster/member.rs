@@ -138,31 +138,17 @@ impl Member {
         self.have_state(leader).await?;
         let (mut replica, mut follower) = self.begin(shared).await?;
         info!("{} follows volume {} from group {} on", self.settings.member, self.settings.volume, follower.next);
-        let mut watch = Watch::new();
+        let (mut watch, mut seen) = (Watch::new(), self.look(follower.next).await?);
         loop {
-            let seen = match self.volume.look(follower.next).await {
-                Err(ClusterFault::Etcd(fault)) => {
-                    warn!("{fault}");
-                    sleep(REST).await;
-                    continue;
-                }
-                other => other?,
-            };
             watch.see(&seen);
             if *leader.borrow() != seen.leader {
-                debug!(
-                    "{} leads, and group {} of {} is next here",
-                    seen.leader.as_deref().unwrap_or("nobody"),
-                    follower.next,
-                    seen.next
-                );
+                let who = seen.leader.as_deref().unwrap_or("nobody");
+                debug!("{who} leads, and group {} of {} is next here", follower.next, seen.next);
                 leader.send_replace(seen.leader.clone());
             }
             if !seen.groups.is_empty() {
-                replica.feed(&seen.groups).await?;
-                seen.groups.iter().for_each(|(number, group)| follower.take(*number, group, shared));
-                debug!("group {} is next", follower.next);
-                self.keep_state(&mut replica, &mut follower, shared).await?;
+                seen = self.make(seen, &mut replica, &mut follower, shared).await?;
+                continue;
             }
             let is_free = seen.leader.is_none() || watch.is_over(self.settings.lease());
             if is_free && follower.next == seen.next {
@@ -170,10 +156,37 @@ impl Member {
                     return Ok((replica, follower, lead));
                 }
             }
-            if seen.groups.is_empty() {
-                sleep(POLL).await;
-            }
+            sleep(POLL).await;
+            seen = self.look(follower.next).await?;
         }
+    }
+
+    /// Looks how the volume stands, once etcd answers.
+    async fn look(&self, from: u64) -> Result<Seen, ClusterFault> {
+        loop {
+            match self.volume.look(from).await {
+                Err(ClusterFault::Etcd(fault)) => warn!("{fault}"),
+                other => return other,
+            }
+            sleep(REST).await;
+        }
+    }
+
+    /// Makes the calls of groups, and looks for those behind them meanwhile.
+    async fn make(
+        &self,
+        seen: Seen,
+        replica: &mut Replica,
+        follower: &mut Follower,
+        shared: &Shared,
+    ) -> Result<Seen, ClusterFault> {
+        let behind = follower.next + seen.groups.len() as u64;
+        let (made, later) = tokio::join!(replica.feed(&seen.groups), self.look(behind));
+        made?;
+        seen.groups.iter().for_each(|(number, group)| follower.take(*number, group, shared));
+        debug!("group {} is next", follower.next);
+        self.keep_state(replica, follower, shared).await?;
+        later
     }
 
     /// Becomes the leader, where no other one does, and etcd answers.
@@ -315,21 +328,27 @@ impl Member {
             bases: &self.bases,
             id: self.origin.volume,
             state_bytes: self.settings.state_bytes,
+            most: Duration::from_secs(self.settings.hang_seconds),
         };
         let led = leading::lead(&leading, follower.next, follower.kept, &mut replica, shared).await;
         shared.figures.opened.set(0);
         // Its key goes at once. What it has sent before that it was told of, or it is refused.
         self.volume.end(&lead).await;
-        replica.end().await;
+        match &led {
+            Ok(()) => replica.end().await,
+            // It may never end by itself, so it is killed.
+            Err(_) => drop(replica),
+        }
         debug!("group {} is next", shared.figures.group.get());
         led
     }
 }
 
-/// What a volume was begun with. Where it isn't there it is begun with this, and there may be no desk in the folder.
+/// What a volume was begun with. Where it isn't there it is begun with this, and there may be no desk and no state in the folder.
 async fn begin(volume: &Volume, wanted: &str, folder: &Folder) -> Result<String, ClusterFault> {
-    let found = folder.files().map_err(ClusterFault::Folder)?;
-    if found != Found::None && volume.origin().await?.is_none() {
+    let has_files = folder.files().map_err(ClusterFault::Folder)? != Found::None;
+    let has_desk = has_files || Bases::new(folder.path()).is_there();
+    if has_desk && volume.origin().await?.is_none() {
         return Err(ClusterFault::Unused(folder.path().to_path_buf()));
     }
     volume.begin(wanted, 0).await
@@ -356,6 +375,7 @@ impl Watch {
         }
         if self.term < seen.term {
             (self.term, self.elected) = (seen.term, now);
+            debug!("etcd has an own leader of term {}, or seeks one", seen.term);
         }
     }
 

@@ -52,6 +52,8 @@ pub enum ClusterFault {
     Unread(&'static str),
     #[error("kfs_serve isn't understood, or has ended: {0}")]
     Ended(io::Error),
+    #[error("kfs_serve hasn't made the calls of a group in {0} seconds")]
+    Hangs(u64),
     #[error("{0} can't be run: {1}")]
     Process(PathBuf, io::Error),
     #[error("the folder: {0}")]
@@ -70,7 +72,7 @@ pub enum ClusterFault {
     Kept(PathBuf, u64),
     #[error("a volume can't begin with the desk in {0}: {1}")]
     NoDesk(PathBuf, String),
-    #[error("{0} has the files of a desk, and the volume isn't there: begin it with them (--begin-with), or move them away")]
+    #[error("{0} has a desk, and the volume isn't there: begin it with that desk (--begin-with), or move it away")]
     Unused(PathBuf),
 }
 
@@ -78,7 +80,8 @@ impl ClusterFault {
     /// The exit status: 5 where a new start makes it a member again, 6 where someone has to look first, and else 1.
     pub fn status(&self) -> u8 {
         match self {
-            ClusterFault::Lost | ClusterFault::Cut(_) | ClusterFault::Gap(_) | ClusterFault::Ended(_) => 5,
+            ClusterFault::Lost | ClusterFault::Cut(_) | ClusterFault::Hangs(_) => 5,
+            ClusterFault::Gap(_) | ClusterFault::Ended(_) => 5,
             ClusterFault::Etcd(EtcdFault::Unreached(_)) => 5,
             ClusterFault::Differs { .. } | ClusterFault::BadGroup(_) | ClusterFault::Unread(_) => 6,
             ClusterFault::Ahead { .. } | ClusterFault::Etcd(_) | ClusterFault::Folder(_) => 6,
@@ -115,6 +118,13 @@ pub struct Settings {
     /// A state is kept behind groups of so many bytes.
     #[serde(default = "state_bytes")]
     pub state_bytes: u64,
+    /// A leader gives up where `kfs_serve` takes longer than this for the calls of a group.
+    #[serde(default = "hang_seconds")]
+    pub hang_seconds: u64,
+}
+
+fn hang_seconds() -> u64 {
+    60
 }
 
 fn lease_seconds() -> u64 {
@@ -148,7 +158,8 @@ impl Settings {
         if !is_name(&self.volume) || !is_name(&self.member) {
             return Some("names of a volume and of a member have letters, digits, and the signs - _ . alone");
         }
-        (self.lease_seconds == 0).then_some("cluster.lease_seconds is 1 at least")
+        let has_none = self.lease_seconds == 0 || self.hang_seconds == 0;
+        has_none.then_some("cluster.lease_seconds and cluster.hang_seconds are 1 at least")
     }
 }
 
@@ -166,6 +177,7 @@ mod tests {
             peer: ([127, 0, 0, 1], 9470).into(),
             key_file: "/etc/key".into(),
             state_bytes: 1,
+            hang_seconds: 1,
         };
         assert_eq!(right.fault(), None);
         for endpoint in ["127.0.0.1", "http://127.0.0.1:2379", "", "a b:1"] {
@@ -176,6 +188,7 @@ mod tests {
             assert!(Settings { member: name.into(), ..right.clone() }.fault().is_some(), "{name}");
         }
         assert!(Settings { etcd: vec![], ..right.clone() }.fault().is_some());
-        assert!(Settings { lease_seconds: 0, ..right }.fault().is_some());
+        assert!(Settings { lease_seconds: 0, ..right.clone() }.fault().is_some());
+        assert!(Settings { hang_seconds: 0, ..right }.fault().is_some());
     }
 }
