@@ -98,9 +98,9 @@ def compare(cluster, parts, images):
     return model.count, len(due[2])
 
 
-def run(made, connections, calls, faults, is_watched=False, **settings):
-    """Has connections make so many calls of all kinds, a third of them at each machine, beside so many faults of each kind. Looks at all images at
-    the end, and where all groups are watched at all calls."""
+def run(made, connections, calls, faults, seconds=None, is_watched=False, **settings):
+    """Has connections make so many calls of all kinds, a third of them at each machine, or calls for so many seconds, beside so many faults of each
+    kind. Looks at all images at the end, and where all groups are watched at all calls."""
     users = load_users(30, connections)
     limits = {"connections_a_user": -(-connections // len(users)) + 8}
     with Cluster(made, settings=settings, is_watched=is_watched, users=users, tiers=(4 * NUMBERS * connections, 16, 16), **limits) as cluster:
@@ -108,13 +108,14 @@ def run(made, connections, calls, faults, is_watched=False, **settings):
         for it in parts:
             prepare(it)
         began, chance = time.monotonic(), random.Random(connections)
-        loads = [start_load(it, "--connections", connections // 3, "--calls", calls // 3, "--mixed", "--record", f"{it.room}/record") for it in parts]
+        most = ("--seconds", seconds) if seconds else ("--calls", calls // 3)
+        loads = [start_load(it, "--connections", connections // 3, *most, "--mixed", "--record", f"{it.room}/record") for it in parts]
         try:
             took = with_faults(cluster, loads, faults, chance)
         finally:
             for it in loads:
                 it.kill()
-        seconds = time.monotonic() - began
+        lasted = time.monotonic() - began
         assert [it.returncode for it in loads] == [0, 0, 0], "a call was answered otherwise than is right"
         cluster.settle()
         images = {image_in(it.state(f"{cluster.room}/states")) for it in cluster.machines}
@@ -122,7 +123,7 @@ def run(made, connections, calls, faults, is_watched=False, **settings):
         assert all(finding(decode_image(it)) is None for it in images)
         figures = [said_by(it) for it in parts]
         answered, again = (sum(it[name] for it in figures) for name in ("answered", "again"))
-        print(f"    {answered} calls of {connections} connections in {seconds:.0f} s, {again} handed in again; three images are the same, and keep the ten rules")
+        print(f"    {answered} calls of {connections} connections in {lasted:.0f} s, {again} handed in again; three images are the same, and keep the ten rules")
         for fault, times in took.items():
             if times:
                 print(f"    {fault.__name__}: {len(times)} times; calls went on after {' '.join(f'{it:.1f}' for it in sorted(times))} s, in the middle {sorted(times)[len(times) // 2]:.1f}")

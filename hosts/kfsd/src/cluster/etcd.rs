@@ -13,6 +13,9 @@ use tracing::debug;
 const ATTEMPT: Duration = Duration::from_secs(1);
 const QUICK: Duration = Duration::from_millis(300);
 
+/// How many bytes of a question each member has a second more for.
+const BYTES_A_SECOND: u64 = 1 << 18;
+
 /// How long to wait where each member was asked in vain.
 const AGAIN: Duration = Duration::from_millis(50);
 
@@ -117,6 +120,7 @@ impl Etcd {
     /// Asks one member after another until there is an answer, or the time is over.
     async fn ask(&self, path: &str, question: &Value, attempt: Duration, end: Instant) -> Result<Value, EtcdFault> {
         let text = question.to_string();
+        let attempt = attempt + Duration::from_millis(1000 * text.len() as u64 / BYTES_A_SECOND);
         let mut tried = 0;
         loop {
             // Where all are slow, the same isn't asked ever more often.

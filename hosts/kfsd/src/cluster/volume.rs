@@ -14,7 +14,7 @@ use std::net::SocketAddr;
 use std::time::{Duration, Instant};
 use tracing::warn;
 
-/// How long a look may take, and how long a group may take to be put.
+/// How long a look may take, and how long a group or a part of one may take to be put.
 const LOOK: Duration = Duration::from_secs(3);
 const PUT: Duration = Duration::from_secs(30);
 
@@ -244,31 +244,30 @@ impl Volume {
     /// Puts the group of a number, all of it. Behind an error nobody says whether it is there.
     pub async fn put(&self, lead: &Lead, number: u64, group: &Group) -> Result<(), ClusterFault> {
         let bytes = group.bytes();
-        let end = Instant::now() + PUT;
         if bytes.len() < PART {
-            return self.put_row(lead, number, Held::Here(&bytes), end).await;
+            return self.put_row(lead, number, Held::Here(&bytes)).await;
         }
         let mut count = 0;
         for part in bytes.chunks(PART) {
             let put = [Do::Put(self.part(number, count), part.to_vec())];
-            let done = self.etcd.transact(&[self.leads(lead)], &put, &[], end).await?;
+            let done = self.etcd.transact(&[self.leads(lead)], &put, &[], Instant::now() + PUT).await?;
             if !done.was_so {
                 return Err(ClusterFault::Lost);
             }
             count += 1;
         }
-        self.put_row(lead, number, Held::InParts(count), end).await
+        self.put_row(lead, number, Held::InParts(count)).await
     }
 
     fn leads(&self, lead: &Lead) -> If {
         If::PutAt(self.key("leader"), lead.revision)
     }
 
-    async fn put_row(&self, lead: &Lead, number: u64, held: Held<'_>, end: Instant) -> Result<(), ClusterFault> {
+    async fn put_row(&self, lead: &Lead, number: u64, held: Held<'_>) -> Result<(), ClusterFault> {
         let (leader, next) = (self.key("leader"), self.key("next"));
         let ifs = [self.leads(lead), If::Is(next.clone(), text_of(number))];
         let puts = [Do::Put(self.group(number), held.row()), Do::Put(next.clone(), text_of(number + 1))];
-        let done = self.etcd.transact(&ifs, &puts, &[Do::Get(leader), Do::Get(next)], end).await?;
+        let done = self.etcd.transact(&ifs, &puts, &[Do::Get(leader), Do::Get(next)], Instant::now() + PUT).await?;
         let is_own = || first(&done, 0).map_or(false, |row| row.revision == lead.revision);
         // Where this one leads still, nobody else can have put a group: an answer was lost.
         if done.was_so || (is_own() && number_in(&done, 1) == Some(number + 1)) {
