@@ -31,7 +31,7 @@ use thiserror::Error;
 pub enum ClusterFault {
     #[error(transparent)]
     Etcd(#[from] EtcdFault),
-    #[error("this kfsd leads no more: its lease in etcd has ended")]
+    #[error("this kfsd leads no more: another one has taken over")]
     Lost,
     #[error("etcd wasn't reached for {0} seconds, so another kfsd may lead by now")]
     Cut(u64),
