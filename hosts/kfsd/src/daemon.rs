@@ -1,6 +1,7 @@
 //! From start to stop.
 
 use crate::clients::Clients;
+use crate::cluster::beginning;
 use crate::cluster::member::Member;
 use crate::cluster::term::Term;
 use crate::config::{Config, ConfigFault};
@@ -111,6 +112,14 @@ pub async fn run(path: &Path) -> Result<(), DaemonFault> {
     let sockets = Sockets::bind(&daemon.config.socket, &daemon.config.control)?;
     info!("clients may connect to {}", daemon.config.socket.display());
     daemon.serve(sockets, signals).await
+}
+
+/// Begins the volume of a configuration with the desk in another folder, or in that of the configuration, and returns.
+pub async fn begin_with(path: &Path, from: &Path) -> Result<(), DaemonFault> {
+    let config = read_config(path)?;
+    let settings = config.cluster.as_ref().ok_or(ConfigFault::Limit("a volume has a table [cluster]"))?;
+    let folder = lock(&config).await?;
+    Ok(beginning::begin(settings, &config, &folder, from).await.map_err(DeskFault::Cluster)?)
 }
 
 /// Reads a configuration, and looks whether as many files may be open as it wants.

@@ -6,6 +6,7 @@ use crate::cluster::ClusterFault;
 use crate::connection::Shared;
 use crate::flight::Flight;
 use crate::folder::{Folder, Found};
+use crate::following::Following;
 use crate::frames::{read_reply, said_again, Head, Reply};
 use crate::queue::{Answer, Batch, Sent};
 use crate::store::Store;
@@ -155,15 +156,7 @@ impl Desk {
     fn begin(&self, shared: &Shared) -> Result<(), DeskFault> {
         let following = &shared.following;
         block_in_place(|| {
-            let found = following.read(self.folder.path(), |_, _| true).map_err(DeskFault::Folder)?;
-            let mut store = self.store();
-            following.outcomes.begin_with(store.outcomes()?, found.outcomes.into_values().flatten().collect());
-            following.times().begin_with(store.stamps()?);
-            if store.begin()? {
-                // The kfsd before may not have kept these.
-                found.recent.iter().for_each(|changes| following.times().changed(changes, times::now()));
-            }
-            drop(store);
+            recall(self.folder.path(), &mut self.store(), following)?;
             self.keep(shared)
         })
     }
@@ -322,6 +315,18 @@ impl Desk {
             }
         }
     }
+}
+
+/// Reads what was kept, and how the desk in a folder stands. No `kfs_serve` may run.
+pub fn recall(folder: &Path, store: &mut Store, following: &Following) -> Result<(), DeskFault> {
+    let found = following.read(folder, |_, _| true).map_err(DeskFault::Folder)?;
+    following.outcomes.begin_with(store.outcomes()?, found.outcomes.into_values().flatten().collect());
+    following.times().begin_with(store.stamps()?);
+    if store.begin()? {
+        // The kfsd before may not have kept these.
+        found.recent.iter().for_each(|changes| following.times().changed(changes, times::now()));
+    }
+    Ok(())
 }
 
 /// What a status says that a new start wouldn't mend.

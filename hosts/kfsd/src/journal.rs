@@ -10,7 +10,8 @@ use std::fs::File;
 use std::io::{self, BufReader, ErrorKind, Read, Seek, SeekFrom};
 use std::path::Path;
 
-const HEAD: usize = 21;
+/// How many bytes stand before the state of a file.
+pub const HEAD: usize = 21;
 const BUFFER: usize = 1 << 20;
 
 /// What the files tell, in its order.

@@ -14,6 +14,9 @@ struct Words {
     /// The configuration (docs/KFSD.md).
     #[arg(long)]
     config: PathBuf,
+    /// Begins the volume of the configuration with the desk in this folder, and ends (docs/CLUSTER.md).
+    #[arg(long)]
+    begin_with: Option<PathBuf>,
     /// Tells more.
     #[arg(long)]
     verbose: bool,
@@ -24,7 +27,11 @@ async fn main() -> ExitCode {
     let words = Words::parse();
     let level = if words.verbose { Level::DEBUG } else { Level::INFO };
     tracing_subscriber::fmt().with_max_level(level).with_writer(std::io::stderr).with_target(false).init();
-    match kfsd::daemon::run(&words.config).await {
+    let ended = match &words.begin_with {
+        Some(from) => kfsd::daemon::begin_with(&words.config, from).await,
+        None => kfsd::daemon::run(&words.config).await,
+    };
+    match ended {
         Ok(()) => ExitCode::SUCCESS,
         Err(fault) => {
             error!("{fault}");

@@ -5,17 +5,19 @@ import os
 import random
 import re
 import shutil
+import signal
 import struct
 import tempfile
 import threading
 import time
 
 from killing import FILES, NO, USERS, YES, answered_by, run_with_kills, say, submission
-from machines import LOST, NETWORK, Cluster, Machine
+from machines import FILES as DESK_FILES
+from machines import LOST, NETWORK, Cluster, Machine, state_now
 from numbering import AGAIN, UNDER_WAY, UNKNOWN, Numbering, bare
-from running import FRONT, FRONTS, Gone, frame, lease, numbered, user
+from running import FRONT, FRONTS, Gone, children_of, frame, lease, numbered, user
 
-from frames import Server, checkpoint  # noqa: I001
+from frames import Server  # noqa: I001
 
 # kfsd ends with it where its desk differs from the leader's.
 DIFFERS = 6
@@ -32,16 +34,16 @@ def raw_groups_of(cluster):
             parts[key] = value
         if key.startswith("group/"):
             number = int(key.rpartition("/")[2], 16)
-            assert number == len(found), f"group {number} comes behind group {len(found) - 1}"
+            assert number == cluster.first + len(found), f"group {number} comes behind {len(found)} groups"
             whole = value[1:] if value[0] == 1 else b"".join(parts[f"part/{number:016x}/{at:08x}"] for at in range(int.from_bytes(value[1:], "big")))
             found.append(whole[16:])
-    assert len(found) == cluster.next()
+    assert cluster.first + len(found) == cluster.next()
     return found
 
 
 def groups_of(cluster):
     """All groups by their numbers: the calls of each, with their answers."""
-    return {number: calls_in(group) for number, group in enumerate(raw_groups_of(cluster))}
+    return {number: calls_in(group) for number, group in enumerate(raw_groups_of(cluster), cluster.first)}
 
 
 def calls_in(data):
@@ -63,12 +65,18 @@ def image_in(state):
     return state[at + 17 * leases :]
 
 
-def states_by_etcd(cluster, groups, numbers):
-    """The states behind so many groups, of a kfs_serve that was given nothing else."""
+def states_by_etcd(cluster, groups, numbers, begun_with=None):
+    """The states behind so many groups, of a kfs_serve that was given nothing else, or the files that the volume was begun with."""
     machine, found, due = cluster.machines[0], {}, []
     with tempfile.TemporaryDirectory(prefix="kfsd-replay-") as room:
-        server = Server([machine.program, "new", room, str((1 << 32) - 1), f"{machine.replica}/clients", *map(str, machine.tiers)])
-        for number in range(max(numbers) + 1):
+        most = str((1 << 32) - 1)
+        if begun_with:
+            for name in DESK_FILES:
+                shutil.copy(f"{begun_with}/{name}", room)
+            server = Server([machine.program, "open", room, most])
+        else:
+            server = Server([machine.program, "new", room, most, f"{machine.replica}/clients", *map(str, machine.tiers)])
+        for number in range(cluster.first, max(numbers) + 1):
             if number in numbers:
                 found[number] = state_now(server, room)
             for call, answer in groups.get(number, ()):
@@ -81,26 +89,13 @@ def states_by_etcd(cluster, groups, numbers):
     return found
 
 
-def state_now(server, folder):
-    """The state of a desk that is running, by a checkpoint of its journal."""
-    server.send(frame(1, FRONT, checkpoint()))
-    assert server.receive(1)[0].answer is not None
-    found = []
-    for name in ("first.kdjl", "second.kdjl"):
-        with open(f"{folder}/{name}", "rb") as it:
-            data = it.read()
-        if data[:4] == b"KDJL" and data[12] == 1:
-            found.append((data[4:12], data[21 : 21 + int.from_bytes(data[13:21], "big")]))
-    return max(found)[1]
-
-
-def ends_alike(cluster):
+def ends_alike(cluster, begun_with=None):
     """Stops all, and looks whether each has the state of the groups that it has seen, and all have one image. Returns all groups."""
     cluster.settle()
     groups = groups_of(cluster)
     seen = {it: int(re.findall(r"group (\d+) is next", it.said())[-1]) for it in cluster.machines}
     assert max(seen.values()) == cluster.next()
-    due = states_by_etcd(cluster, groups, set(seen.values()))
+    due = states_by_etcd(cluster, groups, set(seen.values()), begun_with)
     with tempfile.TemporaryDirectory(prefix="kfsd-states-") as room:
         states = {it: it.state(room) for it in cluster.machines}
     for it, state in states.items():
@@ -335,6 +330,29 @@ def leaders_that_stand_still(made):
         print(f"    another one led after {' '.join(f'{it:.1f}' for it in sorted(waits))} s")
 
 
+def a_kfs_serve_that_hangs(made):
+    """The leader's kfs_serve stands still with a call in hand. The leader gives its key up, another one leads, and the call is made once."""
+    with Cluster(made, settings={"hang_seconds": 2}) as cluster:
+        leader, other = cluster.leader(), Own(cluster)
+        assert other.answer(1, lease(7, 10))[0][4] == 4
+        (child,) = children_of(leader.process.pid)
+        signal.pidfd_send_signal(child, signal.SIGSTOP)
+        os.close(child)
+        held, count = leader.connect(7), len(leader.statuses)
+        began = time.monotonic()
+        held.send(1, numbered(2, lease(7, 11)))
+        with contextlib.suppress(Gone):
+            assert held.reply().refusal == UNKNOWN
+        cluster.another_leads()
+        took = time.monotonic() - began
+        cluster.wait_for(lambda: len(leader.statuses) > count)
+        assert leader.statuses[-1] == LOST and "hasn't made the calls of a group in 2 seconds" in leader.said()
+        assert other.answer(2, lease(7, 11))[0][4] == 4
+        counts = collections.Counter(call for call, _ in calls_of(ends_alike(cluster)))
+        assert counts[lease(7, 11)] == 1
+        print(f"    another one led {took:.1f} s behind the call that hung, of which it was given 2")
+
+
 def members_of_etcd_killed(made):
     """A member of etcd is killed 3 times under load, the one that the leader asks first among them, and started again."""
     with Cluster(made, users=USERS) as cluster:
@@ -427,15 +445,17 @@ def long_calls_go_in_parts(made):
     """Calls that are longer than a value of etcd may be are put in parts, and made by all."""
     with Cluster(made) as cluster:
         calls = [struct.pack(">BII", 1, 7, length) + bytes(length) + bytes(4) for length in (999_900, 999_901, 3_500_000)]
+        own = Own(cluster)
         for at, call in enumerate(calls):
-            assert cluster.leader().connect(7).ask(at, numbered(at, call)).answer[4] == NO
+            # beside much other work it is asked for again
+            assert own.answer(at, call)[0][4] == NO
         leader = cluster.leader()
         leader.process.kill()
-        second, _ = cluster.another_leads()
-        assert all(second.connect(7).ask(1, numbered(at)).answer[4] == NO for at in range(3))
+        cluster.another_leads()
+        assert all(own.answer(at, b"")[0][4] == NO for at in range(3))
         assert [call for call, _ in calls_of(ends_alike(cluster))] == calls
         # with its marker and the answers the second one has 10^6 bytes
-        assert len([key for _, key, _ in cluster.puts() if key.startswith("part/")]) == 5
+        assert len({key for _, key, _ in cluster.puts() if key.startswith("part/")}) == 5
 
 
 def a_desk_that_differs_stops(made):
@@ -456,6 +476,6 @@ def a_desk_that_differs_stops(made):
 
 
 TESTS = [
-    a_standby_takes_over, connections_are_handed_on, two_volumes_beside_each_other, a_new_standby_fetches_a_state, leaders_killed, leaders_cut_off, leaders_that_stand_still, members_of_etcd_killed, files_created_once_on_machines, long_calls_go_in_parts,
+    a_standby_takes_over, connections_are_handed_on, two_volumes_beside_each_other, a_new_standby_fetches_a_state, leaders_killed, leaders_cut_off, leaders_that_stand_still, a_kfs_serve_that_hangs, members_of_etcd_killed, files_created_once_on_machines, long_calls_go_in_parts,
     a_desk_that_differs_stops,
 ]

@@ -8,6 +8,7 @@ from fuzzing.codec import decode_image
 from fuzzing.images import finding
 from loading import NUMBERS, load_users, prepare, said_by, start_load
 from machines import Cluster
+from moments import Moments
 from replaying import of_image, recorded, replayed, same
 from running import Daemon
 
@@ -29,27 +30,28 @@ class Part:
 
 
 def kill(cluster, _chance):
-    leader = cluster.leader()
+    leader, moments = cluster.leader(), Moments(cluster)
     leader.process.kill()
     leader.process.wait()
-    return cluster.another_leads()[1]
+    cluster.another_leads()
+    return moments.took()
 
 
 def cut(cluster, _chance):
-    leader, count = cluster.leader(), len(cluster.leader().statuses)
+    leader, count, moments = cluster.leader(), len(cluster.leader().statuses), Moments(cluster)
     leader.cut(True)
-    took = cluster.another_leads()[1]
+    cluster.another_leads()
     cluster.wait_for(lambda: len(leader.statuses) > count)
     leader.cut(False)
-    return took
+    return moments.took()
 
 
 def stand_still(cluster, _chance):
-    leader = cluster.leader()
+    leader, moments = cluster.leader(), Moments(cluster)
     leader.stand_still()
-    took = cluster.another_leads()[1]
+    cluster.another_leads()
     leader.go_on()
-    return took
+    return moments.took()
 
 
 def kill_etcd(cluster, chance):
@@ -96,9 +98,9 @@ def compare(cluster, parts, images):
     return model.count, len(due[2])
 
 
-def run(made, connections, calls, faults, is_watched=False, **settings):
-    """Has connections make so many calls of all kinds, a third of them at each machine, beside so many faults of each kind. Looks at all images at
-    the end, and where all groups are watched at all calls."""
+def run(made, connections, calls, faults, seconds=None, is_watched=False, **settings):
+    """Has connections make so many calls of all kinds, a third of them at each machine, or calls for so many seconds, beside so many faults of each
+    kind. Looks at all images at the end, and where all groups are watched at all calls."""
     users = load_users(30, connections)
     limits = {"connections_a_user": -(-connections // len(users)) + 8}
     with Cluster(made, settings=settings, is_watched=is_watched, users=users, tiers=(4 * NUMBERS * connections, 16, 16), **limits) as cluster:
@@ -106,13 +108,14 @@ def run(made, connections, calls, faults, is_watched=False, **settings):
         for it in parts:
             prepare(it)
         began, chance = time.monotonic(), random.Random(connections)
-        loads = [start_load(it, "--connections", connections // 3, "--calls", calls // 3, "--mixed", "--record", f"{it.room}/record") for it in parts]
+        most = ("--seconds", seconds) if seconds else ("--calls", calls // 3)
+        loads = [start_load(it, "--connections", connections // 3, *most, "--mixed", "--record", f"{it.room}/record") for it in parts]
         try:
             took = with_faults(cluster, loads, faults, chance)
         finally:
             for it in loads:
                 it.kill()
-        seconds = time.monotonic() - began
+        lasted = time.monotonic() - began
         assert [it.returncode for it in loads] == [0, 0, 0], "a call was answered otherwise than is right"
         cluster.settle()
         images = {image_in(it.state(f"{cluster.room}/states")) for it in cluster.machines}
@@ -120,10 +123,10 @@ def run(made, connections, calls, faults, is_watched=False, **settings):
         assert all(finding(decode_image(it)) is None for it in images)
         figures = [said_by(it) for it in parts]
         answered, again = (sum(it[name] for it in figures) for name in ("answered", "again"))
-        print(f"    {answered} calls of {connections} connections in {seconds:.0f} s, {again} handed in again; three images are the same, and keep the ten rules")
+        print(f"    {answered} calls of {connections} connections in {lasted:.0f} s, {again} handed in again; three images are the same, and keep the ten rules")
         for fault, times in took.items():
             if times:
-                print(f"    {fault.__name__}: {len(times)} times; calls went on after {min(times):.1f} to {max(times):.1f} s, in the middle {sorted(times)[len(times) // 2]:.1f}")
+                print(f"    {fault.__name__}: {len(times)} times; calls went on after {' '.join(f'{it:.1f}' for it in sorted(times))} s, in the middle {sorted(times)[len(times) // 2]:.1f}")
         print(f"    kfsd ended {sum(len(it.statuses) for it in cluster.machines)} times, and has removed the groups before {cluster_first(cluster)} of {cluster.next()}")
         if is_watched:
             count, files = compare(cluster, parts, images)

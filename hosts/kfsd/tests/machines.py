@@ -20,10 +20,42 @@ VOLUME = "volume"
 NAMES = ("a", "b", "c")
 # kfsd ends with it where it leads no more: a new start makes it a member again.
 LOST = 5
+# The files of a desk.
+FILES = ("first.kdjl", "second.kdjl")
 
 
 def ip(*words, check=True):
     return subprocess.run(["ip", *words], check=check, capture_output=True, text=True)
+
+
+def state_of(data):
+    """The state that a file of a journal, or a state that is kept, begins with."""
+    assert data[:4] == b"KDJL" and data[12] == 1
+    return data[21 : 21 + int.from_bytes(data[13:21], "big")]
+
+
+def state_in(program, folder, copy):
+    """The bytes of the state that the files in a folder stand for, by a copy of them. Nobody has them open."""
+    os.mkdir(copy)
+    for name in FILES:
+        shutil.copy(f"{folder}/{name}", copy)
+    server = Server([program, "open", copy, str((1 << 32) - 1)])
+    found = state_now(server, copy)
+    assert server.close() == 0
+    return found
+
+
+def state_now(server, folder):
+    """The state of a desk that is running, by a checkpoint of its journal."""
+    server.send(frame(1, FRONT, checkpoint()))
+    assert server.receive(1)[0].answer is not None
+    found = []
+    for name in FILES:
+        with open(f"{folder}/{name}", "rb") as it:
+            data = it.read()
+        if data[:4] == b"KDJL" and data[12] == 1:
+            found.append((data[4:12], state_of(data)))
+    return max(found)[1]
 
 
 class Machine(Daemon):
@@ -102,19 +134,15 @@ class Machine(Daemon):
 
     def state(self, room):
         """The bytes of the state that the files stand for. kfsd has ended."""
-        copy = f"{room}/{self.name}"
-        shutil.copytree(self.replica, copy)
-        server = Server([self.program, "open", copy, str((1 << 32) - 1)])
-        server.send(frame(1, FRONT, checkpoint()))
-        assert server.receive(1)[0].answer is not None
-        assert server.close() == 0
-        found = []
-        for name in ("first.kdjl", "second.kdjl"):
-            with open(f"{copy}/{name}", "rb") as it:
-                data = it.read()
-            if data[:4] == b"KDJL" and data[12] == 1:
-                found.append((data[4:12], data[21 : 21 + int.from_bytes(data[13:21], "big")]))
-        return max(found)[1]
+        os.makedirs(room, exist_ok=True)
+        return state_in(self.program, self.replica, f"{room}/{self.name}")
+
+    def begin_with(self, folder):
+        """Begins the volume with the desk in a folder. Returns how that ended, and what was said."""
+        self.put_config()
+        words = ["ip", "netns", "exec", self.space, f"{self.binaries}/kfsd", "--config", f"{self.room}/kfsd.toml", "--begin-with", folder]
+        said = subprocess.run(words, check=False, capture_output=True, text=True, timeout=4 * SOON)
+        return said.returncode, said.stderr
 
     def kept(self):
         return kept_in(self.replica)[1]
@@ -172,12 +200,14 @@ class Machine(Daemon):
 class Cluster:
     """Three machines and the wire between them. Threads connect to whichever leads."""
 
-    def __init__(self, made, settings=None, is_watched=True, **words):
+    def __init__(self, made, settings=None, is_watched=True, is_begun=True, **words):
         self.space = f"kfsd-{os.getpid()}"
-        self.settings, self.is_watched, self.watchers = settings or {}, is_watched, []
+        self.settings, self.is_watched, self.is_begun, self.watchers = settings or {}, is_watched, is_begun, []
+        # The number of the first group.
+        self.first = 0
         self.room = tempfile.mkdtemp(prefix="kfsd-cluster-")
         self.lock = threading.Lock()
-        # The revision at which the leader's key came to be that was found last.
+        # The revision at which the leader's key that was found last was put.
         self.term = 0
         self.machines = []
         self.machines = [Machine(self, name, made, **words) for name in NAMES]
@@ -197,7 +227,7 @@ class Cluster:
         return self
 
     def start(self):
-        """Makes the namespaces, and starts all in them. Returns when one leads."""
+        """Makes the namespaces, and starts all in them. Returns when one leads, or etcd answers."""
         assert shutil.which("etcd") and shutil.which("etcdctl"), "hosts/setup installs etcd"
         self.held.callback(self.unlink)
         with open(f"{self.room}/key", "wb", opener=lambda path, flags: os.open(path, flags, 0o600)) as it:
@@ -214,9 +244,23 @@ class Cluster:
         self.wait_for(lambda: self.etcdctl("endpoint", "health").returncode == 0)
         if self.is_watched:
             self.watch()
+        if self.is_begun:
+            self.begin()
+
+    def begin(self):
+        """Starts each kfsd. Returns when one leads."""
         for it in self.machines:
             it.begin()
         self.leader()
+
+    def lose_etcd(self):
+        """Takes away all that etcd has."""
+        for it in self.machines:
+            it.kill_etcd()
+            shutil.rmtree(f"{it.room}/etcd")
+        for it in self.machines:
+            it.start_etcd()
+        self.wait_for(lambda: self.etcdctl("endpoint", "health").returncode == 0)
 
     def __exit__(self, *fault):
         return self.held.__exit__(*fault)
@@ -287,14 +331,14 @@ class Cluster:
         return [(base64.b64decode(row["key"]).decode(), base64.b64decode(row.get("value", ""))) for row in self.asked(first, *words)]
 
     def leader(self, behind=0):
-        """The machine that leads by a key that came to be behind this revision, once its socket is there."""
+        """The machine that leads by a key that was put behind this revision, once its socket is there."""
         found = []
 
         def is_there():
             for row in self.asked("leader"):
                 name = base64.b64decode(row["value"]).decode().split()[0]
-                found[:] = [it for it in self.machines if it.name == name and row["create_revision"] > behind and it.leads()]
-                self.term = row["create_revision"]
+                found[:] = [it for it in self.machines if it.name == name and row["mod_revision"] > behind and it.leads()]
+                self.term = row["mod_revision"]
             return bool(found)
 
         self.wait_for(is_there)

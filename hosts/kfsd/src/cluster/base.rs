@@ -40,6 +40,14 @@ impl Base {
         Base { volume, number, moment, outcomes, stamps }
     }
 
+    /// Takes over what stands beside the state in a folder of `kfs_serve`, and the leases in that.
+    pub fn recall(self, folder: &Path, following: &Following) -> io::Result<()> {
+        following.read(folder, |_, _| false)?;
+        following.outcomes.begin_with(self.outcomes, vec![]);
+        following.times().begin_with(self.stamps);
+        Ok(())
+    }
+
     fn bytes(&self) -> Vec<u8> {
         let mut bytes = Vec::new();
         for long in [self.volume, self.number, self.moment, self.outcomes.len() as u64] {
@@ -120,6 +128,11 @@ impl Bases {
         File::open(&part)?.sync_all()?;
         fs::rename(part, self.0.join(NAME))?;
         File::open(&self.0)?.sync_all()
+    }
+
+    /// Whether one is kept.
+    pub fn is_there(&self) -> bool {
+        self.0.join(NAME).exists()
     }
 
     /// The file that is kept, whole.

@@ -1,4 +1,4 @@
-//! etcd's version 3 over its JSON gateway: transactions, and leases. Questions go to one member after another until one answers.
+//! etcd's version 3 over its JSON gateway: transactions. Questions go to one member after another until one answers.
 
 use super::http::Http;
 use serde_json::{json, Value};
@@ -9,8 +9,12 @@ use thiserror::Error;
 use tokio::time::{sleep, timeout};
 use tracing::debug;
 
-/// How long one member may take for one answer.
+/// How long one member may take for one answer, and how long where the question is a small one.
 const ATTEMPT: Duration = Duration::from_secs(1);
+const QUICK: Duration = Duration::from_millis(300);
+
+/// How many bytes of a question each member has a second more for.
+const BYTES_A_SECOND: u64 = 1 << 18;
 
 /// How long to wait where each member was asked in vain.
 const AGAIN: Duration = Duration::from_millis(50);
@@ -33,17 +37,15 @@ pub enum EtcdFault {
 pub struct Row {
     pub key: String,
     pub value: Vec<u8>,
-    /// The revision at which the key came to be. None has it twice.
-    pub created: i64,
-    /// The lease that the key goes with; 0 where there is none.
-    pub lease: i64,
+    /// The revision at which it was put last. The same key has none of them twice.
+    pub revision: i64,
 }
 
 /// What has to be so for a transaction to be done.
 #[derive(Clone, Debug)]
 pub enum If {
-    /// The key came to be at this revision; at 0 where it isn't there.
-    Created(String, i64),
+    /// The key was put last at this revision; at 0 where it isn't there.
+    PutAt(String, i64),
     /// The key is there with this value.
     Is(String, Vec<u8>),
 }
@@ -51,8 +53,8 @@ pub enum If {
 /// What a transaction does.
 #[derive(Clone, Debug)]
 pub enum Do {
-    /// Puts a value, which goes with a lease where that isn't 0.
-    Put(String, Vec<u8>, i64),
+    /// Puts a value.
+    Put(String, Vec<u8>),
     /// Reads a key.
     Get(String),
     /// Reads at most so many of the keys from one up to another without that, in their order.
@@ -68,6 +70,8 @@ pub struct Done {
     pub was_so: bool,
     /// What each step of that list has read, in their order.
     pub found: Vec<Vec<Row>>,
+    /// The term of etcd's own leader, as the member that has answered knows it.
+    pub term: i64,
 }
 
 /// The members of etcd.
@@ -84,51 +88,43 @@ impl Etcd {
         Etcd { members: endpoints.iter().map(|address| Http::new(address)).collect(), first: AtomicUsize::new(0) }
     }
 
-    /// Does one list or the other, all of it at once. It may be done twice where a member's answer is lost.
+    /// Does one list or the other, all of it at once. It may be done twice where a member's answer is lost or late.
     pub async fn transact(&self, ifs: &[If], then: &[Do], or_else: &[Do], end: Instant) -> Result<Done, EtcdFault> {
+        self.choose(ifs, [then, or_else], ATTEMPT, end).await
+    }
+
+    /// The same for a few small keys, which each member has less time for.
+    pub async fn transact_soon(&self, ifs: &[If], then: &[Do], or_else: &[Do], end: Instant) -> Result<Done, EtcdFault> {
+        self.choose(ifs, [then, or_else], QUICK, end).await
+    }
+
+    async fn choose(&self, ifs: &[If], lists: [&[Do]; 2], attempt: Duration, end: Instant) -> Result<Done, EtcdFault> {
+        let questions = |steps: &[Do]| steps.iter().map(Do::question).collect::<Vec<_>>();
+        let [then, or_else] = lists;
         let question = json!({
             "compare": ifs.iter().map(If::question).collect::<Vec<_>>(),
-            "success": then.iter().map(Do::question).collect::<Vec<_>>(),
-            "failure": or_else.iter().map(Do::question).collect::<Vec<_>>(),
+            "success": questions(then),
+            "failure": questions(or_else),
         });
-        let said = self.ask("kv/txn", &question, end).await?;
+        let said = self.ask("kv/txn", &question, attempt, end).await?;
         let was_so = said["succeeded"].as_bool().unwrap_or(false);
-        let steps = if was_so { then } else { or_else };
-        let answers = said["responses"].as_array().map_or(&[][..], Vec::as_slice);
-        if answers.len() != steps.len() {
-            return Err(EtcdFault::Nonsense("a transaction has fewer answers than steps"));
-        }
-        let found = answers.iter().map(|answer| rows_of(&answer["response_range"])).collect::<Result<_, _>>()?;
-        Ok(Done { was_so, found })
+        done_of(&said, was_so, if was_so { then } else { or_else })
     }
 
-    /// A lease that ends so many seconds behind its last renewal; its number, and how many seconds it has.
-    pub async fn grant(&self, seconds: u64, end: Instant) -> Result<(i64, u64), EtcdFault> {
-        let said = self.ask("lease/grant", &json!({ "TTL": seconds.to_string() }), end).await?;
-        match (long_in(&said["ID"]), long_in(&said["TTL"])) {
-            (lease, ttl) if lease != 0 && ttl > 0 => Ok((lease, ttl as u64)),
-            _ => Err(EtcdFault::Nonsense("a lease without a number")),
-        }
-    }
-
-    /// Renews a lease. Answers whether it is there.
-    pub async fn renew(&self, lease: i64, end: Instant) -> Result<bool, EtcdFault> {
-        let said = self.ask("lease/keepalive", &json!({ "ID": lease.to_string() }), end).await?;
-        Ok(long_in(&said["result"]["TTL"]) > 0)
-    }
-
-    /// Ends a lease, and the keys that go with it.
-    pub async fn revoke(&self, lease: i64, end: Instant) -> Result<(), EtcdFault> {
-        self.ask("lease/revoke", &json!({ "ID": lease.to_string() }), end).await.map(drop)
+    /// Reads as one member has it, also while etcd has no leader. That may be older than what another one has told.
+    pub async fn look(&self, steps: &[Do], end: Instant) -> Result<Done, EtcdFault> {
+        let question = json!({ "success": steps.iter().map(Do::own_question).collect::<Vec<_>>() });
+        done_of(&self.ask("kv/txn", &question, ATTEMPT, end).await?, true, steps)
     }
 
     /// Asks one member after another until there is an answer, or the time is over.
-    async fn ask(&self, path: &str, question: &Value, end: Instant) -> Result<Value, EtcdFault> {
+    async fn ask(&self, path: &str, question: &Value, attempt: Duration, end: Instant) -> Result<Value, EtcdFault> {
         let text = question.to_string();
+        let attempt = attempt + Duration::from_millis(1000 * text.len() as u64 / BYTES_A_SECOND);
         let mut tried = 0;
         loop {
             // Where all are slow, the same isn't asked ever more often.
-            let most = ATTEMPT * (1 + tried / self.members.len() as u32);
+            let most = attempt * (1 + tried / self.members.len() as u32);
             let left = end.saturating_duration_since(Instant::now()).min(most);
             let place = self.first.load(Ordering::Relaxed) % self.members.len();
             let member = &self.members[place];
@@ -170,8 +166,8 @@ async fn ask_one(member: &Http, path: &str, text: &str) -> Result<Value, EtcdFau
 impl If {
     fn question(&self) -> Value {
         match self {
-            If::Created(key, revision) => {
-                json!({ "key": coded(key), "target": "CREATE", "result": "EQUAL", "create_revision": revision.to_string() })
+            If::PutAt(key, revision) => {
+                json!({ "key": coded(key), "target": "MOD", "result": "EQUAL", "mod_revision": revision.to_string() })
             }
             If::Is(key, value) => {
                 json!({ "key": coded(key), "target": "VALUE", "result": "EQUAL", "value": base64::encode(value) })
@@ -183,15 +179,20 @@ impl If {
 impl Do {
     fn question(&self) -> Value {
         match self {
-            Do::Put(key, value, lease) => json!({ "request_put": {
-                "key": coded(key), "value": base64::encode(value), "lease": lease.to_string()
-            } }),
+            Do::Put(key, value) => json!({ "request_put": { "key": coded(key), "value": base64::encode(value) } }),
             Do::Get(key) => json!({ "request_range": { "key": coded(key) } }),
             Do::Range(from, to, most) => json!({ "request_range": {
                 "key": coded(from), "range_end": coded(to), "limit": most.to_string()
             } }),
             Do::Remove(from, to) => json!({ "request_delete_range": { "key": coded(from), "range_end": coded(to) } }),
         }
+    }
+
+    /// The question of a step that reads, for one member alone.
+    fn own_question(&self) -> Value {
+        let mut question = self.question();
+        question["request_range"]["serializable"] = json!(true);
+        question
     }
 }
 
@@ -202,6 +203,16 @@ fn coded(key: &str) -> String {
 /// A number of 64 bits, which stands as a text; 0 where it isn't there.
 fn long_in(value: &Value) -> i64 {
     value.as_str().and_then(|text| text.parse().ok()).unwrap_or(0)
+}
+
+/// What the member says that these steps have found.
+fn done_of(said: &Value, was_so: bool, steps: &[Do]) -> Result<Done, EtcdFault> {
+    let answers = said["responses"].as_array().map_or(&[][..], Vec::as_slice);
+    if answers.len() != steps.len() {
+        return Err(EtcdFault::Nonsense("a transaction has fewer answers than steps"));
+    }
+    let found = answers.iter().map(|answer| rows_of(&answer["response_range"])).collect::<Result<_, _>>()?;
+    Ok(Done { was_so, found, term: long_in(&said["header"]["raft_term"]) })
 }
 
 /// The rows that were read; none where the step was no question.
@@ -218,7 +229,7 @@ fn row_of(row: &Value) -> Result<Row, EtcdFault> {
         value => value.as_str().and_then(|text| base64::decode(text).ok()).ok_or_else(wrong),
     };
     let key = String::from_utf8(bytes("key")?).map_err(|_| wrong())?;
-    Ok(Row { key, value: bytes("value")?, created: long_in(&row["create_revision"]), lease: long_in(&row["lease"]) })
+    Ok(Row { key, value: bytes("value")?, revision: long_in(&row["mod_revision"]) })
 }
 
 #[cfg(test)]
@@ -227,22 +238,22 @@ mod tests {
 
     #[test]
     fn questions_are_as_the_gateway_has_them() {
-        let created = If::Created("a".into(), 3).question();
-        assert_eq!(created["key"], "YQ==");
-        assert_eq!((created["target"].as_str(), created["create_revision"].as_str()), (Some("CREATE"), Some("3")));
-        assert_eq!(Do::Put("a".into(), b"b".to_vec(), 7).question()["request_put"]["lease"], "7");
+        let put_at = If::PutAt("a".into(), 3).question();
+        assert_eq!(put_at["key"], "YQ==");
+        assert_eq!((put_at["target"].as_str(), put_at["mod_revision"].as_str()), (Some("MOD"), Some("3")));
+        assert_eq!(Do::Put("a".into(), b"b".to_vec()).question()["request_put"]["value"], "Yg==");
+        assert_eq!(Do::Get("a".into()).own_question()["request_range"]["serializable"], true);
         assert_eq!(Do::Range("a".into(), "b".into(), 5).question()["request_range"]["range_end"], "Yg==");
     }
 
     #[test]
     fn rows_are_read() {
-        let said =
-            json!({ "kvs": [{ "key": "YQ==", "create_revision": "2", "mod_revision": "2", "value": "Yg==", "lease": "-9" }] });
-        let row = Row { key: "a".into(), value: b"b".to_vec(), created: 2, lease: -9 };
+        let said = json!({ "kvs": [{ "key": "YQ==", "create_revision": "2", "mod_revision": "4", "value": "Yg==" }] });
+        let row = Row { key: "a".into(), value: b"b".to_vec(), revision: 4 };
         assert_eq!(rows_of(&said).unwrap(), [row]);
         assert_eq!(rows_of(&Value::Null).unwrap(), []);
         assert!(rows_of(&json!({ "kvs": [{ "key": "*" }] })).is_err());
-        let empty = rows_of(&json!({ "kvs": [{ "key": "YQ==", "create_revision": "4" }] })).unwrap();
-        assert_eq!((empty[0].value.len(), empty[0].lease), (0, 0));
+        let empty = rows_of(&json!({ "kvs": [{ "key": "YQ==", "mod_revision": "4" }] })).unwrap();
+        assert_eq!((empty[0].value.len(), empty[0].revision), (0, 4));
     }
 }

@@ -17,7 +17,7 @@ use std::io::ErrorKind;
 use std::time::{Duration, Instant};
 use tokio::sync::mpsc::{channel, Receiver, Sender};
 use tokio::sync::oneshot;
-use tokio::time::sleep;
+use tokio::time::{sleep, timeout};
 use tracing::{info, warn};
 
 /// How many bytes of frames go into one group, or one frame more.
@@ -36,6 +36,8 @@ pub struct Leading<'a> {
     pub id: u64,
     /// A state is kept behind groups of so many bytes.
     pub state_bytes: u64,
+    /// How long the calls of a group may take.
+    pub most: Duration,
 }
 
 /// What comes next for etcd.
@@ -43,13 +45,28 @@ enum Made {
     /// Calls that were made, and the frames that they came in, each with its reply.
     Calls(Group, Vec<(Sent, Reply)>),
     /// The state behind them is copied. The other end is told when it is kept.
-    State(oneshot::Sender<()>),
+    State(oneshot::Sender<Result<(), ClusterFault>>),
+}
+
+/// Tells how a state that was copied was kept. It comes at once where none was.
+pub type Kept = oneshot::Receiver<Result<(), ClusterFault>>;
+
+/// Waits until the last state that was copied is kept: the next copy takes its place.
+pub async fn is_kept(kept: &mut Kept) -> Result<(), ClusterFault> {
+    std::mem::replace(kept, oneshot::channel().1).await.unwrap_or(Ok(()))
 }
 
 /// Leads until the queue is closed and empty, from the group of this number on. Behind an error nobody is answered any more.
-pub async fn lead(leading: &Leading<'_>, next: u64, replica: &mut Replica, shared: &Shared) -> Result<(), ClusterFault> {
+pub async fn lead(
+    leading: &Leading<'_>,
+    next: u64,
+    kept: Kept,
+    replica: &mut Replica,
+    shared: &Shared,
+) -> Result<(), ClusterFault> {
     let (to, made) = channel(1);
-    let working = async { tokio::try_join!(make(leading, replica, to, shared), put(leading, next, made, shared)).map(drop) };
+    let making = make(leading, kept, replica, to, shared);
+    let working = async { tokio::try_join!(making, put(leading, next, made, shared)).map(drop) };
     tokio::select! {
         worked = working => worked,
         fault = renew(leading, shared) => Err(fault),
@@ -58,13 +75,18 @@ pub async fn lead(leading: &Leading<'_>, next: u64, replica: &mut Replica, share
 }
 
 /// Has calls made, until there are none any more or nobody takes them.
-async fn make(leading: &Leading<'_>, replica: &mut Replica, to: Sender<Made>, shared: &Shared) -> Result<(), ClusterFault> {
+async fn make(
+    leading: &Leading<'_>,
+    mut under_way: Kept,
+    replica: &mut Replica,
+    to: Sender<Made>,
+    shared: &Shared,
+) -> Result<(), ClusterFault> {
     let mut bytes_since = 0;
-    // Nobody keeps a state yet, so its end comes at once.
-    let mut under_way = oneshot::channel().1;
     while let Some(Batch { bytes, sent }) = shared.queue.next(MOST).await {
         count_sent(&sent, shared);
-        let replies = replica.talk(&bytes, sent.len()).await?;
+        let talking = timeout(leading.most, replica.talk(&bytes, sent.len())).await;
+        let replies = talking.map_err(|_| ClusterFault::Hangs(leading.most.as_secs()))??;
         if replies.iter().zip(&sent).any(|(reply, one)| reply.number != one.number) {
             return Err(ClusterFault::Ended(ErrorKind::InvalidData.into()));
         }
@@ -80,8 +102,7 @@ async fn make(leading: &Leading<'_>, replica: &mut Replica, to: Sender<Made>, sh
         }
         if bytes_since >= leading.state_bytes {
             bytes_since = 0;
-            // The one before is kept by then: the next copy takes its place.
-            let _ = under_way.await;
+            is_kept(&mut under_way).await?;
             let (kept, next) = oneshot::channel();
             under_way = next;
             if replica.copy_state(leading.bases).await? && to.send(Made::State(kept)).await.is_err() {
@@ -101,7 +122,7 @@ async fn put(leading: &Leading<'_>, mut next: u64, mut made: Receiver<Made>, sha
             Made::State(kept) => {
                 keep(leading, next, moment, shared).await?;
                 // Where nothing is made any more nobody waits.
-                let _ = kept.send(());
+                let _ = kept.send(Ok(()));
                 continue;
             }
         };
@@ -131,11 +152,7 @@ async fn keep(leading: &Leading<'_>, next: u64, moment: u64, shared: &Shared) ->
     let base = Base::now(leading.id, next, moment, &shared.following);
     let bases = leading.bases.clone();
     blocking(move || bases.keep(&base)).await?;
-    match leading.volume.tell_kept(next).await {
-        Err(ClusterFault::Etcd(fault)) => warn!("{fault}"),
-        other => other?,
-    }
-    Ok(())
+    leading.volume.tell_kept(next).await
 }
 
 /// Removes those groups from etcd now and then that are part of the states that two members keep.
@@ -162,7 +179,7 @@ async fn trim(leading: &Leading<'_>) -> Infallible {
     }
 }
 
-/// Renews the lease, and returns where this one leads no more, or may not.
+/// Gives signs, and returns where this one leads no more, or may not.
 async fn renew(leading: &Leading<'_>, shared: &Shared) -> ClusterFault {
     let Leading { volume, lead, .. } = leading;
     let most = lead.time * 2;
@@ -176,7 +193,7 @@ async fn renew(leading: &Leading<'_>, shared: &Shared) -> ClusterFault {
             }
             Ok(false) => return ClusterFault::Lost,
             Err(fault) => {
-                warn!("the lease isn't renewed: {fault}");
+                warn!("no sign is given: {fault}");
                 return ClusterFault::Cut(most.as_secs());
             }
         }
@@ -184,7 +201,7 @@ async fn renew(leading: &Leading<'_>, shared: &Shared) -> ClusterFault {
     }
 }
 
-/// For how long behind a renewal nobody else leads. The clock of this machine may be slower than etcd's by a quarter.
+/// For how long behind a sign nobody else leads. The clock of this machine may be slower than another member's by a quarter.
 fn span(lead: &Lead) -> Duration {
     lead.time * 3 / 4
 }

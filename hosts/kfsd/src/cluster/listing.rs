@@ -24,7 +24,7 @@ pub async fn volumes(endpoints: &[String]) -> Result<String, EtcdFault> {
         let steps = [get("leader"), get("next"), range("group", 1), range("base", MEMBERS)];
         let done = etcd.transact(&[], &steps, &[], Instant::now() + TIME).await?;
         let rows = |step: usize| done.found.get(step).map_or(&[][..], Vec::as_slice);
-        let leader = rows(0).first().map_or_else(|| "nobody".into(), |row| String::from_utf8_lossy(&row.value));
+        let leader = rows(0).first().and_then(leader).unwrap_or_else(|| "nobody".to_string());
         let next = rows(1).first().and_then(number_of).unwrap_or(0);
         let first = rows(2).first().and_then(|row| u64::from_str_radix(last_word(&row.key), 16).ok()).unwrap_or(next);
         let members: Vec<String> = rows(3).iter().filter_map(member).collect();
@@ -32,6 +32,12 @@ pub async fn volumes(endpoints: &[String]) -> Result<String, EtcdFault> {
         let _ = writeln!(text, "{name:<16} {leader:<30} {first:>7} {next:>10} {}", members.join(", "));
     }
     Ok(text)
+}
+
+/// The name of the member that leads, and where it is.
+fn leader(row: &Row) -> Option<String> {
+    let text = std::str::from_utf8(&row.value).ok()?;
+    Some(format!("{} {}", text.split(' ').next()?, second_word(row)?))
 }
 
 /// A member, and the number up to which groups are part of the state that it keeps.

@@ -1,17 +1,17 @@
 //! A member of a volume: it makes the calls of all groups, and leads where nobody does.
 
 use super::base::{Base, Bases};
-use super::leading::{self, Leading};
+use super::leading::{self, Kept, Leading};
 use super::origin::Origin;
 use super::peer::{self, Key};
 use super::relay::relay;
 use super::replica::{begin_anew, Replica};
-use super::volume::{Lead, Volume};
+use super::volume::{Lead, Seen, Sign, Volume};
 use super::{blocking, ClusterFault, Settings};
 use crate::calls::Note;
 use crate::config::Config;
 use crate::connection::Shared;
-use crate::folder::Folder;
+use crate::folder::{Folder, Found};
 use crate::outcomes::Finder;
 use crate::queue::Queue;
 use crate::sockets::Sockets;
@@ -20,9 +20,9 @@ use std::fs;
 use std::io;
 use std::path::PathBuf;
 use std::sync::Arc;
-use std::time::Duration;
+use std::time::{Duration, Instant};
 use tokio::net::TcpListener;
-use tokio::sync::watch;
+use tokio::sync::{oneshot, watch};
 use tokio::task::JoinSet;
 use tokio::time::sleep;
 use tracing::{debug, info, warn};
@@ -37,7 +37,7 @@ const REST: Duration = Duration::from_millis(200);
 #[derive(Debug)]
 pub struct Member {
     settings: Settings,
-    volume: Volume,
+    volume: Arc<Volume>,
     origin: Origin,
     key: Key,
     bases: Bases,
@@ -52,7 +52,7 @@ pub struct Member {
 }
 
 /// What a member knows of the groups before the next one.
-#[derive(Debug, Default)]
+#[derive(Debug)]
 struct Follower {
     next: u64,
     finder: Finder,
@@ -60,6 +60,19 @@ struct Follower {
     moment: u64,
     /// How many bytes of groups there were since a state was kept.
     bytes: u64,
+    /// How the last state that was copied is kept.
+    kept: Kept,
+}
+
+/// The last sign of a leader.
+#[derive(Debug)]
+struct Watch {
+    sign: Sign,
+    /// Since when no later one was seen here.
+    since: Instant,
+    /// The term of etcd's own leader, and since when no later one was seen.
+    term: i64,
+    elected: Instant,
 }
 
 impl Member {
@@ -67,10 +80,10 @@ impl Member {
     pub async fn join(settings: &Settings, config: &Config, folder: Folder, clients: &str) -> Result<Member, ClusterFault> {
         let key = Key::read(&settings.key_file).map_err(|fault| ClusterFault::Path(settings.key_file.clone(), fault))?;
         let listener = TcpListener::bind(settings.peer).await.map_err(|fault| ClusterFault::Peer(settings.peer, fault))?;
-        let volume = Volume::new(settings);
+        let volume = Arc::new(Volume::new(settings));
         let wanted = Origin::new(config.tiers, clients).map_err(ClusterFault::Folder)?.text();
         let origin = loop {
-            match volume.begin(&wanted).await {
+            match begin(&volume, &wanted, &folder).await {
                 Err(ClusterFault::Etcd(fault)) => {
                     warn!("{fault}");
                     sleep(REST).await;
@@ -125,35 +138,66 @@ impl Member {
         self.have_state(leader).await?;
         let (mut replica, mut follower) = self.begin(shared).await?;
         info!("{} follows volume {} from group {} on", self.settings.member, self.settings.volume, follower.next);
+        let (mut watch, mut seen) = (Watch::new(), self.look(follower.next).await?);
         loop {
-            let seen = match self.volume.look(follower.next).await {
-                Err(ClusterFault::Etcd(fault)) => {
-                    warn!("{fault}");
-                    sleep(REST).await;
-                    continue;
+            watch.see(&seen);
+            if *leader.borrow() != seen.leader {
+                let who = seen.leader.as_deref().unwrap_or("nobody");
+                debug!("{who} leads, and group {} of {} is next here", follower.next, seen.next);
+                leader.send_replace(seen.leader.clone());
+            }
+            if !seen.groups.is_empty() {
+                seen = self.make(seen, &mut replica, &mut follower, shared).await?;
+                continue;
+            }
+            let is_free = seen.leader.is_none() || watch.is_over(self.settings.lease());
+            if is_free && follower.next == seen.next {
+                if let Some(lead) = self.ask_to_lead(&follower, &watch).await? {
+                    return Ok((replica, follower, lead));
                 }
-                other => other?,
-            };
-            let (has_more, is_led) = (!seen.groups.is_empty(), seen.leader.is_some());
-            leader.send_replace(seen.leader);
-            for (number, group) in seen.groups {
-                replica.feed(number, &group).await?;
-                follower.take(number, &group, shared);
             }
-            if has_more {
-                debug!("group {} is next", follower.next);
-                self.keep_state(&mut replica, &mut follower, shared).await?;
+            sleep(POLL).await;
+            seen = self.look(follower.next).await?;
+        }
+    }
+
+    /// Looks how the volume stands, once etcd answers.
+    async fn look(&self, from: u64) -> Result<Seen, ClusterFault> {
+        loop {
+            match self.volume.look(from).await {
+                Err(ClusterFault::Etcd(fault)) => warn!("{fault}"),
+                other => return other,
             }
-            if !is_led && follower.next == seen.next {
-                match self.volume.lead(follower.next, self.settings.lease_seconds).await {
-                    Ok(Some(lead)) => return Ok((replica, follower, lead)),
-                    Ok(None) => {}
-                    Err(ClusterFault::Etcd(fault)) => warn!("{fault}"),
-                    Err(fault) => return Err(fault),
-                }
-            } else if !has_more {
-                sleep(POLL).await;
+            sleep(REST).await;
+        }
+    }
+
+    /// Makes the calls of groups, and looks for those behind them meanwhile.
+    async fn make(
+        &self,
+        seen: Seen,
+        replica: &mut Replica,
+        follower: &mut Follower,
+        shared: &Shared,
+    ) -> Result<Seen, ClusterFault> {
+        let behind = follower.next + seen.groups.len() as u64;
+        let (made, later) = tokio::join!(replica.feed(&seen.groups), self.look(behind));
+        made?;
+        seen.groups.iter().for_each(|(number, group)| follower.take(*number, group, shared));
+        debug!("group {} is next", follower.next);
+        self.keep_state(replica, follower, shared).await?;
+        later
+    }
+
+    /// Becomes the leader, where no other one does, and etcd answers.
+    async fn ask_to_lead(&self, follower: &Follower, watch: &Watch) -> Result<Option<Lead>, ClusterFault> {
+        debug!("the last sign of a leader is {:.1?} old: this one asks to lead", watch.since.elapsed());
+        match self.volume.lead(follower.next, watch.sign, self.settings.lease()).await {
+            Err(ClusterFault::Etcd(fault)) => {
+                warn!("{fault}");
+                Ok(None)
             }
+            other => other,
         }
     }
 
@@ -224,49 +268,45 @@ impl Member {
         let clients = folder.join("clients");
         fs::write(&clients, &self.origin.clients).map_err(ClusterFault::Folder)?;
         let mut words: Vec<OsString> = vec!["new".into(), folder.clone().into(), self.rows.to_string().into()];
-        let mut follower = Follower::default();
+        let mut follower = Follower { next: 0, finder: Finder::default(), moment: 0, bytes: 0, kept: oneshot::channel().1 };
         if let Some(base) = base {
             let (bases, to) = (self.bases.clone(), folder.clone());
             blocking(move || bases.put(&to)).await?;
             words[0] = "open".into();
-            let following = &shared.following;
-            following.read(&folder, |_, _| false).map_err(ClusterFault::Folder)?;
-            following.outcomes.begin_with(base.outcomes, vec![]);
-            following.times().begin_with(base.stamps);
             follower = Follower { next: base.number, moment: base.moment, ..follower };
+            base.recall(&folder, &shared.following).map_err(ClusterFault::Folder)?;
         } else {
             words.push(clients.into());
             words.extend(self.origin.tiers.iter().map(|blocks| blocks.to_string().into()));
         }
         shared.figures.group.set(follower.next);
-        self.tell_kept(follower.next).await?;
+        self.volume.tell_kept(follower.next).await?;
         Ok((Replica::start(&self.program, &words, folder).await?, follower))
     }
 
-    /// Keeps a state, where there were many groups since the last one.
+    /// Has a state kept, where there were many groups since the last one. Groups are made meanwhile.
     async fn keep_state(&self, replica: &mut Replica, follower: &mut Follower, shared: &Shared) -> Result<(), ClusterFault> {
         if follower.bytes < self.settings.state_bytes {
             return Ok(());
         }
         follower.bytes = 0;
+        leading::is_kept(&mut follower.kept).await?;
         if replica.copy_state(&self.bases).await? {
-            let base = Base::now(self.origin.volume, follower.next, follower.moment, &shared.following);
-            let bases = self.bases.clone();
-            blocking(move || bases.keep(&base)).await?;
-            self.tell_kept(follower.next).await?;
+            let number = follower.next;
+            let base = Base::now(self.origin.volume, number, follower.moment, &shared.following);
+            let (bases, volume) = (self.bases.clone(), Arc::clone(&self.volume));
+            let (kept, next) = oneshot::channel();
+            follower.kept = next;
+            tokio::spawn(async move {
+                let keeping = async {
+                    blocking(move || bases.keep(&base)).await?;
+                    volume.tell_kept(number).await
+                };
+                // It is heard with the next state. Where there is none any more nobody waits.
+                let _ = kept.send(keeping.await);
+            });
         }
         Ok(())
-    }
-
-    /// Says in etcd which state is kept here. Where etcd doesn't answer, it is said with the next one.
-    async fn tell_kept(&self, number: u64) -> Result<(), ClusterFault> {
-        match self.volume.tell_kept(number).await {
-            Err(ClusterFault::Etcd(fault)) => {
-                warn!("{fault}");
-                Ok(())
-            }
-            other => other,
-        }
     }
 
     /// Leads until the queue is closed and empty.
@@ -288,21 +328,61 @@ impl Member {
             bases: &self.bases,
             id: self.origin.volume,
             state_bytes: self.settings.state_bytes,
+            most: Duration::from_secs(self.settings.hang_seconds),
         };
-        let led = leading::lead(&leading, follower.next, &mut replica, shared).await;
+        let led = leading::lead(&leading, follower.next, follower.kept, &mut replica, shared).await;
         shared.figures.opened.set(0);
         // Its key goes at once. What it has sent before that it was told of, or it is refused.
         self.volume.end(&lead).await;
-        replica.end().await;
+        match &led {
+            Ok(()) => replica.end().await,
+            // It may never end by itself, so it is killed.
+            Err(_) => drop(replica),
+        }
         debug!("group {} is next", shared.figures.group.get());
         led
     }
+}
+
+/// What a volume was begun with. Where it isn't there it is begun with this, and there may be no desk and no state in the folder.
+async fn begin(volume: &Volume, wanted: &str, folder: &Folder) -> Result<String, ClusterFault> {
+    let has_files = folder.files().map_err(ClusterFault::Folder)? != Found::None;
+    let has_desk = has_files || Bases::new(folder.path()).is_there();
+    if has_desk && volume.origin().await?.is_none() {
+        return Err(ClusterFault::Unused(folder.path().to_path_buf()));
+    }
+    volume.begin(wanted, 0).await
 }
 
 /// Takes the questions of `kfsctl`, which a member that doesn't lead has no answer to, until the queue is closed.
 async fn turned_away(queue: &Queue) {
     while let Some(batch) = queue.next(0).await {
         drop(batch);
+    }
+}
+
+impl Watch {
+    fn new() -> Watch {
+        let now = Instant::now();
+        Watch { sign: Sign::default(), since: now, term: 0, elected: now }
+    }
+
+    /// Takes what was just seen.
+    fn see(&mut self, seen: &Seen) {
+        let now = Instant::now();
+        if self.sign != seen.sign {
+            (self.sign, self.since) = (seen.sign, now);
+        }
+        if self.term < seen.term {
+            (self.term, self.elected) = (seen.term, now);
+            debug!("etcd has an own leader of term {}, or seeks one", seen.term);
+        }
+    }
+
+    /// Whether a leader that others wait for so long would have given another sign. Where etcd has just found a leader of its own, one
+    /// may not have been able to.
+    fn is_over(&self, time: Duration) -> bool {
+        self.since.elapsed() >= time && self.elected.elapsed() >= time / 4
     }
 }
 

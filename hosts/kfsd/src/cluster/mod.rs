@@ -4,6 +4,7 @@
 //! `run` in `member.rs`; docs/CLUSTER.md is for those who run it.
 
 pub mod base;
+pub mod beginning;
 pub mod etcd;
 pub mod group;
 pub mod http;
@@ -22,6 +23,7 @@ use serde::{Deserialize, Serialize};
 use std::io;
 use std::net::SocketAddr;
 use std::path::PathBuf;
+use std::time::Duration;
 use thiserror::Error;
 
 /// Why a kfsd is no member of a volume any more.
@@ -29,7 +31,7 @@ use thiserror::Error;
 pub enum ClusterFault {
     #[error(transparent)]
     Etcd(#[from] EtcdFault),
-    #[error("this kfsd leads no more: its lease in etcd has ended")]
+    #[error("this kfsd leads no more: another one has taken over")]
     Lost,
     #[error("etcd wasn't reached for {0} seconds, so another kfsd may lead by now")]
     Cut(u64),
@@ -50,6 +52,8 @@ pub enum ClusterFault {
     Unread(&'static str),
     #[error("kfs_serve isn't understood, or has ended: {0}")]
     Ended(io::Error),
+    #[error("kfs_serve hasn't made the calls of a group in {0} seconds")]
+    Hangs(u64),
     #[error("{0} can't be run: {1}")]
     Process(PathBuf, io::Error),
     #[error("the folder: {0}")]
@@ -62,17 +66,27 @@ pub enum ClusterFault {
     Peer(SocketAddr, io::Error),
     #[error("the state in {0} is of another volume that has had this name: where it isn't needed any more, remove it")]
     Another(PathBuf),
+    #[error("volume {0} is there already: it goes on from the states that its members keep")]
+    Begun(String),
+    #[error("{0} has a state of another volume, before group {1}: where it isn't needed any more, remove it")]
+    Kept(PathBuf, u64),
+    #[error("a volume can't begin with the desk in {0}: {1}")]
+    NoDesk(PathBuf, String),
+    #[error("{0} has a desk, and the volume isn't there: begin it with that desk (--begin-with), or move it away")]
+    Unused(PathBuf),
 }
 
 impl ClusterFault {
     /// The exit status: 5 where a new start makes it a member again, 6 where someone has to look first, and else 1.
     pub fn status(&self) -> u8 {
         match self {
-            ClusterFault::Lost | ClusterFault::Cut(_) | ClusterFault::Gap(_) | ClusterFault::Ended(_) => 5,
+            ClusterFault::Lost | ClusterFault::Cut(_) | ClusterFault::Hangs(_) => 5,
+            ClusterFault::Gap(_) | ClusterFault::Ended(_) => 5,
             ClusterFault::Etcd(EtcdFault::Unreached(_)) => 5,
             ClusterFault::Differs { .. } | ClusterFault::BadGroup(_) | ClusterFault::Unread(_) => 6,
             ClusterFault::Ahead { .. } | ClusterFault::Etcd(_) | ClusterFault::Folder(_) => 6,
             ClusterFault::Another(_) => 6,
+            ClusterFault::Begun(_) | ClusterFault::Kept(..) | ClusterFault::NoDesk(..) | ClusterFault::Unused(_) => 1,
             ClusterFault::Process(..) | ClusterFault::Path(..) | ClusterFault::Peer(..) | ClusterFault::Socket(_) => 1,
         }
     }
@@ -94,7 +108,7 @@ pub struct Settings {
     pub volume: String,
     /// The name of this kfsd, which no other one of the volume has.
     pub member: String,
-    /// How long a leader's lease lasts behind its last renewal. etcd may make it longer.
+    /// How long others wait behind the last sign of a leader.
     #[serde(default = "lease_seconds")]
     pub lease_seconds: u64,
     /// Where the other members reach this one.
@@ -104,6 +118,13 @@ pub struct Settings {
     /// A state is kept behind groups of so many bytes.
     #[serde(default = "state_bytes")]
     pub state_bytes: u64,
+    /// A leader gives up where `kfs_serve` takes longer than this for the calls of a group.
+    #[serde(default = "hang_seconds")]
+    pub hang_seconds: u64,
+}
+
+fn hang_seconds() -> u64 {
+    60
 }
 
 fn lease_seconds() -> u64 {
@@ -115,6 +136,11 @@ fn state_bytes() -> u64 {
 }
 
 impl Settings {
+    /// How long others wait behind the last sign of a leader.
+    pub fn lease(&self) -> Duration {
+        Duration::from_secs(self.lease_seconds)
+    }
+
     /// Why they aren't taken.
     pub fn fault(&self) -> Option<&'static str> {
         let is_name = |text: &str| {
@@ -132,7 +158,8 @@ impl Settings {
         if !is_name(&self.volume) || !is_name(&self.member) {
             return Some("names of a volume and of a member have letters, digits, and the signs - _ . alone");
         }
-        (self.lease_seconds == 0).then_some("cluster.lease_seconds is 1 at least")
+        let has_none = self.lease_seconds == 0 || self.hang_seconds == 0;
+        has_none.then_some("cluster.lease_seconds and cluster.hang_seconds are 1 at least")
     }
 }
 
@@ -150,6 +177,7 @@ mod tests {
             peer: ([127, 0, 0, 1], 9470).into(),
             key_file: "/etc/key".into(),
             state_bytes: 1,
+            hang_seconds: 1,
         };
         assert_eq!(right.fault(), None);
         for endpoint in ["127.0.0.1", "http://127.0.0.1:2379", "", "a b:1"] {
@@ -160,6 +188,7 @@ mod tests {
             assert!(Settings { member: name.into(), ..right.clone() }.fault().is_some(), "{name}");
         }
         assert!(Settings { etcd: vec![], ..right.clone() }.fault().is_some());
-        assert!(Settings { lease_seconds: 0, ..right }.fault().is_some());
+        assert!(Settings { lease_seconds: 0, ..right.clone() }.fault().is_some());
+        assert!(Settings { hang_seconds: 0, ..right }.fault().is_some());
     }
 }

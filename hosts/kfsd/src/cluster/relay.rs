@@ -11,7 +11,7 @@ use std::future::pending;
 use std::sync::Arc;
 use std::time::Duration;
 use tokio::io::copy_bidirectional;
-use tokio::net::UnixStream;
+use tokio::net::{TcpStream, UnixStream};
 use tokio::sync::watch;
 use tokio::task::JoinSet;
 use tokio::time::timeout;
@@ -19,6 +19,9 @@ use tracing::debug;
 
 /// How long a connection waits for a leader.
 const WAIT: Duration = Duration::from_secs(10);
+
+/// How long a connection waits before it asks the same leader again.
+const REST: Duration = Duration::from_millis(100);
 
 /// Where the leader is; none where nobody leads.
 pub type Leader = watch::Receiver<Option<String>>;
@@ -51,21 +54,34 @@ fn take(stream: UnixStream, shared: &Shared, leader: &Leader, key: &Key, tasks: 
 
 /// Hands the bytes of a connection on in both directions, as long as one and the same leads.
 async fn hand_on(mut stream: UnixStream, place: Place, mut leader: Leader, key: Key) {
-    let found = timeout(WAIT, address_of(&mut leader)).await;
-    let address = match found {
-        Ok(address) => address,
+    let uid = place.account.user.uid;
+    let reached = timeout(WAIT, reach(&mut leader, &key, uid)).await;
+    let (address, mut to) = match reached {
+        Ok(reached) => reached,
         Err(_) => return,
     };
-    let uid = place.account.user.uid;
-    let handing = async {
-        let mut to = connect_user(&address, &key, uid).await?;
-        copy_bidirectional(&mut stream, &mut to).await
-    };
     tokio::select! {
-        ended = handing => if let Err(fault) = ended {
+        ended = copy_bidirectional(&mut stream, &mut to) => if let Err(fault) = ended {
             debug!("a connection of user {uid} has ended: {fault}");
         },
         _ = another(&mut leader, &address) => {}
+    }
+}
+
+/// A connection of a user to the leader, and where that is, once there is one that takes it.
+async fn reach(leader: &mut Leader, key: &Key, uid: u32) -> (String, TcpStream) {
+    loop {
+        let address = address_of(leader).await;
+        let connected = tokio::select! {
+            connected = connect_user(&address, key, uid) => connected,
+            _ = another(leader, &address) => continue,
+        };
+        match connected {
+            Ok(to) => return (address, to),
+            Err(fault) => debug!("a connection of user {uid} waits for another leader: {fault}"),
+        }
+        // It has ended, and another one leads soon.
+        let _ = timeout(REST, another(leader, &address)).await;
     }
 }
 

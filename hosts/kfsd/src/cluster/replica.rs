@@ -99,24 +99,25 @@ impl Replica {
         replies.map_err(ClusterFault::Ended)
     }
 
-    /// Makes the calls of the group of a number. Each has to have the answer that it had.
-    pub async fn feed(&mut self, number: u64, group: &Group) -> Result<(), ClusterFault> {
+    /// Makes the calls of groups, all of them at once. Each has to have the answer that it had.
+    pub async fn feed(&mut self, groups: &[(u64, Group)]) -> Result<(), ClusterFault> {
+        let calls =
+            || groups.iter().flat_map(|(number, group)| group.calls.iter().enumerate().map(move |call| (*number, call)));
         let mut frames = Vec::new();
-        for (call, _) in &group.calls {
+        for (number, (_, (call, _))) in calls() {
             let from = from_of(call).ok_or(ClusterFault::BadGroup(number))?;
             // Bodies have at most 16,777,216 bytes.
             frames.extend_from_slice(&Head { length: call.len() as u32, number: self.number, from }.bytes());
             frames.extend_from_slice(call);
             self.number = self.number.wrapping_add(1);
         }
-        let replies = self.talk(&frames, group.calls.len()).await?;
-        let mut pairs = replies.iter().zip(&group.calls).enumerate();
-        match pairs.find(|(_, (reply, (_, answer)))| reply.answer() != Some(answer)) {
-            Some((place, (reply, (_, answer)))) => {
-                Err(ClusterFault::Differs { number, place, theirs: answer.clone(), own: reply.said.clone() })
+        let replies = self.talk(&frames, calls().count()).await?;
+        for (reply, (number, (place, (_, answer)))) in replies.iter().zip(calls()) {
+            if reply.answer() != Some(answer) {
+                return Err(ClusterFault::Differs { number, place, theirs: answer.clone(), own: reply.said.clone() });
             }
-            None => Ok(()),
         }
+        Ok(())
     }
 
     /// Has it begin its journal anew, and copies the state that it begins with. False where it refuses that.

@@ -3,7 +3,7 @@
 use std::time::Instant;
 use tokio::sync::watch;
 
-/// Says whether this kfsd may answer by what its desk shows. One that leads may, up to an instant that its lease in etcd gives it.
+/// Says whether this kfsd may answer by what its desk shows. One that leads may, up to an instant that its last sign in etcd gives it.
 #[derive(Debug)]
 pub struct Term(watch::Sender<Option<Instant>>);
 

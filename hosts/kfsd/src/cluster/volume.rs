@@ -1,19 +1,24 @@
 //! A volume in etcd: who leads it, and its groups, each under a number of its own without a gap.
 //!
-//! All that a leader puts is put only while the leader's key is the one that it made itself. So nothing comes behind the end of its
-//! lease, also what was sent before that.
+//! All that a leader puts is put only while the leader's key is as it has put it itself. So nothing comes once another one leads, also
+//! what was sent before that.
+//!
+//! A leader gives signs. A member that sees no new one for the time of a lease, by its own clock, takes the key over, and only where etcd
+//! has no later sign. So neither clocks of etcd nor an election there make a leader's time longer.
 
 use super::etcd::{Do, Done, Etcd, EtcdFault, If, Row};
 use super::group::{Group, Held, PART};
+use super::origin::random;
 use super::{ClusterFault, Settings};
 use std::net::SocketAddr;
 use std::time::{Duration, Instant};
+use tracing::warn;
 
-/// How long a look may take, and how long a group may take to be put.
+/// How long a look may take, and how long a group or a part of one may take to be put.
 const LOOK: Duration = Duration::from_secs(3);
 const PUT: Duration = Duration::from_secs(30);
 
-/// How long an end that is told may take. Where it isn't told, the lease ends by itself.
+/// How long an end that is told may take. Where it isn't told, others wait for the time of a lease.
 const LAST: Duration = Duration::from_millis(500);
 
 /// How many groups are read at once, each of which has at most `PART` bytes and one more.
@@ -41,19 +46,29 @@ pub struct Volume {
 pub struct Seen {
     /// Where the member is that leads it.
     pub leader: Option<String>,
+    pub sign: Sign,
+    /// The term of etcd's own leader. Before a new one there was none, so no sign could be given.
+    pub term: i64,
     /// The number of the next group that is put.
     pub next: u64,
     /// Some groups from the one that was asked for on.
     pub groups: Vec<(u64, Group)>,
 }
 
+/// What shows that a leader is there: it changes with each leader, and with each sign of one.
+#[derive(Clone, Copy, Debug, Default, PartialEq, Eq)]
+pub struct Sign {
+    /// The revisions at which the leader's key, and its sign, were put last; 0 where they aren't there.
+    leader: i64,
+    sign: i64,
+}
+
 /// What a leader has.
 #[derive(Clone, Copy, Debug)]
 pub struct Lead {
-    /// The revision at which its key came to be.
+    /// The revision at which it has put its key.
     revision: i64,
-    lease: i64,
-    /// How long the lease lasts behind its last renewal.
+    /// How long others wait behind its last sign.
     pub time: Duration,
 }
 
@@ -81,33 +96,56 @@ impl Volume {
         format!("{}/part/{number:016x}/{part:08x}", self.prefix)
     }
 
-    /// What the volume was begun with. Where it isn't there, it is begun with this.
-    pub async fn begin(&self, origin: &str) -> Result<String, ClusterFault> {
+    /// What the volume was begun with; none where it isn't there.
+    pub async fn origin(&self) -> Result<Option<String>, ClusterFault> {
+        let done = self.etcd.transact(&[], &[Do::Get(self.key("origin"))], &[], Instant::now() + LOOK).await?;
+        first(&done, 0).map(|row| text_in(&row.value)).transpose()
+    }
+
+    /// What the volume was begun with. Where it isn't there, it is begun with this, and with this number for its first group. Where
+    /// that isn't 0, this member keeps the state before it.
+    pub async fn begin(&self, origin: &str, number: u64) -> Result<String, ClusterFault> {
         let (key, next) = (self.key("origin"), self.key("next"));
-        let ifs = [If::Created(key.clone(), 0)];
-        let puts = [
-            Do::Put(format!("{INDEX}{}", self.name), vec![], 0),
-            Do::Put(key.clone(), origin.into(), 0),
-            Do::Put(next, text_of(0), 0),
-            Do::Get(key.clone()),
+        let ifs = [If::PutAt(key.clone(), 0)];
+        let mut puts = vec![
+            Do::Put(format!("{INDEX}{}", self.name), vec![]),
+            Do::Put(key.clone(), origin.into()),
+            Do::Put(next, text_of(number)),
         ];
+        if number > 0 {
+            puts.push(self.keeps(number));
+        }
+        puts.push(Do::Get(key.clone()));
         let done = self.etcd.transact(&ifs, &puts, &[Do::Get(key)], Instant::now() + LOOK).await?;
         let found = done.found.into_iter().flatten().next().ok_or(EtcdFault::Nonsense("no origin is found"))?;
-        String::from_utf8(found.value).map_err(|_| ClusterFault::Unread("the origin"))
+        text_in(&found.value)
     }
 
     /// Looks who leads, and for groups from a number on.
     pub async fn look(&self, from: u64) -> Result<Seen, ClusterFault> {
-        let steps =
-            [Do::Get(self.key("leader")), Do::Get(self.key("next")), Do::Range(self.group(from), self.key("group0"), AT_ONCE)];
-        let done = self.etcd.transact(&[], &steps, &[], Instant::now() + LOOK).await?;
-        let next = number_in(&done, 1).ok_or(ClusterFault::Unread("the number of the next group"))?;
-        let leader = first(&done, 0).and_then(|row| Some(second_word(row)?.to_string()));
+        let groups = Do::Range(self.group(from), self.key("group0"), AT_ONCE);
+        let steps = [Do::Get(self.key("leader")), Do::Get(self.key("sign")), Do::Get(self.key("next")), groups];
+        let done = self.etcd.look(&steps, Instant::now() + LOOK).await?;
+        match self.seen(from, done).await {
+            // The member of etcd that has answered may be behind the others.
+            Err(ClusterFault::Ahead { .. } | ClusterFault::Gap(_) | ClusterFault::Unread(_)) => {
+                let done = self.etcd.transact(&[], &steps, &[], Instant::now() + LOOK).await?;
+                self.seen(from, done).await
+            }
+            other => other,
+        }
+    }
+
+    async fn seen(&self, from: u64, done: Done) -> Result<Seen, ClusterFault> {
+        let next = number_in(&done, 2).ok_or(ClusterFault::Unread("the number of the next group"))?;
         if next < from {
             return Err(ClusterFault::Ahead { own: from, next });
         }
+        let leader = first(&done, 0).and_then(|row| Some(second_word(row)?.to_string()));
+        let revision = |step| first(&done, step).map_or(0, |row| row.revision);
+        let sign = Sign { leader: revision(0), sign: revision(1) };
         let mut groups = Vec::new();
-        for (number, row) in (from..next).zip(done.found.get(2).into_iter().flatten()) {
+        for (number, row) in (from..next).zip(done.found.get(3).into_iter().flatten()) {
             if row.key != self.group(number) {
                 return Err(ClusterFault::Gap(number));
             }
@@ -116,7 +154,7 @@ impl Volume {
         if groups.is_empty() && from < next {
             return Err(ClusterFault::Gap(from));
         }
-        Ok(Seen { leader, next, groups })
+        Ok(Seen { leader, sign, term: done.term, next, groups })
     }
 
     /// The group of a row, with its parts.
@@ -136,29 +174,37 @@ impl Volume {
         }
     }
 
-    /// Becomes the leader, where there is none, and this is the number of the next group. The lease has so many seconds.
-    pub async fn lead(&self, next: u64, seconds: u64) -> Result<Option<Lead>, ClusterFault> {
-        let end = Instant::now() + LOOK;
-        let (lease, seconds) = self.etcd.grant(seconds, end).await?;
+    /// Becomes the leader, where this is the number of the next group, and this was the last sign of any leader. Others wait for so long
+    /// behind each sign then.
+    pub async fn lead(&self, next: u64, last: Sign, time: Duration) -> Result<Option<Lead>, ClusterFault> {
         let key = self.key("leader");
-        let ifs = [If::Created(key.clone(), 0), If::Is(self.key("next"), text_of(next))];
-        let value = format!("{} {}", self.member, self.address);
-        let put = [Do::Put(key.clone(), value.into(), lease), Do::Get(key.clone())];
-        let done = self.etcd.transact(&ifs, &put, &[Do::Get(key)], end).await?;
+        let ifs = [
+            If::PutAt(key.clone(), last.leader),
+            If::PutAt(self.key("sign"), last.sign),
+            If::Is(self.key("next"), text_of(next)),
+        ];
+        // No other attempt has this number.
+        let own = random().map_err(ClusterFault::Folder)?;
+        let value = format!("{} {} {own:016x}", self.member, self.address).into_bytes();
+        let put = [Do::Put(key.clone(), value.clone()), Do::Get(key.clone())];
+        let done = self.etcd.transact_soon(&ifs, &put, &[Do::Get(key)], Instant::now() + LOOK).await?;
         // Where an answer was lost, the key is there already.
-        let own = done.found.into_iter().flatten().find(|row| row.lease == lease);
-        if own.is_none() {
-            self.resign(lease).await;
-        }
-        Ok(own.map(|row| Lead { revision: row.created, lease, time: Duration::from_secs(seconds) }))
+        let row = first(&done, usize::from(done.was_so)).filter(|row| row.value == value);
+        Ok(row.map(|row| Lead { revision: row.revision, time }))
     }
 
-    /// Says that this member keeps a state that stands for all groups before this number.
+    /// Says that this member keeps a state that stands for all groups before this number. Where etcd doesn't answer, it is said with
+    /// the next one.
     pub async fn tell_kept(&self, number: u64) -> Result<(), ClusterFault> {
-        let key = self.key(&format!("base/{}", self.member));
-        let put = [Do::Put(key, format!("{number:016x} {}", self.address).into(), 0)];
-        self.etcd.transact(&[], &put, &[], Instant::now() + LOOK).await?;
+        match self.etcd.transact(&[], &[self.keeps(number)], &[], Instant::now() + LOOK).await {
+            Err(fault @ EtcdFault::Unreached(_)) => warn!("{fault}"),
+            other => drop(other?),
+        }
         Ok(())
+    }
+
+    fn keeps(&self, number: u64) -> Do {
+        Do::Put(self.key(&format!("base/{}", self.member)), format!("{number:016x} {}", self.address).into())
     }
 
     /// What all members keep: the number of each state and where it is, the latest first.
@@ -181,50 +227,48 @@ impl Volume {
         Ok(())
     }
 
-    /// Renews a leader's lease. Answers whether it leads still.
+    /// Gives a leader's sign. Answers whether it leads still.
     pub async fn renew(&self, lead: &Lead, end: Instant) -> Result<bool, EtcdFault> {
-        self.etcd.renew(lead.lease, end).await
+        let sign = Do::Put(self.key("sign"), self.member.clone().into());
+        Ok(self.etcd.transact_soon(&[self.leads(lead)], &[sign], &[], end).await?.was_so)
     }
 
     /// Leads no more.
     pub async fn end(&self, lead: &Lead) {
-        self.resign(lead.lease).await;
-    }
-
-    async fn resign(&self, lease: i64) {
-        // Else it ends by itself.
-        let _ = self.etcd.revoke(lease, Instant::now() + LAST).await;
+        let key = self.key("leader");
+        let behind = format!("{key}\0");
+        // Else others wait for the time of a lease.
+        let _ = self.etcd.transact_soon(&[self.leads(lead)], &[Do::Remove(key, behind)], &[], Instant::now() + LAST).await;
     }
 
     /// Puts the group of a number, all of it. Behind an error nobody says whether it is there.
     pub async fn put(&self, lead: &Lead, number: u64, group: &Group) -> Result<(), ClusterFault> {
         let bytes = group.bytes();
-        let end = Instant::now() + PUT;
         if bytes.len() < PART {
-            return self.put_row(lead, number, Held::Here(&bytes), end).await;
+            return self.put_row(lead, number, Held::Here(&bytes)).await;
         }
         let mut count = 0;
         for part in bytes.chunks(PART) {
-            let put = [Do::Put(self.part(number, count), part.to_vec(), 0)];
-            let done = self.etcd.transact(&[self.leads(lead)], &put, &[], end).await?;
+            let put = [Do::Put(self.part(number, count), part.to_vec())];
+            let done = self.etcd.transact(&[self.leads(lead)], &put, &[], Instant::now() + PUT).await?;
             if !done.was_so {
                 return Err(ClusterFault::Lost);
             }
             count += 1;
         }
-        self.put_row(lead, number, Held::InParts(count), end).await
+        self.put_row(lead, number, Held::InParts(count)).await
     }
 
     fn leads(&self, lead: &Lead) -> If {
-        If::Created(self.key("leader"), lead.revision)
+        If::PutAt(self.key("leader"), lead.revision)
     }
 
-    async fn put_row(&self, lead: &Lead, number: u64, held: Held<'_>, end: Instant) -> Result<(), ClusterFault> {
+    async fn put_row(&self, lead: &Lead, number: u64, held: Held<'_>) -> Result<(), ClusterFault> {
         let (leader, next) = (self.key("leader"), self.key("next"));
         let ifs = [self.leads(lead), If::Is(next.clone(), text_of(number))];
-        let puts = [Do::Put(self.group(number), held.row(), 0), Do::Put(next.clone(), text_of(number + 1), 0)];
-        let done = self.etcd.transact(&ifs, &puts, &[Do::Get(leader), Do::Get(next)], end).await?;
-        let is_own = || first(&done, 0).map_or(false, |row| row.created == lead.revision);
+        let puts = [Do::Put(self.group(number), held.row()), Do::Put(next.clone(), text_of(number + 1))];
+        let done = self.etcd.transact(&ifs, &puts, &[Do::Get(leader), Do::Get(next)], Instant::now() + PUT).await?;
+        let is_own = || first(&done, 0).map_or(false, |row| row.revision == lead.revision);
         // Where this one leads still, nobody else can have put a group: an answer was lost.
         if done.was_so || (is_own() && number_in(&done, 1) == Some(number + 1)) {
             return Ok(());
@@ -248,9 +292,14 @@ pub(super) fn number_of(row: &Row) -> Option<u64> {
     u64::from_str_radix(std::str::from_utf8(&row.value).ok()?.split(' ').next()?, 16).ok()
 }
 
-/// What stands behind a value's first word.
+/// A value's second word.
 pub(super) fn second_word(row: &Row) -> Option<&str> {
-    Some(std::str::from_utf8(&row.value).ok()?.split_once(' ')?.1)
+    std::str::from_utf8(&row.value).ok()?.split(' ').nth(1)
+}
+
+/// The text of an origin.
+fn text_in(value: &[u8]) -> Result<String, ClusterFault> {
+    String::from_utf8(value.to_vec()).map_err(|_| ClusterFault::Unread("the origin"))
 }
 
 /// A number as the value of a key.
