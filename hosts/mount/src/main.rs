@@ -15,6 +15,10 @@ use nix::sys::signal::{SigSet, Signal};
 use nix::sys::signalfd::{SfdFlags, SignalFd};
 use nix::unistd::{setegid, seteuid, Gid, Uid};
 use std::path::PathBuf;
+use std::time::Duration;
+
+/// How long a program's call waits while kfsd isn't there, or doesn't answer.
+const AGAIN: Duration = Duration::from_secs(120);
 
 /// Mounts a desk's tree for one user.
 #[derive(Debug, Parser)]
@@ -76,7 +80,8 @@ fn main() -> Result<()> {
         // kfsd asks the kernel who connects.
         setegid(Gid::from_raw(client.gid))?;
         seteuid(Uid::from_raw(client.uid))?;
-        let desk = Connection::open(path, words.client)?;
+        let mut desk = Connection::open(path, words.client)?;
+        desk.set_again(AGAIN);
         client.grant = desk.grant();
         return run(mounted, ends, client, desk);
     }

@@ -266,10 +266,13 @@ fn read_directory<D: Desk>(volume: &mut Volume<D>, request: &mut Request<'_>, is
         if reply.0.len() + length > most {
             break;
         }
-        // A name that went since the list was made leads nowhere.
         let shape = match volume.shape(number) {
             Ok(shape) => shape,
-            Err(_) => continue,
+            // A name that went since the list was made leads nowhere.
+            Err(Errno::ENOENT) => continue,
+            // Of a name that nobody could be asked about it isn't said that it isn't there. It is asked for again, and told then.
+            Err(_) if !reply.0.is_empty() => break,
+            Err(errno) => return Err(errno),
         };
         if is_plus && matches!(text.as_slice(), b"." | b"..") {
             reply.zeros(128);
