@@ -78,6 +78,12 @@ impl<D: Desk> Volume<D> {
         Volume { session, clocks: Clocks::default(), handles: Handles::default(), owed: None, kept: HashMap::new() }
     }
 
+    /// The server, for tests.
+    #[cfg(test)]
+    pub fn desk(&mut self) -> &mut D {
+        self.session.desk()
+    }
+
     /// What is due now and then. What fails is tried again; who asks next that all is kept is told of calls that are lost.
     pub fn poll(&mut self) {
         if let Err(failure) = self.session.poll() {
@@ -384,7 +390,7 @@ fn named(bytes: &[u8]) -> Result<Name, Errno> {
 #[cfg(test)]
 mod tests {
     use super::*;
-    use kfs_client::desk::{Answer, Unanswered, Wanted, Wish};
+    use kfs_client::desk::{Answer, LeaseRefusal, Unanswered, Wanted, Wish};
     use kfs_client::log::ENTRY_LIMIT;
     use kfs_client::memory::Memory;
     use kfs_client::{Client, Options, Reason, Shown, Unshown};
@@ -510,6 +516,25 @@ mod tests {
         assert_eq!(volume.open(file, 0), Ok(false));
         assert!(volume.read(file, 0, 65_536).unwrap().is_empty());
         assert_eq!(volume.open(file, 0), Ok(true));
+    }
+
+    #[test]
+    fn bytes_that_were_written_under_an_earlier_lease_are_forgotten() {
+        let mut volume = volume();
+        let (file, _) = volume.create(1, b"a", 0o644).unwrap();
+        volume.close_file(file).unwrap();
+        volume.sync().unwrap();
+        assert_eq!(volume.open(file, WRITE_ONLY), Ok(false));
+        volume.write(file, 0, b"abc").unwrap();
+        // The kernel has what it wrote, and a lease has kept others from changing it.
+        assert_eq!(volume.open(file, 0), Ok(true));
+        volume.session.give_up(file).unwrap();
+        assert_eq!(volume.open(file, WRITE_ONLY), Ok(false));
+        volume.write(file, 0, b"def").unwrap();
+        volume.session.give_up(file).unwrap();
+        // Another client may change them now. What is read is told under a new lease, and isn't all that the kernel has.
+        assert_eq!(volume.read(file, 0, 65_536).unwrap(), b"def");
+        assert_eq!(volume.open(file, 0), Ok(false));
     }
 
     #[test]
