@@ -88,10 +88,11 @@ impl Leases {
         Some(lease)
     }
 
-    /// The leases that end within so many moments and were used.
-    pub fn due(&self, within: u64) -> Vec<(u32, LeaseKind)> {
+    /// The leases that end within so many moments, and were used or are needed.
+    pub fn due(&self, within: u64, is_needed: impl Fn(u32) -> bool) -> Vec<(u32, LeaseKind)> {
         let due = self.ending_within(within).filter_map(|number| Some((number, self.rows.get(&number)?)));
-        due.filter(|(_, lease)| lease.is_used.get()).map(|(number, lease)| (number, lease.kind)).collect()
+        let due = due.filter(|(number, lease)| lease.is_used.get() || is_needed(*number));
+        due.map(|(number, lease)| (number, lease.kind)).collect()
     }
 }
 
@@ -123,11 +124,12 @@ mod tests {
         leases.grant(5, LeaseKind::Write, 10);
         leases.grant(6, LeaseKind::Read, 10);
         assert!(leases.holds(5));
-        assert_eq!(leases.due(10), [(5, LeaseKind::Write)]);
-        assert_eq!(leases.due(9), []);
+        assert_eq!(leases.due(10, |_| false), [(5, LeaseKind::Write)]);
+        assert_eq!(leases.due(10, |number| number == 6), [(5, LeaseKind::Write), (6, LeaseKind::Read)]);
+        assert_eq!(leases.due(9, |_| true), []);
         let since = leases.since(5);
         leases.grant(5, LeaseKind::Write, 12);
-        assert_eq!((leases.due(10), leases.since(5)), (vec![], since));
+        assert_eq!((leases.due(10, |_| false), leases.since(5)), (vec![], since));
         assert_eq!(leases.set_moment(11), [6]);
         assert_eq!(leases.since(6), None);
         leases.grant(6, LeaseKind::Read, 12);

@@ -387,14 +387,22 @@ impl<D: Desk> Session<D> {
         }
     }
 
-    /// Gives up what others want, and waits for a while.
+    /// Gives up what others want, has leases renewed, and waits for a while.
     pub(crate) fn wait_a_while(&mut self, pause: &mut Duration) -> Result<(), Failure> {
         self.is_waiting = true;
         let given = self.give_up_wanted();
+        let renewed = self.renew();
         self.is_waiting = false;
         sleep(*pause);
         *pause = (*pause * 2).min(LONGEST_PAUSE);
-        given
+        given?;
+        Ok(renewed?)
+    }
+
+    /// Has the leases renewed that are used, or that the log needs. One that isn't renewed ends at its end.
+    fn renew(&mut self) -> Result<(), Unanswered> {
+        let due = self.leases.due(self.term() / 2, |number| self.draft.needs(number));
+        self.ask_leases(&due)
     }
 
     fn ask_lease(&mut self, number: u32, kind: LeaseKind) -> Result<Result<(), LeaseRefusal>, Unanswered> {
@@ -515,9 +523,7 @@ impl<D: Desk> Session<D> {
         self.pass_time()?;
         self.give_up_wanted()?;
         self.give_up_contended()?;
-        // One that isn't renewed ends at its end.
-        let due = self.leases.due(self.term() / 2);
-        self.ask_leases(&due)?;
+        self.renew()?;
         if self.is_due() {
             self.sync()?;
         }

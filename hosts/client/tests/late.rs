@@ -15,6 +15,8 @@ struct Told {
     /// How many moments pass while leases are asked for.
     passes: u64,
     refusals: VecDeque<LeaseRefusal>,
+    /// A node that another client has, and for how many calls more.
+    held: (u32, usize),
     answers: VecDeque<Answer>,
     asked: Vec<Wanted>,
     dropped: Vec<u32>,
@@ -42,6 +44,10 @@ impl Desk for Told {
     fn lease(&mut self, wanted: &Wanted) -> Result<Result<(), LeaseRefusal>, Unanswered> {
         self.asked.push(wanted.clone());
         self.moment += std::mem::take(&mut self.passes);
+        if wanted.number == self.held.0 && self.held.1 > 0 {
+            self.held.1 -= 1;
+            return Ok(Err(LeaseRefusal::Held(8)));
+        }
         Ok(self.refusals.pop_front().map_or(Ok(()), Err))
     }
 
@@ -80,6 +86,7 @@ fn session(options: Options) -> Session<Told> {
         moment: 0,
         passes: 0,
         refusals: VecDeque::new(),
+        held: (0, 0),
         answers: VecDeque::new(),
         asked: Vec::new(),
         dropped: Vec::new(),
@@ -215,6 +222,27 @@ fn a_log_is_handed_in_before_its_leases_end() {
     mine.desk().refusals = [LeaseRefusal::Wanted].into();
     mine.poll().unwrap();
     assert!(kept(&mut mine, "a").is_some());
+}
+
+#[test]
+fn leases_are_renewed_while_another_one_is_waited_for() {
+    let mut mine = session(Options { linger: Duration::from_secs(3600), term: 100, ..Options::default() });
+    let [one, other] = [&b"/a"[..], b"/b"].map(|path| mine.open(path, Some(0o644)).unwrap());
+    mine.close().unwrap();
+    mine.write(one, 0, b"x").unwrap();
+    mine.desk().asked.clear();
+    mine.desk().passes = 60;
+    mine.desk().held = (other, 3);
+    mine.write(other, 0, b"y").unwrap();
+    let asked: Vec<(u32, u64)> = mine.desk().asked.iter().map(|wanted| (wanted.number, wanted.end)).collect();
+    assert_eq!(asked, [(other, 100), (one, 160), (other, 160), (other, 160), (other, 160)]);
+    // What the log needs is renewed also where nothing has asked for it since.
+    mine.desk().moment = 120;
+    mine.desk().asked.clear();
+    mine.poll().unwrap();
+    assert!(mine.desk().asked.iter().any(|wanted| wanted.number == one && wanted.end == 220));
+    mine.sync().unwrap();
+    assert_eq!((kept(&mut mine, "a").unwrap(), kept(&mut mine, "b").unwrap()), (b"x".to_vec(), b"y".to_vec()));
 }
 
 #[test]

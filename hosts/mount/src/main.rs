@@ -19,6 +19,8 @@ use std::time::Duration;
 
 /// How long a program's call waits while kfsd isn't there, or doesn't answer.
 const AGAIN: Duration = Duration::from_secs(120);
+/// How long it waits for another client's lease: longer than one lives, so that who has vanished is waited for.
+const PATIENCE: Duration = Duration::from_secs(90);
 
 /// Mounts a desk's tree for one user.
 #[derive(Debug, Parser)]
@@ -59,7 +61,8 @@ fn signals() -> Result<SignalFd> {
 
 /// Serves the kernel until it is told to stop.
 fn run(mut mounted: Mounted, mut ends: SignalFd, client: Client, desk: impl Desk) -> Result<()> {
-    let mut volume = Volume::new(Session::new(desk, client, Options::default()));
+    let options = Options { patience: PATIENCE, ..Options::default() };
+    let mut volume = Volume::new(Session::new(desk, client, options));
     println!("mounted");
     let served = serve(&mut mounted.device, &mut ends, &mut volume);
     volume.close().context("the last log isn't kept")?;
