@@ -19,6 +19,8 @@ struct Told {
     held: (u32, usize),
     answers: VecDeque<Answer>,
     asked: Vec<Wanted>,
+    /// How many leases were asked for at once.
+    at_once: Vec<usize>,
     dropped: Vec<u32>,
 }
 
@@ -49,6 +51,11 @@ impl Desk for Told {
             return Ok(Err(LeaseRefusal::Held(8)));
         }
         Ok(self.refusals.pop_front().map_or(Ok(()), Err))
+    }
+
+    fn leases(&mut self, wanted: &[Wanted]) -> Result<Vec<Result<(), LeaseRefusal>>, Unanswered> {
+        self.at_once.push(wanted.len());
+        wanted.iter().map(|one| self.lease(one)).collect()
     }
 
     fn drop_lease(&mut self, number: u32) -> Result<Result<(), LeaseRefusal>, Unanswered> {
@@ -89,6 +96,7 @@ fn session(options: Options) -> Session<Told> {
         held: (0, 0),
         answers: VecDeque::new(),
         asked: Vec::new(),
+        at_once: Vec::new(),
         dropped: Vec::new(),
     };
     Session::new(desk, client(), options)
@@ -149,6 +157,7 @@ fn all_leases_of_a_log_are_asked_for_before_it_is_handed_in_again() {
     let asked: Vec<u32> = mine.desk().asked.iter().map(|wanted| wanted.number).collect();
     assert_eq!(asked, [&[ROOT], &files[..]].concat());
     assert!(!asked.contains(&created));
+    assert_eq!(mine.desk().at_once, [6]);
     assert!(kept(&mut mine, "44").is_some() && kept(&mut mine, "new").is_some());
 }
 
