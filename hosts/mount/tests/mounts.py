@@ -25,6 +25,8 @@ CRATE, OUT, REGISTRY = f"{TOP}/hosts/mount", f"{TOP}/hosts/client/out", "/usr/sh
 # KFS_MOUNT names another build.
 MOUNT = os.environ.get("KFS_MOUNT", f"{OUT}/debug/kfs-mount")
 USER = 1000
+# For how many seconds a process is waited for that ends or begins: the machine may have much other work.
+PATIENT = 300
 SOON = 30
 RANDOM_CALLS, RANDOM_SEED = (int(os.environ.get(name, value)) for name, value in (("RANDOM_CALLS", "10000"), ("RANDOM_SEED", "1")))
 # How many files each user puts into the folder of all, and the seconds between kills, and behind which all is seen by all.
@@ -58,7 +60,7 @@ def mounted_by(*words, uid=USER):
             yield folder, process
         finally:
             process.send_signal(signal.SIGTERM)
-            status = process.wait(SOON)
+            status = process.wait(PATIENT)
             process.stdout.close()
         assert status == 0, status
 
@@ -226,6 +228,7 @@ def three_users(made):
         if not has_look_ups(daemon):
             print("    kfs_serve has no look-ups: left out")
             return
+        daemon.patience = PATIENT
         began, kills = time.monotonic(), 0
         with contextlib.ExitStack() as stack:
             folders = [stack.enter_context(mounted_for(daemon, it)) for it in users]
