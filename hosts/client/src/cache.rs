@@ -9,7 +9,7 @@ use std::collections::{BTreeMap, HashMap};
 
 /// Bytes are asked for and kept in blocks of so many.
 const BLOCK: u64 = 65_536;
-/// The most blocks that are kept. Where there would be more, all go.
+/// The most blocks that are kept. Where there would be more, those that were there go.
 const BLOCKS: usize = 256;
 /// How many blocks are asked for at once, where one is read behind another.
 const RUN: u64 = 8;
@@ -57,13 +57,19 @@ impl Cache {
         }
     }
 
-    fn keep_block(&mut self, number: u32, index: u64, bytes: Vec<u8>) {
-        if self.block_count == BLOCKS {
+    /// Keeps the blocks of a file that begin with this one. There is at least one: the last of a file may be short, or empty.
+    fn keep_blocks(&mut self, number: u32, index: u64, bytes: &[u8]) {
+        let new: Vec<Vec<u8>> = bytes.chunks(BLOCK as usize).map(<[u8]>::to_vec).collect();
+        // None of the new ones goes: who asked for them is answered by them.
+        if self.block_count + new.len().max(1) > BLOCKS {
             self.blocks.clear();
             self.block_count = 0;
         }
-        let is_new = self.blocks.entry(number).or_default().insert(index, bytes).is_none();
-        self.block_count += usize::from(is_new);
+        let blocks = self.blocks.entry(number).or_default();
+        let before = blocks.len();
+        blocks.insert(index, Vec::new());
+        blocks.extend((index..).zip(new));
+        self.block_count += blocks.len() - before;
     }
 }
 
@@ -86,11 +92,7 @@ impl Cached<'_> {
                 index > 0 && self.cache.blocks.get(&number).map_or(false, |blocks| blocks.contains_key(&(index - 1)));
             let count = if is_behind { RUN } else { 1 };
             let bytes = self.shown.read(number, index * BLOCK, (count * BLOCK) as usize)?;
-            // The last one may be short, or empty.
-            self.cache.keep_block(number, index, Vec::new());
-            for (at, block) in (index..).zip(bytes.chunks(BLOCK as usize)) {
-                self.cache.keep_block(number, at, block.to_vec());
-            }
+            self.cache.keep_blocks(number, index, &bytes);
         }
         Ok(self.cache.blocks.get(&number).and_then(|blocks| blocks.get(&index)).map_or(&[], Vec::as_slice))
     }
@@ -158,5 +160,58 @@ impl Shown for Cached<'_> {
             }
         }
         Ok(bytes)
+    }
+}
+
+#[cfg(test)]
+mod tests {
+    use super::*;
+    use crate::desk::LeaseKind;
+
+    /// Files of so many bytes, each byte of which tells in which file and block it stands.
+    struct Files(u64);
+
+    fn byte_of(number: u32, at: u64) -> u8 {
+        (u64::from(number) * 31 + at / BLOCK) as u8
+    }
+
+    impl Shown for Files {
+        fn header(&mut self, _number: u32) -> Result<Option<Header>, Unshown> {
+            Ok(None)
+        }
+
+        fn find(&mut self, _directory: u32, _name: &Name) -> Result<Option<u32>, Unshown> {
+            Ok(None)
+        }
+
+        fn list(&mut self, _: u32, _behind: Option<&Name>, _most: usize) -> Result<Vec<(Name, u32)>, Unshown> {
+            Ok(Vec::new())
+        }
+
+        fn read(&mut self, number: u32, start: u64, most: usize) -> Result<Vec<u8>, Unshown> {
+            let (mut bytes, end) = (Vec::new(), self.0.min(start + most as u64));
+            while start + (bytes.len() as u64) < end {
+                let at = start + bytes.len() as u64;
+                let until = end.min((at / BLOCK + 1) * BLOCK);
+                bytes.resize(bytes.len() + (until - at) as usize, byte_of(number, at));
+            }
+            Ok(bytes)
+        }
+    }
+
+    #[test]
+    fn a_read_is_whole_also_where_there_are_too_many_blocks() {
+        let (mut files, mut cache, mut leases) = (Files(29 * BLOCK - 100), Cache::default(), Leases::default());
+        let step = 2 * BLOCK as usize;
+        for number in 2..14 {
+            leases.grant(number, LeaseKind::Read, 100);
+            for at in (0..files.0).step_by(step) {
+                let mut cached = Cached { shown: &mut files, cache: &mut cache, leases: &leases };
+                let found = cached.read(number, at, step).unwrap();
+                assert!(found == files.read(number, at, step).unwrap(), "file {number} at {at}: {} bytes", found.len());
+            }
+            assert!(cache.block_count <= BLOCKS);
+            assert_eq!(cache.block_count, cache.blocks.values().map(BTreeMap::len).sum::<usize>());
+        }
     }
 }

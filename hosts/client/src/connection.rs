@@ -3,7 +3,7 @@
 //! What kfsd tells besides is asked for at the connection: the moment, calls that are numbered, so that none is made twice, and
 //! which leases others want. An older one tells none of it, and an older server has no look-ups.
 
-use crate::desk::{Answer, Blocks, Desk, LeaseKind, LeaseRefusal, RowPart, Unanswered, Wanted, Wish, Wrong};
+use crate::desk::{Answer, Blocks, Desk, LeaseRefusal, RowPart, Unanswered, Wanted, Wish, Wrong};
 use crate::entry::Kind;
 use crate::fault::Reason;
 use crate::name::Name;
@@ -27,7 +27,7 @@ const HELLO: u8 = 0xf0;
 const MOMENT: u8 = 0xf1;
 /// The tag before a number and a call that is made once under it.
 const NUMBERED: u8 = 0xf2;
-/// How long a submission of which nobody knows how it ended is handed in again, and after which pause.
+/// How long what isn't answered is asked again, where nothing else is said, and after which pause.
 const AGAIN: Duration = Duration::from_secs(30);
 const PAUSE: Duration = Duration::from_millis(50);
 /// The look-ups of a node's header, of a name, of names, of bytes, and of the places of the tiers.
@@ -48,6 +48,11 @@ const FOUND_LIMIT: usize = 65_536;
 const NAME_ROOM: usize = 260;
 /// How many look-ups for bytes are under way at once.
 const AT_ONCE: usize = 8;
+/// How many calls for leases are. kfsd takes 64 frames of a connection.
+const LEASES_AT_ONCE: usize = 32;
+/// The tags of calls for a lease.
+const LEASE_BY_PATH: u8 = 2;
+const LEASE_BY_NUMBER: u8 = 6;
 /// The tags of replies.
 const ANSWERED: u8 = 1;
 const REFUSED: u8 = 2;
@@ -136,7 +141,8 @@ fn reply_of(said: &[u8]) -> Option<Reply> {
 #[derive(Clone, Copy, Debug)]
 struct Clock {
     moment: u64,
-    told_at: Instant,
+    /// Before the question: the answer may have been under way for long, and kfsd's clock has gone on since it was given.
+    asked_at: Instant,
     /// For how long a lease may live at most.
     longest: u64,
 }
@@ -154,6 +160,8 @@ pub struct Connection {
     /// The number of the next numbered call. Its upper half is random, so that other processes of the user have others.
     next_call: u64,
     wants: Option<Wants>,
+    /// How long what isn't answered is asked again.
+    again: Duration,
 }
 
 impl Connection {
@@ -169,6 +177,7 @@ impl Connection {
             clock: None,
             next_call: random & !u64::from(u32::MAX),
             wants: None,
+            again: AGAIN,
         };
         connection.grant = connection.hello()?;
         Ok(connection)
@@ -182,6 +191,11 @@ impl Connection {
     /// The first and the last number that the client may give to new nodes.
     pub fn grant(&self) -> [u32; 2] {
         self.grant
+    }
+
+    /// What isn't answered is asked again for so long, where that does no harm: 30 seconds, unless it is set.
+    pub fn set_again(&mut self, again: Duration) {
+        self.again = again;
     }
 
     /// Closes the connection. The next call connects anew.
@@ -199,8 +213,9 @@ impl Connection {
             Some(Reply::Refused(136)) => return Err(Unconnected::NoClient),
             _ => return Err(Unconnected::Nonsense),
         };
+        let asked_at = Instant::now();
         self.clock = match exchange(&mut stream, self.number, self.client, &[MOMENT])? {
-            Some(Reply::Moment(moment, longest)) => Some(Clock { moment, told_at: Instant::now(), longest }),
+            Some(Reply::Moment(moment, longest)) => Some(Clock { moment, asked_at, longest }),
             _ => None,
         };
         self.wants = match self.clock {
@@ -253,7 +268,7 @@ impl Connection {
 
     /// The same of what may be asked twice: again and again, where the server or the connection has ended meanwhile.
     fn ask_again(&mut self, body: &[u8]) -> Result<Reply, Unshown> {
-        let until = Instant::now() + AGAIN;
+        let until = Instant::now() + self.again;
         loop {
             match self.ask(body) {
                 Ok(Reply::Refused(128)) | Err(Unshown::Gone(_)) if Instant::now() < until => sleep(PAUSE),
@@ -277,7 +292,7 @@ impl Connection {
         let mut numbered = vec![NUMBERED];
         numbered.extend_from_slice(&self.next_call.to_be_bytes());
         numbered.extend_from_slice(body);
-        let until = Instant::now() + AGAIN;
+        let until = Instant::now() + self.again;
         loop {
             match self.call(&numbered) {
                 Err(Unanswered::Unknown | Unanswered::Gone(Unshown::Gone(_))) if Instant::now() < until => sleep(PAUSE),
@@ -292,11 +307,7 @@ impl Connection {
             Told::TooFar => Ok(Err(LeaseRefusal::TooFar)),
             Told::Wanted => Ok(Err(LeaseRefusal::Wanted)),
             Told::Leased(found) if found == number => Ok(Ok(())),
-            Told::Leased(found) => {
-                // The path leads to another node by now.
-                let _none_held = self.drop_lease(found)?;
-                Ok(Err(LeaseRefusal::NoSuchNode))
-            }
+            Told::Leased(found) => Ok(Err(LeaseRefusal::Elsewhere(found))),
             Told::Unleased(refusal) => Ok(Err(refusal)),
             Told::Of(_) => Err(nonsense(body).into()),
         }
@@ -495,6 +506,30 @@ fn found_in(reply: Reply) -> Result<Option<Vec<u8>>, Unshown> {
     }
 }
 
+/// The first fields of a call for a lease, by path or by number.
+fn lease_head(tag: u8, client: u32, wanted: &Wanted) -> Vec<u8> {
+    let mut body = vec![tag];
+    body.extend_from_slice(&client.to_be_bytes());
+    body.push(wanted.kind as u8);
+    body.extend_from_slice(&wanted.end.to_be_bytes());
+    body
+}
+
+/// The body that asks for a lease by number.
+fn lease_body(client: u32, wanted: &Wanted) -> Vec<u8> {
+    let mut body = lease_head(LEASE_BY_NUMBER, client, wanted);
+    body.extend_from_slice(&wanted.number.to_be_bytes());
+    body
+}
+
+/// The body that gives a lease up.
+fn drop_body(client: u32, number: u32) -> Vec<u8> {
+    let mut body = vec![3];
+    body.extend_from_slice(&client.to_be_bytes());
+    body.extend_from_slice(&number.to_be_bytes());
+    body
+}
+
 /// The body that reads so many bytes, so many look-ups behind a place.
 fn read_body(number: u32, from: u64, look_ups: u64, count: usize) -> Vec<u8> {
     let mut body = look_up_body(READ, number);
@@ -596,31 +631,48 @@ impl Shown for Connection {
 impl Desk for Connection {
     /// By number, and where that isn't permitted by path, which asks for no permission on the node itself.
     fn lease(&mut self, wanted: &Wanted) -> Result<Result<(), LeaseRefusal>, Unanswered> {
-        let Wanted { number, path, kind, end } = wanted;
-        let head = |tag: u8, client: u32, kind: LeaseKind| {
-            let mut body = vec![tag];
-            body.extend_from_slice(&client.to_be_bytes());
-            body.push(kind as u8);
-            body.extend_from_slice(&end.to_be_bytes());
-            body
-        };
-        let mut body = head(6, self.client, *kind);
-        body.extend_from_slice(&number.to_be_bytes());
-        let answer = self.call_for_lease(&body, *number)?;
-        let path = match (answer, path) {
+        let answer = self.call_for_lease(&lease_body(self.client, wanted), wanted.number)?;
+        let path = match (answer, &wanted.path) {
             (Err(LeaseRefusal::NotAllowed), Some(path)) if path.len() <= usize::from(u16::MAX) => path,
             _ => return Ok(answer),
         };
-        let mut body = head(2, self.client, *kind);
+        let mut body = lease_head(LEASE_BY_PATH, self.client, wanted);
         body.extend_from_slice(&(path.len() as u16).to_be_bytes());
         body.extend_from_slice(path);
-        self.call_for_lease(&body, *number)
+        self.call_for_lease(&body, wanted.number)
+    }
+
+    /// They are asked for one behind another, without waiting. What isn't granted so is asked for singly.
+    fn leases(&mut self, wanted: &[Wanted]) -> Result<Vec<Result<(), LeaseRefusal>>, Unanswered> {
+        let mut answers = Vec::with_capacity(wanted.len());
+        for some in wanted.chunks(LEASES_AT_ONCE) {
+            let bodies: Vec<_> = some.iter().map(|one| lease_body(self.client, one)).collect();
+            let mut replies = self.ask_all(&bodies).unwrap_or_default().into_iter();
+            for one in some {
+                let is_granted =
+                    matches!(replies.next(), Some(Reply::Answered(bytes)) if told_of(&bytes) == Some(Told::Leased(one.number)));
+                answers.push(if is_granted { Ok(()) } else { self.lease(one)? });
+            }
+        }
+        Ok(answers)
+    }
+
+    /// They are given up one behind another, without waiting. What isn't answered so is given up singly.
+    fn drop_leases(&mut self, numbers: &[u32]) -> Result<(), Unanswered> {
+        for some in numbers.chunks(LEASES_AT_ONCE) {
+            let bodies: Vec<_> = some.iter().map(|number| drop_body(self.client, *number)).collect();
+            let mut replies = self.ask_all(&bodies).unwrap_or_default().into_iter();
+            for number in some {
+                if !matches!(replies.next(), Some(Reply::Answered(_))) {
+                    let _none_held = self.drop_lease(*number)?;
+                }
+            }
+        }
+        Ok(())
     }
 
     fn drop_lease(&mut self, number: u32) -> Result<Result<(), LeaseRefusal>, Unanswered> {
-        let mut body = vec![3];
-        body.extend_from_slice(&self.client.to_be_bytes());
-        body.extend_from_slice(&number.to_be_bytes());
+        let body = drop_body(self.client, number);
         let reply = self.ask_again(&body)?;
         match answer_in(reply, &body)? {
             Told::Leased(_) => Ok(Ok(())),
@@ -643,9 +695,10 @@ impl Desk for Connection {
         }
     }
 
-    /// A second of kfsd's clock, and at most two later than that; 0 where it tells none.
+    /// A second of kfsd's clock, or a later one: later by at most two, and the time that kfsd took to tell it. 0 where it tells
+    /// none.
     fn moment(&mut self) -> Result<u64, Unanswered> {
-        Ok(self.clock.map_or(0, |clock| clock.moment + clock.told_at.elapsed().as_secs() + 1))
+        Ok(self.clock.map_or(0, |clock| clock.moment + clock.asked_at.elapsed().as_secs() + 1))
     }
 
     /// Those of the first tier. Logs are written there alone.
@@ -671,11 +724,15 @@ impl Desk for Connection {
         }
     }
 
+    /// Where the connection has ended, so that nobody would be told any more, there is a new one as soon as kfsd takes it.
     fn wanted_by_others(&mut self) -> Result<Vec<Wish>, Unanswered> {
-        match &mut self.wants {
-            Some(wants) => Ok(wants.told()?),
-            None => Ok(Vec::new()),
-        }
+        let Connection { wants, path, .. } = self;
+        Ok(wants.as_mut().map_or_else(Vec::new, |wants| {
+            let told = wants.told();
+            // Where there is no kfsd now, this is asked again.
+            let _no_kfsd = wants.ask_again(path);
+            told
+        }))
     }
 }
 

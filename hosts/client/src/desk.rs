@@ -33,9 +33,12 @@ pub enum LeaseRefusal {
     /// The desk doesn't know the client.
     #[error("the server doesn't know this client")]
     UnknownClient,
-    /// Nothing is there, or the path leads to another node by now.
+    /// Nothing is there.
     #[error("no such node")]
     NoSuchNode,
+    /// The path leads to this other node by now, on which the client has got the lease.
+    #[error("its path leads to node {0}")]
+    Elsewhere(u32),
     /// The client has no permission on the node, and may not search its path.
     #[error("no permission")]
     NotAllowed,
@@ -57,11 +60,16 @@ pub enum LeaseRefusal {
 }
 
 impl LeaseRefusal {
+    /// Whether the same lease may be granted a while later, though nothing changes but what others hold and the moment.
+    pub fn may_pass(self) -> bool {
+        matches!(self, LeaseRefusal::Held(_) | LeaseRefusal::Wanted | LeaseRefusal::TooFar | LeaseRefusal::Past)
+    }
+
     /// The number that POSIX has for it.
     pub fn errno(self) -> Errno {
         match self {
             LeaseRefusal::UnknownClient => Errno::EPERM,
-            LeaseRefusal::NoSuchNode => Errno::ENOENT,
+            LeaseRefusal::NoSuchNode | LeaseRefusal::Elsewhere(_) => Errno::ENOENT,
             LeaseRefusal::NotAllowed => Errno::EACCES,
             LeaseRefusal::TooFar => Errno::EINVAL,
             LeaseRefusal::Past | LeaseRefusal::Held(_) | LeaseRefusal::Wanted | LeaseRefusal::NoneHeld => Errno::EAGAIN,
@@ -175,8 +183,18 @@ pub trait Desk: Shown {
     /// Asks for a lease, or for a later end of one.
     fn lease(&mut self, wanted: &Wanted) -> Result<Result<(), LeaseRefusal>, Unanswered>;
 
+    /// Asks for some leases, at once where the server lets one. Each is answered as by `lease`.
+    fn leases(&mut self, wanted: &[Wanted]) -> Result<Vec<Result<(), LeaseRefusal>>, Unanswered> {
+        wanted.iter().map(|one| self.lease(one)).collect()
+    }
+
     /// Gives a lease up.
     fn drop_lease(&mut self, number: u32) -> Result<Result<(), LeaseRefusal>, Unanswered>;
+
+    /// Gives some leases up, at once where the server lets one. Whether there was one on each isn't told.
+    fn drop_leases(&mut self, numbers: &[u32]) -> Result<(), Unanswered> {
+        numbers.iter().try_for_each(|number| self.drop_lease(*number).map(|_| ()))
+    }
 
     /// Hands a log in, with its plan.
     fn submit(&mut self, log: &[u8], plan: &[u8]) -> Result<Answer, Unanswered>;

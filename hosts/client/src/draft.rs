@@ -29,6 +29,8 @@ pub struct Draft {
     names: BTreeMap<u32, BTreeMap<Name, Change<Option<u32>>>>,
     files: BTreeMap<u32, FileBytes>,
     created: BTreeSet<u32>,
+    /// The nodes whose names were moved.
+    moved: BTreeSet<u32>,
     paths: Paths,
     /// The number that is tried first for the next new node.
     next: u32,
@@ -49,6 +51,7 @@ impl Draft {
             names: BTreeMap::new(),
             files: BTreeMap::new(),
             created: BTreeSet::new(),
+            moved: BTreeSet::new(),
             paths: Paths::default(),
             next,
             free: BTreeSet::new(),
@@ -56,8 +59,15 @@ impl Draft {
         }
     }
 
-    /// Begins the next log. Numbers go on behind those given so far.
+    /// This log was done: begins the next one. Numbers go on behind those given so far.
     pub fn clear(&mut self) {
+        self.paths.land();
+        self.begin_anew();
+    }
+
+    /// Begins another log in place of this one, which wasn't done.
+    pub(crate) fn begin_anew(&mut self) {
+        self.paths.forget_log();
         let client = self.client.clone();
         let (paths, free, next) = (std::mem::take(&mut self.paths), std::mem::take(&mut self.free), self.next);
         *self = Draft { paths, free, next, ..Draft::new(client) };
@@ -93,6 +103,19 @@ impl Draft {
         self.nodes.keys().chain(self.files.keys()).chain(self.names.keys()).copied().collect()
     }
 
+    /// The nodes on which this log needs leases.
+    pub(crate) fn needed(&self) -> BTreeSet<u32> {
+        let all = self.changed().into_iter().chain(self.moved.iter().copied());
+        all.filter(|number| !self.has_created(*number)).collect()
+    }
+
+    /// Whether this log needs a lease on a node.
+    pub(crate) fn needs(&self, number: u32) -> bool {
+        let is_changed = self.nodes.contains_key(&number) || self.files.contains_key(&number);
+        let is_leant_on = is_changed || self.names.contains_key(&number) || self.moved.contains(&number);
+        is_leant_on && !self.has_created(number)
+    }
+
     /// The nodes that were there before this log, and have gone with it.
     pub(crate) fn gone(&self) -> Vec<u32> {
         let gone = self.nodes.iter().filter(|(_, change)| change.before.is_some() && change.now.is_none());
@@ -111,15 +134,15 @@ impl Draft {
 
     /// Where a name leads.
     pub fn find(&mut self, shown: &mut dyn Shown, directory: u32, name: &Name) -> Result<Option<u32>, Unshown> {
-        let changed = self.names.get(&directory).and_then(|names| names.get(name));
-        let found = match changed {
-            Some(change) => change.now,
-            None if self.has_created(directory) => None,
-            None => shown.find(directory, name)?,
-        };
-        if let Some(number) = found {
-            self.paths.see(directory, name, number);
+        if let Some(change) = self.names.get(&directory).and_then(|names| names.get(name)) {
+            change.now.into_iter().for_each(|number| self.paths.name(directory, name, number));
+            return Ok(change.now);
         }
+        if self.has_created(directory) {
+            return Ok(None);
+        }
+        let found = shown.find(directory, name)?;
+        found.into_iter().for_each(|number| self.paths.see(directory, name, number));
         Ok(found)
     }
 
@@ -147,8 +170,12 @@ impl Draft {
             behind = last;
         }
         found.truncate(most);
+        let changed = self.names.get(&directory);
         for (name, number) in &found {
-            self.paths.see(directory, name, *number);
+            match changed.map_or(false, |names| names.contains_key(name)) {
+                true => self.paths.name(directory, name, *number),
+                false => self.paths.see(directory, name, *number),
+            }
         }
         Ok(found)
     }
@@ -301,6 +328,7 @@ impl Draft {
             }
             Effect::Moved(moved, there) => {
                 if let Entry::Rename { directory, name, new_directory, new_name } = entry {
+                    self.moved.insert(moved.number);
                     self.set_name(*directory, name, Some(moved.number), None);
                     let replaced = there.map(|found| found.number);
                     self.set_name(*new_directory, new_name, replaced, Some(moved.number));
@@ -361,9 +389,8 @@ impl Draft {
     fn set_name(&mut self, directory: u32, name: &Name, old: Option<u32>, now: Option<u32>) {
         let names = self.names.entry(directory).or_default();
         names.entry(name.clone()).or_insert(Change { before: old, now }).now = now;
-        if let Some(number) = now {
-            self.paths.see(directory, name, number);
-        }
+        old.into_iter().for_each(|number| self.paths.lose(directory, name, number));
+        now.into_iter().for_each(|number| self.paths.name(directory, name, number));
     }
 
     /// The node has a name less. It goes with its last one.

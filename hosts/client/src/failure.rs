@@ -58,6 +58,15 @@ pub enum HandInFault {
 }
 
 impl HandInFault {
+    /// Whether the same log may be done a while later: nothing is lost, and leases were lacking alone.
+    pub fn may_pass(&self) -> bool {
+        match self {
+            HandInFault::Lease(_, refusal) => refusal.may_pass(),
+            HandInFault::Refused { said: Answer::Entry(_, Reason::NoLease(_)), lost, .. } => lost.is_empty(),
+            _ => false,
+        }
+    }
+
     /// The number that POSIX has for it, for fsync().
     pub fn errno(&self) -> Errno {
         match self {

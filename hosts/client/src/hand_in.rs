@@ -5,8 +5,9 @@ use crate::draft::Draft;
 use crate::entry::Entry;
 use crate::failure::{Failure, HandInFault, Lost};
 use crate::fault::{Fault, Reason};
-use crate::session::Session;
+use crate::session::{Session, FIRST_PAUSE};
 use std::ops::RangeInclusive;
+use std::time::Instant;
 
 /// How often a log is handed in, where it looks as if it could be done.
 const TIMES: u32 = 3;
@@ -47,6 +48,25 @@ impl<D: Desk> Session<D> {
         }
     }
 
+    /// Hands the log in as by `sync`. Where a lease that it needs isn't to be had now, this waits for it, at most for `patience`,
+    /// and gives up meanwhile what others want.
+    pub fn sync_patiently(&mut self) -> Result<(), HandInFault> {
+        let until = Instant::now() + self.options.patience;
+        let mut pause = FIRST_PAUSE;
+        loop {
+            match self.sync() {
+                Err(fault) if fault.may_pass() && !self.is_waiting && Instant::now() < until => {}
+                ended => return ended,
+            }
+            match self.wait_a_while(&mut pause) {
+                Err(Failure::HandIn(fault)) if !fault.may_pass() => return Err(fault),
+                Err(Failure::Unanswered(fault)) => return Err(fault.into()),
+                // What isn't given up now ends by its end.
+                _ => {}
+            }
+        }
+    }
+
     /// Hands the log in once. A log that changes nothing needn't be.
     fn hand_in(&mut self) -> Result<Answer, Unanswered> {
         let plan = self.draft.plan();
@@ -80,14 +100,18 @@ impl<D: Desk> Session<D> {
     /// for: what is given up meanwhile would hand in a log that isn't whole.
     fn make_anew(&mut self, said: Answer, is_again: bool) -> Result<Vec<Lost>, HandInFault> {
         self.cache.clear();
-        if let Answer::Entry(_, Reason::NoLease(number)) = said {
-            // Others may have ended, too.
-            self.draft.changed().into_iter().chain([number]).for_each(|number| self.leases.forget(number));
+        if let Answer::Entry(_, Reason::NoLease(_)) = said {
+            // Others may have ended, too. What isn't granted now is found out at its entry.
+            let needed: Vec<_> = self.draft.needed().into_iter().map(|number| (number, LeaseKind::Write)).collect();
+            self.leases.forget_all();
+            self.ask_leases(&needed)?;
         }
         let (old, calls) = (self.draft.clone(), std::mem::take(&mut self.calls));
-        self.draft.clear();
+        self.draft.begin_anew();
         let was_waiting = std::mem::replace(&mut self.is_waiting, true);
         let left_out = match said {
+            // A lease may have ended again.
+            Answer::Entry(_, Reason::NoLease(_)) => None,
             Answer::Entry(index, reason) if is_again => Some((index, reason)),
             _ => None,
         };
@@ -132,14 +156,15 @@ impl<D: Desk> Session<D> {
             };
             match self.take_lease(number, LeaseKind::Write) {
                 Ok(()) => {}
-                Err(Failure::Lease(number, refusal @ LeaseRefusal::Held(_))) => {
+                Err(Failure::Lease(number, refusal)) if refusal.may_pass() => {
                     return Err(HandInFault::Lease(number, refusal));
                 }
                 Err(Failure::Unanswered(fault)) => return Err(fault.into()),
                 Err(_) => return Ok(Err(Fault::Refused(Reason::NoLease(number)))),
             }
         }
-        Ok(Err(Fault::Refused(Reason::NoLease(entry.number()))))
+        // They end as fast as they come: nothing is lost by that.
+        Err(HandInFault::Lease(entry.number(), LeaseRefusal::Past))
     }
 }
 

@@ -28,11 +28,11 @@ pub struct Leases {
 }
 
 impl Leases {
-    /// It is this moment now, or a later one. Those that have ended are gone: their nodes are told.
+    /// It is this moment now. Those that have ended are gone: their nodes are told. Where the server was killed its moment may be
+    /// an earlier one than before: by that one leases end from now on.
     pub fn set_moment(&mut self, moment: u64) -> Vec<u32> {
-        self.moment = self.moment.max(moment);
-        let now = self.moment;
-        let ended: Vec<u32> = self.ends.iter().take_while(|(end, _)| *end <= now).map(|(_, number)| *number).collect();
+        self.moment = moment;
+        let ended: Vec<u32> = self.ending_within(0).collect();
         ended.iter().for_each(|number| self.forget(*number));
         ended
     }
@@ -53,6 +53,18 @@ impl Leases {
         if let Some(lease) = self.rows.remove(&number) {
             self.ends.remove(&(lease.end, number));
         }
+    }
+
+    /// None is believed any more.
+    pub fn forget_all(&mut self) {
+        self.rows.clear();
+        self.ends.clear();
+    }
+
+    /// The nodes whose leases end within so many moments.
+    pub fn ending_within(&self, moments: u64) -> impl Iterator<Item = u32> + '_ {
+        let until = self.moment.saturating_add(moments);
+        self.ends.iter().take_while(move |(end, _)| *end <= until).map(|(_, number)| *number)
     }
 
     /// Whether a lease of any kind is live on the node: then nobody else changes it.
@@ -76,12 +88,11 @@ impl Leases {
         Some(lease)
     }
 
-    /// The leases that end within so many moments and were used.
-    pub fn due(&self, within: u64) -> Vec<(u32, LeaseKind)> {
-        let until = self.moment.saturating_add(within);
-        let ends = self.ends.iter().take_while(|(end, _)| *end <= until);
-        let due = ends.filter_map(|(_, number)| Some((*number, self.rows.get(number)?)));
-        due.filter(|(_, lease)| lease.is_used.get()).map(|(number, lease)| (number, lease.kind)).collect()
+    /// The leases that end within so many moments, and were used or are needed.
+    pub fn due(&self, within: u64, is_needed: impl Fn(u32) -> bool) -> Vec<(u32, LeaseKind)> {
+        let due = self.ending_within(within).filter_map(|number| Some((number, self.rows.get(&number)?)));
+        let due = due.filter(|(number, lease)| lease.is_used.get() || is_needed(*number));
+        due.map(|(number, lease)| (number, lease.kind)).collect()
     }
 }
 
@@ -113,11 +124,12 @@ mod tests {
         leases.grant(5, LeaseKind::Write, 10);
         leases.grant(6, LeaseKind::Read, 10);
         assert!(leases.holds(5));
-        assert_eq!(leases.due(10), [(5, LeaseKind::Write)]);
-        assert_eq!(leases.due(9), []);
+        assert_eq!(leases.due(10, |_| false), [(5, LeaseKind::Write)]);
+        assert_eq!(leases.due(10, |number| number == 6), [(5, LeaseKind::Write), (6, LeaseKind::Read)]);
+        assert_eq!(leases.due(9, |_| true), []);
         let since = leases.since(5);
         leases.grant(5, LeaseKind::Write, 12);
-        assert_eq!((leases.due(10), leases.since(5)), (vec![], since));
+        assert_eq!((leases.due(10, |_| false), leases.since(5)), (vec![], since));
         assert_eq!(leases.set_moment(11), [6]);
         assert_eq!(leases.since(6), None);
         leases.grant(6, LeaseKind::Read, 12);

@@ -144,10 +144,8 @@ impl Program {
         match words[..] {
             [_, "leased" | "dropped", found] if found == number.to_string() => Ok(Ok(())),
             [_, "leased", other] => {
-                // The path leads to another node.
-                let line = format!("drop {} {other}", self.client);
-                self.ask(&line)?;
-                Ok(Err(LeaseRefusal::NoSuchNode))
+                let other = other.parse().map_err(|_| nonsense(&reply))?;
+                Ok(Err(LeaseRefusal::Elsewhere(other)))
             }
             [_, "refused", name] => lease_refusal(name).map(Err).ok_or_else(|| nonsense(&reply).into()),
             ["full" | "memory"] => Err(Unanswered::NoMemory),

@@ -16,12 +16,15 @@ use std::ops::RangeInclusive;
 use std::thread::sleep;
 use std::time::{Duration, Instant};
 
-/// How often an entry is tried. Each time but the last one more lease was lacking, or the log was full.
+/// How often an entry is tried at least. Each time but the last one more lease was lacking, or the log was full. While a lease is
+/// waited for others may go, so behind that it is tried for as long as one waits.
 const ATTEMPTS: usize = 12;
 /// A read of so many bytes is worth a lease at once.
 const LONG_READ: usize = 65_536;
+/// How many leases are asked for at once.
+const TOGETHER: usize = 256;
 /// How long the first and each later pause is, where another client has the lease.
-const FIRST_PAUSE: Duration = Duration::from_millis(1);
+pub(crate) const FIRST_PAUSE: Duration = Duration::from_millis(1);
 const LONGEST_PAUSE: Duration = Duration::from_millis(50);
 /// How long a lease that was given up isn't asked for again: longer than a pause of who wants it.
 const COURTESY: Duration = Duration::from_millis(100);
@@ -191,7 +194,7 @@ impl<D: Desk> Session<D> {
         };
         match again(self) {
             Err(Unshown::NotAllowed) if !self.draft.log().is_empty() => {
-                self.sync()?;
+                self.sync_patiently()?;
                 Ok(again(self)?)
             }
             found => Ok(found?),
@@ -233,7 +236,9 @@ impl<D: Desk> Session<D> {
         *count = count.saturating_add(more);
         if *count >= most {
             self.reads.remove(&number);
-            let _refused = self.ask_lease(number, LeaseKind::Read)?;
+            // One for reading would take the place of one that the log needs, and that may be live at the server still.
+            let kind = if self.draft.needs(number) { LeaseKind::Write } else { LeaseKind::Read };
+            let _refused = self.ask_lease(number, kind)?;
         }
         Ok(())
     }
@@ -310,7 +315,7 @@ impl<D: Desk> Session<D> {
     fn begin_call(&mut self) -> Result<(), Failure> {
         self.call += 1;
         if self.is_uncertain {
-            self.sync()?;
+            self.sync_patiently()?;
         }
         Ok(())
     }
@@ -322,16 +327,20 @@ impl<D: Desk> Session<D> {
 
     /// Takes an entry into the log. Leases that are lacking are taken, and a full log is handed in before.
     fn enter(&mut self, entry: &Entry) -> Result<(), Failure> {
-        for _ in 0..ATTEMPTS {
+        let until = Instant::now() + self.options.patience;
+        for attempt in 1.. {
             match self.try_enter(entry) {
                 Ok(()) => {
                     self.calls.push(self.call..=self.call);
                     return Ok(());
                 }
                 Err(Fault::Refused(Reason::NoLease(number))) => self.take_lease(number, LeaseKind::Write)?,
-                Err(Fault::Full(_)) => self.sync()?,
-                Err(Fault::Unshown(Unshown::NotAllowed)) if !self.draft.log().is_empty() => self.sync()?,
+                Err(Fault::Full(_)) => self.sync_patiently()?,
+                Err(Fault::Unshown(Unshown::NotAllowed)) if !self.draft.log().is_empty() => self.sync_patiently()?,
                 Err(fault) => return Err(Failure::of(fault, entry)),
+            }
+            if attempt >= ATTEMPTS && Instant::now() >= until {
+                break;
             }
         }
         Err(Failure::Lease(entry.number(), LeaseRefusal::Past))
@@ -365,35 +374,85 @@ impl<D: Desk> Session<D> {
                 Ok(()) => return Ok(()),
                 Err(refusal) => refusal,
             };
-            // The server knows a path from before this log.
-            let is_moved = matches!(refusal, LeaseRefusal::NotAllowed | LeaseRefusal::NoSuchNode);
-            if is_moved && !self.is_waiting && !self.draft.log().is_empty() {
-                self.sync()?;
+            // The log may have changed what the server asks of a path, or of the node.
+            let is_changed = !refusal.may_pass() && !self.draft.log().is_empty();
+            if is_changed && !self.is_waiting {
+                self.sync_patiently()?;
                 continue;
             }
-            let may_wait = matches!(refusal, LeaseRefusal::Held(_)) && !self.is_waiting && Instant::now() < until;
-            if !may_wait {
+            if !refusal.may_pass() || self.is_waiting || Instant::now() >= until {
                 return Err(Failure::Lease(number, refusal));
             }
-            self.is_waiting = true;
-            let given = self.give_up_wanted();
-            self.is_waiting = false;
-            given?;
-            sleep(pause);
-            pause = (pause * 2).min(LONGEST_PAUSE);
+            self.wait_a_while(&mut pause)?;
         }
     }
 
+    /// Gives up what others want, has leases renewed, and waits for a while.
+    pub(crate) fn wait_a_while(&mut self, pause: &mut Duration) -> Result<(), Failure> {
+        self.is_waiting = true;
+        let given = self.give_up_wanted();
+        let renewed = self.renew();
+        self.is_waiting = false;
+        sleep(*pause);
+        *pause = (*pause * 2).min(LONGEST_PAUSE);
+        given?;
+        Ok(renewed?)
+    }
+
+    /// Has the leases renewed that are used, or that the log needs. One that isn't renewed ends at its end.
+    fn renew(&mut self) -> Result<(), Unanswered> {
+        let due = self.leases.due(self.term() / 2, |number| self.draft.needs(number));
+        self.ask_leases(&due)
+    }
+
     fn ask_lease(&mut self, number: u32, kind: LeaseKind) -> Result<Result<(), LeaseRefusal>, Unanswered> {
-        let moment = self.pass_time()?;
-        let end = moment.saturating_add(self.options.term.min(self.desk.longest_term()));
-        let wanted = Wanted { number, path: self.draft.paths().path(number), kind, end };
+        let wanted = self.wanted(number, kind)?;
         let answer = self.desk.lease(&wanted)?;
-        self.cache.look_anew();
-        if answer.is_ok() {
-            self.leases.grant(number, kind, end);
-        }
+        self.take_over(&wanted, answer)?;
         Ok(answer)
+    }
+
+    /// Asks for some leases at once, each as by `ask_lease`.
+    pub(crate) fn ask_leases(&mut self, some: &[(u32, LeaseKind)]) -> Result<(), Unanswered> {
+        for some in some.chunks(TOGETHER) {
+            let wanted: Result<Vec<_>, _> = some.iter().map(|(number, kind)| self.wanted(*number, *kind)).collect();
+            let wanted = wanted?;
+            let answers = self.desk.leases(&wanted)?;
+            for (wanted, answer) in wanted.iter().zip(answers) {
+                self.take_over(wanted, answer)?;
+            }
+        }
+        Ok(())
+    }
+
+    /// How long a lease lives from now on, in moments.
+    fn term(&self) -> u64 {
+        self.options.term.min(self.desk.longest_term())
+    }
+
+    /// A lease, as it is asked for now.
+    fn wanted(&mut self, number: u32, kind: LeaseKind) -> Result<Wanted, Unanswered> {
+        let end = self.pass_time()?.saturating_add(self.term());
+        Ok(Wanted { number, path: self.draft.paths().path_shown(number), kind, end })
+    }
+
+    /// Takes over how a lease was answered. The answer may have been long in coming: where the lease before has ended meanwhile,
+    /// another client may have had one.
+    fn take_over(&mut self, wanted: &Wanted, answer: Result<(), LeaseRefusal>) -> Result<(), Unanswered> {
+        self.pass_time()?;
+        self.cache.look_anew();
+        match answer {
+            Ok(()) => self.leases.grant(wanted.number, wanted.kind, wanted.end),
+            // It has taken the place of one that is held.
+            Err(LeaseRefusal::Elsewhere(found)) if self.leases.reads(found) => {
+                self.leases.grant(found, wanted.kind, wanted.end);
+            }
+            Err(LeaseRefusal::Elsewhere(found)) => {
+                let _none_held = self.desk.drop_lease(found)?;
+            }
+            Err(_) => {}
+        }
+        Ok(())
     }
 
     /// Looks which moment it is. What was shown under leases that have ended is forgotten.
@@ -439,48 +498,51 @@ impl<D: Desk> Session<D> {
     fn node_at(&mut self, path: &[u8]) -> Result<Option<u32>, Failure> {
         match self.walk(path) {
             Ok(number) => Ok(Some(number)),
-            Err(failure @ (Failure::Unanswered(_) | Failure::HandIn(_))) => Err(failure),
+            Err(failure @ (Failure::Unanswered(_) | Failure::HandIn(_) | Failure::Unshown(Unshown::Gone(_)))) => Err(failure),
             Err(_) => Ok(None),
         }
     }
 
     /// Hands the log in, and gives a lease up. Where the log isn't kept, the lease goes all the same.
     pub fn give_up(&mut self, number: u32) -> Result<(), Failure> {
-        if !self.leases.reads(number) {
-            // One that an earlier session of this client had may be live still.
-            let _none_held = self.desk.drop_lease(number)?;
-            return Ok(());
+        let is_held = self.leases.reads(number);
+        let handed_in = if is_held || self.draft.needs(number) { self.sync() } else { Ok(()) };
+        if is_held {
+            self.leases.forget(number);
+            self.cache.forget(number);
+            self.given_up.insert(number, Instant::now());
         }
-        let handed_in = self.sync();
-        self.leases.forget(number);
-        self.cache.forget(number);
-        self.given_up.insert(number, Instant::now());
+        // Also one that has ended here, and one of an earlier session of this client: it may be live still.
         let _none_held = self.desk.drop_lease(number)?;
         Ok(handed_in?)
     }
 
     /// Does what is due: leases that others want are given up, those that are used are renewed, and a log that has waited long
-    /// enough is handed in. Call it now and then, some times within `linger`.
+    /// enough, or needs a lease that ends soon, is handed in. Call it now and then, some times within `linger`.
     pub fn poll(&mut self) -> Result<(), Failure> {
         self.pass_time()?;
         self.give_up_wanted()?;
         self.give_up_contended()?;
-        for (number, kind) in self.leases.due(self.options.term / 2) {
-            // One that isn't renewed ends at its end.
-            let _refused = self.ask_lease(number, kind)?;
-        }
-        if self.began.map_or(false, |began| began.elapsed() >= self.options.linger) {
+        self.renew()?;
+        if self.is_due() {
             self.sync()?;
         }
         Ok(())
     }
 
-    /// Hands the log in, and gives all leases up. Where that fails the session is as it was.
+    /// Whether the log is to be handed in by now.
+    fn is_due(&self) -> bool {
+        let is_old = self.began.map_or(false, |began| began.elapsed() >= self.options.linger);
+        let soon = (self.term() / 4).max(1);
+        is_old || self.leases.ending_within(soon).any(|number| self.draft.needs(number))
+    }
+
+    /// Hands the log in, and gives all leases up. Where the log isn't kept the session is as it was.
     pub fn close(&mut self) -> Result<(), Failure> {
-        self.sync()?;
-        for number in self.leases.numbers() {
-            self.give_up(number)?;
-        }
-        Ok(())
+        self.sync_patiently()?;
+        let held = self.leases.numbers();
+        self.leases.forget_all();
+        self.cache.clear();
+        Ok(self.desk.drop_leases(&held)?)
     }
 }

@@ -18,18 +18,32 @@ pub(crate) struct Wants {
     client: u32,
     serial: u64,
     left: Vec<u8>,
-    /// Whether kfsd has said that it knows no such question, or has closed the connection.
-    is_over: bool,
+    /// Whether kfsd has said that it knows no such question.
+    is_unknown: bool,
+    /// Whether the connection has ended.
+    is_gone: bool,
 }
 
 impl Wants {
     /// Asks for the first time.
     pub fn ask(path: &Path, client: u32) -> io::Result<Wants> {
+        Wants::ask_behind(path, client, 0)
+    }
+
+    fn ask_behind(path: &Path, client: u32, serial: u64) -> io::Result<Wants> {
         let stream = UnixStream::connect(path)?;
         stream.set_nonblocking(true)?;
-        let mut wants = Wants { stream, client, serial: 0, left: Vec::new(), is_over: false };
+        let mut wants = Wants { stream, client, serial, left: Vec::new(), is_unknown: false, is_gone: false };
         wants.send()?;
         Ok(wants)
+    }
+
+    /// Asks over a new connection, where the last one has ended. That of another kfsd may have been killed.
+    pub fn ask_again(&mut self, path: &Path) -> io::Result<()> {
+        if self.is_gone && !self.is_unknown {
+            *self = Wants::ask_behind(path, self.client, self.serial)?;
+        }
+        Ok(())
     }
 
     fn send(&mut self) -> io::Result<()> {
@@ -43,39 +57,37 @@ impl Wants {
         self.stream.write_all(&frame)
     }
 
-    /// What was told since this was asked last, without waiting.
-    pub fn told(&mut self) -> io::Result<Vec<Wish>> {
+    /// What was told since this was asked last, without waiting. Each is told once, so what was told is answered also where the
+    /// connection has ended meanwhile.
+    pub fn told(&mut self) -> Vec<Wish> {
         let mut wishes = Vec::new();
-        while !self.is_over && self.has_more()? {
+        while !self.is_unknown && !self.is_gone && self.has_more() {
             while let Some(answer) = self.next_answer() {
                 match answer_of(&answer) {
                     Some((serial, told)) => {
                         self.serial = serial;
                         wishes.extend(told);
-                        self.send()?;
+                        self.is_gone |= self.send().is_err();
                     }
-                    None => self.is_over = true,
+                    None => self.is_unknown = true,
                 }
             }
         }
-        Ok(wishes)
+        wishes
     }
 
     /// Reads what has come. Whether there was something.
-    fn has_more(&mut self) -> io::Result<bool> {
+    fn has_more(&mut self) -> bool {
         let mut bytes = [0; 4096];
         match self.stream.read(&mut bytes) {
-            Ok(0) => {
-                self.is_over = true;
-                Ok(false)
-            }
-            Ok(count) => {
+            Ok(count) if count > 0 => {
                 self.left.extend_from_slice(&bytes[..count]);
-                Ok(true)
+                return true;
             }
-            Err(fault) if matches!(fault.kind(), ErrorKind::WouldBlock | ErrorKind::Interrupted) => Ok(false),
-            Err(fault) => Err(fault),
+            Err(fault) if matches!(fault.kind(), ErrorKind::WouldBlock | ErrorKind::Interrupted) => {}
+            _ => self.is_gone = true,
         }
+        false
     }
 
     /// The next whole reply, with its head.

@@ -17,6 +17,8 @@ struct Told {
     replies: Vec<Vec<u8>>,
     wants: Vec<Vec<u8>>,
     serials: Vec<u64>,
+    /// How long the answer is under way that tells the moment.
+    late: Duration,
 }
 
 struct Pretender {
@@ -64,7 +66,11 @@ fn answer_all(mut stream: UnixStream, told: &Mutex<Told>) -> std::io::Result<()>
             // client 7 may give the numbers 2 to 99
             0xf0 => vec![0xf0, 0, 0, 0, 7, 0, 0, 0, 2, 0, 0, 0, 99],
             // moment 1000, and a lease may live for 100
-            0xf1 => vec![0xf1, 0, 0, 0, 0, 0, 0, 3, 232, 0, 0, 0, 0, 0, 0, 0, 100],
+            0xf1 => {
+                let late = told.lock().unwrap().late;
+                thread::sleep(late);
+                vec![0xf1, 0, 0, 0, 0, 0, 0, 3, 232, 0, 0, 0, 0, 0, 0, 0, 100]
+            }
             0xf3 => wait_for_want(told, u64::from_be_bytes(body[1..9].try_into().unwrap())),
             _ => {
                 let mut told = told.lock().unwrap();
@@ -160,6 +166,65 @@ fn the_moment_goes_on_and_a_lease_may_not_live_too_long() {
     let bodies = kfsd.told().bodies.clone();
     assert_eq!(bodies[bodies.len() - 2][0], 6);
     assert_eq!(bodies[bodies.len() - 1], b"\x02\0\0\0\x07\0\0\0\0\0\0\0\x04\x1a\0\x01/");
+}
+
+#[test]
+fn a_moment_that_was_told_late_is_no_earlier_one() {
+    let kfsd = Pretender::start("late");
+    kfsd.told().late = Duration::from_millis(2100);
+    let mut connection = Connection::open(&kfsd.path, 7).unwrap();
+    // kfsd's clock was at 1000 or short of 1001 when it was asked, and so is at 1003 by now, maybe.
+    assert!(connection.moment().unwrap() >= 1003);
+}
+
+#[test]
+fn a_lease_that_a_path_led_to_is_told_and_stays() {
+    let kfsd = Pretender::start("elsewhere");
+    let mut connection = Connection::open(&kfsd.path, 7).unwrap();
+    let not_allowed = [&[1, 0, 0, 0, 0, 8, 11][..], &[0; 13]].concat();
+    kfsd.told().replies = vec![not_allowed, vec![1, 0, 0, 0, 1, 4, 0, 0, 0, 9]];
+    let wanted = Wanted { number: 5, path: Some(b"/a".to_vec()), kind: LeaseKind::Write, end: 1050 };
+    assert_eq!(connection.lease(&wanted).unwrap(), Err(LeaseRefusal::Elsewhere(9)));
+    assert_eq!(kfsd.told().bodies.len(), 2);
+}
+
+#[test]
+fn leases_are_asked_for_and_given_up_at_once() {
+    let kfsd = Pretender::start("leases");
+    let mut connection = Connection::open(&kfsd.path, 7).unwrap();
+    let wanted = |number| Wanted { number, path: None, kind: LeaseKind::Write, end: 1050 };
+    let leased = |number| vec![1, 0, 0, 0, 0, 4, 0, 0, 0, number];
+    // The second one is held by client 8; it is asked for singly, and granted to nobody then either.
+    let held = vec![1, 0, 0, 0, 0, 8, 7, 0, 0, 0, 0, 0, 0, 0, 0, 0, 0, 0, 0, 8];
+    kfsd.told().replies = vec![leased(5), held.clone(), leased(7), held];
+    let answers = connection.leases(&[wanted(5), wanted(6), wanted(7)]).unwrap();
+    assert_eq!(answers, [Ok(()), Err(LeaseRefusal::Held(8)), Ok(())]);
+    let asked: Vec<u8> = kfsd.told().bodies.iter().map(|body| *body.last().unwrap()).collect();
+    assert_eq!(asked, [5, 6, 7, 6]);
+    // Nobody knows of the second one, so it is given up once more.
+    kfsd.told().bodies.clear();
+    let dropped = |number| vec![1, 0, 0, 0, 0, 5, 0, 0, 0, number];
+    kfsd.told().replies = vec![dropped(5), vec![2, 128, 0, 0, 0, 0], dropped(7), dropped(6)];
+    connection.drop_leases(&[5, 6, 7]).unwrap();
+    let given_up: Vec<Vec<u8>> = kfsd.told().bodies.clone();
+    let body = |number| vec![3, 0, 0, 0, 7, 0, 0, 0, number];
+    assert_eq!(given_up, [body(5), body(6), body(7), body(6)]);
+}
+
+#[test]
+fn wants_are_asked_for_over_a_new_connection_where_one_ends() {
+    let kfsd = Pretender::start("ended");
+    let mut connection = Connection::open(&kfsd.path, 7).unwrap();
+    // It tells of one, and ends the connection; then it tells of another.
+    kfsd.told().wants = vec![want(5, 1), vec![], want(9, 2)];
+    let (mut told, until) = (Vec::new(), Instant::now() + Duration::from_secs(20));
+    while told.len() < 2 {
+        told.extend(connection.wanted_by_others().unwrap());
+        assert!(Instant::now() < until, "{told:?} is told");
+        thread::sleep(Duration::from_millis(1));
+    }
+    assert_eq!(told, [Wish::Node(1), Wish::Node(2)]);
+    assert_eq!(kfsd.told().serials[..3], [0, 5, 5]);
 }
 
 #[test]

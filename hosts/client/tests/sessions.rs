@@ -355,8 +355,13 @@ fn a_lease_is_had_below_a_directory_that_the_log_has_moved() {
     mine.rename(ROOT, &name("d"), ROOT, &name("e")).unwrap();
     let file = mine.walk(b"/e/f").unwrap();
     assert_eq!(mine.draft().log().len(), 1);
-    // The server knows no such path before the log is handed in.
+    // The server knows no such path before the log is handed in: it is asked by the one from before.
     mine.write(file, 0, b"x").unwrap();
+    assert_eq!(mine.draft().log().len(), 2);
+    for number in [ROOT, directory, file] {
+        mine.desk().drop_lease(number).unwrap().unwrap();
+    }
+    mine.sync().unwrap();
     assert_eq!(other.lookup(ROOT, &name("e")).unwrap().0, directory);
     mine.close().unwrap();
     assert_eq!(other.read(file, 0, 9).unwrap(), b"x");

@@ -15,6 +15,12 @@ use nix::sys::signal::{SigSet, Signal};
 use nix::sys::signalfd::{SfdFlags, SignalFd};
 use nix::unistd::{setegid, seteuid, Gid, Uid};
 use std::path::PathBuf;
+use std::time::Duration;
+
+/// How long a program's call waits while kfsd isn't there, or doesn't answer.
+const AGAIN: Duration = Duration::from_secs(120);
+/// How long it waits for another client's lease: longer than one lives, so that who has vanished is waited for.
+const PATIENCE: Duration = Duration::from_secs(90);
 
 /// Mounts a desk's tree for one user.
 #[derive(Debug, Parser)]
@@ -55,7 +61,8 @@ fn signals() -> Result<SignalFd> {
 
 /// Serves the kernel until it is told to stop.
 fn run(mut mounted: Mounted, mut ends: SignalFd, client: Client, desk: impl Desk) -> Result<()> {
-    let mut volume = Volume::new(Session::new(desk, client, Options::default()));
+    let options = Options { patience: PATIENCE, ..Options::default() };
+    let mut volume = Volume::new(Session::new(desk, client, options));
     println!("mounted");
     let served = serve(&mut mounted.device, &mut ends, &mut volume);
     volume.close().context("the last log isn't kept")?;
@@ -76,7 +83,8 @@ fn main() -> Result<()> {
         // kfsd asks the kernel who connects.
         setegid(Gid::from_raw(client.gid))?;
         seteuid(Uid::from_raw(client.uid))?;
-        let desk = Connection::open(path, words.client)?;
+        let mut desk = Connection::open(path, words.client)?;
+        desk.set_again(AGAIN);
         client.grant = desk.grant();
         return run(mounted, ends, client, desk);
     }

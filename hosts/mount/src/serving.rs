@@ -266,10 +266,13 @@ fn read_directory<D: Desk>(volume: &mut Volume<D>, request: &mut Request<'_>, is
         if reply.0.len() + length > most {
             break;
         }
-        // A name that went since the list was made leads nowhere.
         let shape = match volume.shape(number) {
             Ok(shape) => shape,
-            Err(_) => continue,
+            // A name that went since the list was made leads nowhere.
+            Err(Errno::ENOENT) => continue,
+            // Of a name that nobody could be asked about it isn't said that it isn't there. It is asked for again, and told then.
+            Err(_) if !reply.0.is_empty() => break,
+            Err(errno) => return Err(errno),
         };
         if is_plus && matches!(text.as_slice(), b"." | b"..") {
             reply.zeros(128);
@@ -280,4 +283,97 @@ fn read_directory<D: Desk>(volume: &mut Volume<D>, request: &mut Request<'_>, is
         reply.zeros((8 - text.len() % 8) % 8);
     }
     Ok(reply)
+}
+
+#[cfg(test)]
+mod tests {
+    use super::*;
+    use kfs_client::desk::{Answer, LeaseRefusal, Unanswered, Wanted, Wish};
+    use kfs_client::memory::Memory;
+    use kfs_client::{Client, Header, Options, Session, Shown, Unshown};
+
+    /// A server that doesn't tell of one node, and has lost another.
+    struct Silent {
+        memory: Memory,
+        silent_of: u32,
+        lost: u32,
+    }
+
+    impl Shown for Silent {
+        fn header(&mut self, number: u32) -> Result<Option<Header>, Unshown> {
+            match number {
+                _ if number == self.silent_of => Err(Unshown::Gone(io::ErrorKind::TimedOut.into())),
+                _ if number == self.lost => Ok(None),
+                _ => self.memory.header(number),
+            }
+        }
+
+        fn find(&mut self, directory: u32, name: &Name) -> Result<Option<u32>, Unshown> {
+            self.memory.find(directory, name)
+        }
+
+        fn list(&mut self, directory: u32, behind: Option<&Name>, most: usize) -> Result<Vec<(Name, u32)>, Unshown> {
+            self.memory.list(directory, behind, most)
+        }
+
+        fn read(&mut self, number: u32, start: u64, most: usize) -> Result<Vec<u8>, Unshown> {
+            self.memory.read(number, start, most)
+        }
+    }
+
+    impl Desk for Silent {
+        fn lease(&mut self, wanted: &Wanted) -> Result<Result<(), LeaseRefusal>, Unanswered> {
+            self.memory.lease(wanted)
+        }
+
+        fn drop_lease(&mut self, number: u32) -> Result<Result<(), LeaseRefusal>, Unanswered> {
+            self.memory.drop_lease(number)
+        }
+
+        fn submit(&mut self, log: &[u8], plan: &[u8]) -> Result<Answer, Unanswered> {
+            self.memory.submit(log, plan)
+        }
+
+        fn moment(&mut self) -> Result<u64, Unanswered> {
+            self.memory.moment()
+        }
+
+        fn wanted_by_others(&mut self) -> Result<Vec<Wish>, Unanswered> {
+            self.memory.wanted_by_others()
+        }
+    }
+
+    /// The offsets of the names that are told behind an offset, or the error.
+    fn offsets(volume: &mut Volume<Silent>, handle: u64, offset: u64) -> Result<Vec<u64>, Errno> {
+        let mut bytes = Reply::default();
+        bytes.word(80).word(28).long(9).long(1).zeros(16).long(handle).long(offset).word(4096);
+        let reply = read_directory(volume, &mut Request::of(&bytes.0).unwrap(), false)?.0;
+        let (mut at, mut found) = (0, Vec::new());
+        while at < reply.len() {
+            found.push(u64::from_ne_bytes(reply[at + 8..at + 16].try_into().unwrap()));
+            let length = u32::from_ne_bytes(reply[at + 16..at + 20].try_into().unwrap()) as usize;
+            at += (24 + length + 7) / 8 * 8;
+        }
+        Ok(found)
+    }
+
+    #[test]
+    fn a_name_of_which_nobody_tells_is_not_left_out() {
+        let client = Client { number: 7, uid: 1000, gid: 1000, groups: vec![], is_privileged: false, grant: [2, 99] };
+        let desk = Silent { memory: Memory::new(client.clone()), silent_of: 0, lost: 0 };
+        let mut volume = Volume::new(Session::new(desk, client, Options::default()));
+        let files = [&b"a"[..], b"b", b"c"].map(|name| volume.make(1, name, Kind::File, 0o644).unwrap().0);
+        volume.close().unwrap();
+        let handle = volume.open_list(1).unwrap();
+        assert_eq!(offsets(&mut volume, handle, 0), Ok(vec![1, 2, 3, 4, 5]));
+        volume.desk().lost = files[0];
+        volume.begin_request();
+        assert_eq!(offsets(&mut volume, handle, 0), Ok(vec![1, 2, 4, 5]));
+        volume.desk().silent_of = files[1];
+        volume.begin_request();
+        assert_eq!(offsets(&mut volume, handle, 0), Ok(vec![1, 2]));
+        assert_eq!(offsets(&mut volume, handle, 2), Err(Errno::EIO));
+        volume.desk().silent_of = 0;
+        assert_eq!(offsets(&mut volume, handle, 2), Ok(vec![4, 5]));
+    }
 }

@@ -4,12 +4,11 @@ use crate::attributes::{now, Clocks, Shape, Times};
 use crate::handles::{Handles, Leftover};
 use crate::links::{link_bytes, target_of, LENGTH};
 use kfs_client::client::Access;
-use kfs_client::desk::{Blocks, LeaseRefusal};
+use kfs_client::desk::Blocks;
 use kfs_client::{Desk, Failure, HandInFault, Header, Kind, Name, Session};
 use nix::errno::Errno;
 use std::collections::HashMap;
-use std::thread::sleep;
-use std::time::{Duration, Instant};
+use std::time::Duration;
 
 /// The bits of a mode that a log can say, and the two that it can't.
 const MODE: u32 = 0o1777;
@@ -24,9 +23,6 @@ const ACCESS: u32 = 0o3;
 const WRITE_ONLY: u32 = 0o1;
 const READ_AND_WRITE: u32 = 0o2;
 const TRUNCATE: u32 = 0o1000;
-/// How long one who asks that all is kept waits for a lease of another client, and after which pause it is asked for again.
-const PATIENCE: Duration = Duration::from_secs(10);
-const PAUSE: Duration = Duration::from_millis(20);
 
 /// What is to be changed of a node's header.
 #[derive(Clone, Copy, Debug, Default)]
@@ -72,11 +68,6 @@ fn tell(fault: &HandInFault) -> bool {
     }
 }
 
-/// Whether another client has a lease that the log needs.
-fn is_held(fault: &HandInFault) -> bool {
-    matches!(fault, HandInFault::Lease(_, LeaseRefusal::Held(_)))
-}
-
 fn writes(flags: u32) -> bool {
     matches!(flags & ACCESS, WRITE_ONLY | READ_AND_WRITE)
 }
@@ -85,6 +76,12 @@ impl<D: Desk> Volume<D> {
     /// A volume over a session.
     pub fn new(session: Session<D>) -> Volume<D> {
         Volume { session, clocks: Clocks::default(), handles: Handles::default(), owed: None, kept: HashMap::new() }
+    }
+
+    /// The server, for tests.
+    #[cfg(test)]
+    pub fn desk(&mut self) -> &mut D {
+        self.session.desk()
     }
 
     /// What is due now and then. What fails is tried again; who asks next that all is kept is told of calls that are lost.
@@ -117,21 +114,9 @@ impl<D: Desk> Volume<D> {
 
     /// Hands all in. Where a lease was lost, and another client has it, that one is waited for.
     pub fn sync(&mut self) -> Result<(), Errno> {
-        let until = Instant::now() + PATIENCE;
-        while let Err(fault) = self.session.sync() {
-            if !is_held(&fault) || Instant::now() >= until {
-                tell(&fault);
-                return Err(fault.errno());
-            }
-            sleep(PAUSE);
-            // What others want is given up meanwhile.
-            match self.session.poll() {
-                Err(Failure::HandIn(fault)) if is_held(&fault) => {}
-                Err(failure) => {
-                    let _nobody_asked = self.told(&failure);
-                }
-                Ok(()) => {}
-            }
+        if let Err(fault) = self.session.sync_patiently() {
+            tell(&fault);
+            return Err(fault.errno());
         }
         self.owed.take().map_or(Ok(()), Err)
     }
@@ -146,42 +131,45 @@ impl<D: Desk> Volume<D> {
 
     /// A node as it is shown: a link with its target's length, a file with the mode that it gets later, and without a hidden
     /// name.
-    fn shown(&mut self, number: u32, header: Header) -> Shape {
+    fn shown(&mut self, number: u32, header: Header) -> Result<Shape, Errno> {
         let links = header.links - u16::from(self.handles.is_hidden(number));
-        match self.target(number, &header) {
-            Some(target) => {
-                let header = Header { mode: LINK_MODE, size: target.len() as u64, links, ..header };
-                Shape { header, is_link: true }
-            }
-            None => {
-                let mode = self.handles.late_mode(number).unwrap_or(header.mode);
-                Shape { header: Header { mode, links, ..header }, is_link: false }
-            }
+        if let Some(target) = self.target(number, &header)? {
+            let header = Header { mode: LINK_MODE, size: target.len() as u64, links, ..header };
+            return Ok(Shape { header, is_link: true });
         }
+        let mode = self.handles.late_mode(number).unwrap_or(header.mode);
+        Ok(Shape { header: Header { mode, links, ..header }, is_link: false })
     }
 
     /// The target of a link, where the node is one and can be read.
-    fn target(&mut self, number: u32, header: &Header) -> Option<Vec<u8>> {
+    fn target(&mut self, number: u32, header: &Header) -> Result<Option<Vec<u8>>, Errno> {
         if header.is_directory() || header.size != LENGTH {
-            return None;
+            return Ok(None);
         }
-        target_of(&self.session.read(number, 0, LENGTH as usize).ok()?)
+        match self.session.read(number, 0, LENGTH as usize) {
+            Ok(bytes) => Ok(target_of(&bytes)),
+            Err(failure) => match self.told(&failure) {
+                // It may be a link to those who can read it, and it isn't there any more.
+                Errno::EACCES | Errno::ENOENT => Ok(None),
+                errno => Err(errno),
+            },
+        }
     }
 
     pub fn shape(&mut self, number: u32) -> Result<Shape, Errno> {
         let header = self.session.header(number).map_err(|failure| self.told(&failure))?;
-        Ok(self.shown(number, header))
+        self.shown(number, header)
     }
 
     pub fn lookup(&mut self, directory: u32, name: &[u8]) -> Result<(u32, Shape), Errno> {
         let name = named(name)?;
         let (number, header) = self.session.lookup(directory, &name).map_err(|failure| self.told(&failure))?;
-        Ok((number, self.shown(number, header)))
+        Ok((number, self.shown(number, header)?))
     }
 
     pub fn read_link(&mut self, number: u32) -> Result<Vec<u8>, Errno> {
         let header = self.session.header(number).map_err(|failure| self.told(&failure))?;
-        self.target(number, &header).ok_or(Errno::EINVAL)
+        self.target(number, &header)?.ok_or(Errno::EINVAL)
     }
 
     /// All names of a directory, as a list that stays while it is read.
@@ -196,6 +184,12 @@ impl<D: Desk> Volume<D> {
 
     pub fn read(&mut self, number: u32, start: u64, most: usize) -> Result<Vec<u8>, Errno> {
         let bytes = self.session.read(number, start, most).map_err(|failure| self.told(&failure))?;
+        self.note_kept(number)?;
+        Ok(bytes)
+    }
+
+    /// The kernel gets more bytes of a file, which it reads or writes.
+    fn note_kept(&mut self, number: u32) -> Result<(), Errno> {
         let since = self.session.held_since(number).map_err(|failure| self.told(&failure))?;
         let kept = self.kept.entry(number).or_insert(Kept::Mixed);
         *kept = match *kept {
@@ -204,7 +198,7 @@ impl<D: Desk> Volume<D> {
             Kept::Since(before) if before == since && since.is_some() => Kept::Since(before),
             _ => Kept::Mixed,
         };
-        Ok(bytes)
+        Ok(())
     }
 
     pub fn access(&mut self, number: u32, mask: u32) -> Result<(), Errno> {
@@ -285,6 +279,7 @@ impl<D: Desk> Volume<D> {
 
     pub fn write(&mut self, number: u32, offset: u64, bytes: &[u8]) -> Result<usize, Errno> {
         let count = self.session.write(number, offset, bytes).map_err(|failure| self.told(&failure))?;
+        self.note_kept(number)?;
         self.clocks.write(number);
         Ok(count)
     }
@@ -395,7 +390,7 @@ fn named(bytes: &[u8]) -> Result<Name, Errno> {
 #[cfg(test)]
 mod tests {
     use super::*;
-    use kfs_client::desk::{Answer, Unanswered, Wanted, Wish};
+    use kfs_client::desk::{Answer, LeaseRefusal, Unanswered, Wanted, Wish};
     use kfs_client::log::ENTRY_LIMIT;
     use kfs_client::memory::Memory;
     use kfs_client::{Client, Options, Reason, Shown, Unshown};
@@ -521,6 +516,25 @@ mod tests {
         assert_eq!(volume.open(file, 0), Ok(false));
         assert!(volume.read(file, 0, 65_536).unwrap().is_empty());
         assert_eq!(volume.open(file, 0), Ok(true));
+    }
+
+    #[test]
+    fn bytes_that_were_written_under_an_earlier_lease_are_forgotten() {
+        let mut volume = volume();
+        let (file, _) = volume.create(1, b"a", 0o644).unwrap();
+        volume.close_file(file).unwrap();
+        volume.sync().unwrap();
+        assert_eq!(volume.open(file, WRITE_ONLY), Ok(false));
+        volume.write(file, 0, b"abc").unwrap();
+        // The kernel has what it wrote, and a lease has kept others from changing it.
+        assert_eq!(volume.open(file, 0), Ok(true));
+        volume.session.give_up(file).unwrap();
+        assert_eq!(volume.open(file, WRITE_ONLY), Ok(false));
+        volume.write(file, 0, b"def").unwrap();
+        volume.session.give_up(file).unwrap();
+        // Another client may change them now. What is read is told under a new lease, and isn't all that the kernel has.
+        assert_eq!(volume.read(file, 0, 65_536).unwrap(), b"def");
+        assert_eq!(volume.open(file, 0), Ok(false));
     }
 
     #[test]

@@ -14,7 +14,7 @@ import tempfile
 import time
 
 import beside
-from mounts import MOUNT, in_child, kill_daemon, make_shared, unmount
+from mounts import MOUNT, PATIENT, in_child, kill_daemon, make_shared, unmount
 from programs import GIT
 from running import Daemon, user
 
@@ -235,6 +235,7 @@ def cuts(made, count, seed=1):
     while done < count:
         with tempfile.TemporaryDirectory(prefix="kfs-cuts-") as room, Daemon(*made, users=USERS, tiers=TIERS) as daemon:
             os.chmod(room, 0o755)
+            daemon.patience = PATIENT
             told = {it["uid"]: Told() for it in USERS}
             for _ in range(min(CUTS_OF_ONE, count - done)):
                 began = time.monotonic()

@@ -5,6 +5,7 @@ user. RANDOM_CALLS and RANDOM_SEED say how many random calls are made, and which
 """
 import contextlib
 import os
+import random
 import signal
 import struct
 import subprocess
@@ -24,10 +25,15 @@ CRATE, OUT, REGISTRY = f"{TOP}/hosts/mount", f"{TOP}/hosts/client/out", "/usr/sh
 # KFS_MOUNT names another build.
 MOUNT = os.environ.get("KFS_MOUNT", f"{OUT}/debug/kfs-mount")
 USER = 1000
+# For how many seconds a process is waited for that ends or begins: the machine may have much other work.
+PATIENT = 300
 SOON = 30
 RANDOM_CALLS, RANDOM_SEED = (int(os.environ.get(name, value)) for name, value in (("RANDOM_CALLS", "10000"), ("RANDOM_SEED", "1")))
 # How many files each user puts into the folder of all, and the seconds between kills, and behind which all is seen by all.
 SHARED, BETWEEN_KILLS, SEEN_AFTER = 20, 4, 7
+# For how many seconds a mount stands still at most, where its leases live for up to four; how often a user counts meanwhile, and behind
+# which pause.
+LATEST, COUNTED, COUNT_PAUSE = 6, 60, 0.3
 # What is tried beside a hostile client, and its pauses in milliseconds.
 BESIDE_HOSTILE, HOSTILE_PAUSE = ("git", "sqlite3", "make", "python3"), 10
 
@@ -42,8 +48,8 @@ def is_there(word):
 
 
 @contextlib.contextmanager
-def mounted(*words, uid=USER):
-    """A folder at which a tree is mounted, for a user. Others may come in, too, as its modes say."""
+def mounted_by(*words, uid=USER):
+    """A folder at which a tree is mounted, for a user, and the process that serves it. Others may come in, too, as its modes say."""
     with tempfile.TemporaryDirectory(prefix="kfs-mount-") as room:
         os.chmod(room, 0o755)
         folder = f"{room}/at"
@@ -51,12 +57,19 @@ def mounted(*words, uid=USER):
         process = subprocess.Popen([MOUNT, folder, "--uid", str(uid), "--gid", str(uid), "--allow-other", *words], stdout=subprocess.PIPE, text=True)
         try:
             assert process.stdout.readline() == "mounted\n"
-            yield folder
+            yield folder, process
         finally:
             process.send_signal(signal.SIGTERM)
-            status = process.wait(SOON)
+            status = process.wait(PATIENT)
             process.stdout.close()
         assert status == 0, status
+
+
+@contextlib.contextmanager
+def mounted(*words, uid=USER):
+    """The folder alone."""
+    with mounted_by(*words, uid=uid) as (folder, _process):
+        yield folder
 
 
 def unmount(folder):
@@ -148,9 +161,9 @@ def has_look_ups(daemon):
         return it.next()[1][:1] == b"\x03"
 
 
-def share(folder, user, count):
+def share(folder, user, until, first=0):
     """A user makes files in a folder of all, with bytes of its own."""
-    for index in range(count):
+    for index in range(first, until):
         path = f"{folder}/shared/{user}-{index}"
         # in bytes: the user may not read where codecs are
         with open(f"{path}.part", "wb", buffering=0) as it:
@@ -168,9 +181,14 @@ def as_programs(due, folder, user):
     as_user(share, folder, user, SHARED, user=user)
 
 
+def words_for(daemon, it):
+    """What says whose mount it is at which daemon."""
+    return "--socket", f"{daemon.room}/socket", "--client", str(it["client"])
+
+
 def mounted_for(daemon, it):
     """The folder at which a user of a daemon has its mount."""
-    return mounted("--socket", f"{daemon.room}/socket", "--client", str(it["client"]), uid=it["uid"])
+    return mounted(*words_for(daemon, it), uid=it["uid"])
 
 
 def make_shared(folder):
@@ -210,6 +228,7 @@ def three_users(made):
         if not has_look_ups(daemon):
             print("    kfs_serve has no look-ups: left out")
             return
+        daemon.patience = PATIENT
         began, kills = time.monotonic(), 0
         with contextlib.ExitStack() as stack:
             folders = [stack.enter_context(mounted_for(daemon, it)) for it in users]
@@ -268,6 +287,61 @@ def beside_a_hostile_client(made):
                 are_shared(folder, honest)
 
 
+def counted(index):
+    """What stands in the file of a user that has counted so far."""
+    return b"%d" % index * 30_000
+
+
+def count_up(folder, user):
+    """A user counts up in a file of its own, which it reads each time, and puts files into the folder of all."""
+    own = f"{folder}/{user}-count"
+    for index in range(COUNTED):
+        with open(own, "wb", buffering=0) as it:
+            it.write(counted(index))
+            os.fsync(it.fileno())
+        with open(own, "rb", buffering=0) as it:
+            assert it.read() == counted(index)
+        os.rename(own, f"{own}ed")
+        os.rename(f"{own}ed", own)
+        time.sleep(COUNT_PAUSE)
+        if index % (COUNTED // SHARED) == 0:
+            share(folder, user, index // (COUNTED // SHARED) + 1, index // (COUNTED // SHARED))
+
+
+def late_mounts(made):
+    """Mounts that stand still now and then for longer than their leases live: nothing that was synced is lost, and no call fails."""
+    if not can_mount():
+        return
+    users = [user(USER + at, 7 + at, (2 + at * 20_000, 1 + (at + 1) * 20_000)) for at in range(3)]
+    chance, stops = random.Random(1), 0
+    with Daemon(*made, users=users, tiers=(4096, 16, 16), duties={"lease_seconds": 4, "wanted_seconds": 1}).start() as daemon:
+        if not has_look_ups(daemon):
+            return
+        with contextlib.ExitStack() as stack:
+            folders, processes = zip(*(stack.enter_context(mounted_by(*words_for(daemon, it), uid=it["uid"])) for it in users))
+            make_shared(folders[0])
+            children = {in_child(count_up, folder, it["uid"], user=it["uid"]) for folder, it in zip(folders, users)}
+            while children:
+                late = chance.choice(processes)
+                late.send_signal(signal.SIGSTOP)
+                time.sleep(chance.uniform(1, LATEST))
+                late.send_signal(signal.SIGCONT)
+                stops += 1
+                time.sleep(1)
+                children -= {child for child in children if wait_if_ended(child)}
+            time.sleep(SEEN_AFTER)
+            for folder in folders:
+                are_shared(folder, users)
+        with contextlib.ExitStack() as stack:
+            for it in users:
+                folder = stack.enter_context(mounted_for(daemon, it))
+                are_shared(folder, users)
+                for other in users:
+                    with open(f"{folder}/{other['uid']}-count", "rb") as own:
+                        assert own.read() == counted(COUNTED - 1)
+        print(f"    three mounts, one of them stopped {stops} times")
+
+
 def compare_calls(folder, other, count, seed, *more):
     """Random calls on a mount and on a tmpfs, and the trees that they leave."""
     as_user(beside.compare, folder, other, count, seed, *more)
@@ -294,4 +368,4 @@ def random_calls_through_kfsd(made, count=RANDOM_CALLS, seed=RANDOM_SEED):
                 compare_calls(folder, other, count, seed, beside.NAMES, [mode for mode in beside.MODES if mode & 0o400])
 
 
-TESTS = [a_mount, real_programs, random_calls, random_calls_through_kfsd, three_users, beside_a_hostile_client]
+TESTS = [a_mount, real_programs, random_calls, random_calls_through_kfsd, late_mounts, three_users, beside_a_hostile_client]
