@@ -6,7 +6,7 @@ use crate::volume::{Attributes, Volume};
 use kfs_client::desk::Blocks;
 use kfs_client::looks::Looks;
 use kfs_client::node::GREATEST_NUMBER;
-use kfs_client::{Desk, Kind, Name};
+use kfs_client::{Desk, Kind};
 use nix::errno::Errno;
 use nix::poll::{poll, PollFd, PollFlags};
 use nix::sys::signalfd::SignalFd;
@@ -315,7 +315,7 @@ mod tests {
     use super::*;
     use kfs_client::desk::{Answer, LeaseRefusal, Unanswered, Wanted, Wish};
     use kfs_client::memory::Memory;
-    use kfs_client::{Client, Header, Options, Session, Shown, Unshown};
+    use kfs_client::{Client, Header, Name, Options, Session, Shown, Unshown};
 
     /// A server that doesn't tell of one node, and has lost another.
     struct Silent {
