@@ -119,9 +119,10 @@ impl Cache {
         }
     }
 
-    /// The header of a node, as it was told lately or is kept.
-    pub(crate) fn header_of(&self, number: u32) -> Option<Header> {
-        self.headers.get(&number).copied().or_else(|| self.fresh(number)).flatten()
+    /// The header of a node as it was told last, however old: a guess.
+    pub(crate) fn last_header(&self, number: u32) -> Option<Header> {
+        let told = self.fresh.get(&number).map(|(_, header)| *header);
+        self.headers.get(&number).copied().or(told).flatten()
     }
 
     /// Whether nobody need ask for a node's header: it is known for some time yet, or was asked for.

@@ -5,6 +5,7 @@ use crate::desk::Desk;
 use crate::name::Name;
 use crate::session::Session;
 use crate::shown::Ahead;
+use std::time::{Duration, Instant};
 
 /// How many headers are asked for ahead at most, and from how many on they are while the next one is known.
 const HEADERS: usize = 16;
@@ -20,6 +21,19 @@ pub(crate) struct Course {
     /// How many look-ups went on in the order of names, and in that of numbers.
     by_name: u32,
     by_number: u32,
+    /// When the last one was, and how much time lies between two by now.
+    at: Option<Instant>,
+    gap: Duration,
+}
+
+impl Course {
+    /// One more look-up comes now. Returns how many of the next ones will come within a time, at this pace.
+    fn pace(&mut self, within: Duration) -> usize {
+        let now = Instant::now();
+        let gap = self.at.replace(now).map_or(within, |before| (now - before).min(within));
+        self.gap = (self.gap * 3 + gap) / 4;
+        (within.as_nanos() / self.gap.as_nanos().max(1)).min(HEADERS as u128) as usize
+    }
 }
 
 impl<D: Desk> Session<D> {
@@ -38,7 +52,7 @@ impl<D: Desk> Session<D> {
         if self.options.age.is_zero() {
             return;
         }
-        let Session { cache, course, leases, draft, .. } = self;
+        let Session { cache, course, leases, draft, options, .. } = self;
         let names = match cache.names_of(directory) {
             Some(names) if leases.is_live(directory) => names,
             _ => return,
@@ -53,16 +67,18 @@ impl<D: Desk> Session<D> {
         course.directory = directory;
         course.by_name = if is_next { course.by_name + 1 } else { 0 };
         course.by_number = if is_next_number { course.by_number + 1 } else { 0 };
+        // What isn't wanted while it is believed is asked for in vain.
+        let count = course.pace(options.age / 2);
         let next: Vec<u32> = match (course.by_name >= STEPS, course.by_number >= STEPS) {
-            (true, _) => names.behind(name).take(HEADERS).collect(),
-            (_, true) => names.behind_number(number).take(HEADERS).collect(),
+            (true, _) => names.behind(name).take(count).collect(),
+            (_, true) => names.behind_number(number).take(count).collect(),
             _ => return,
         };
         // A header that the log has made is known.
         let next: Vec<u32> = next.into_iter().filter(|number| draft.header_made(*number).is_none()).collect();
         let unknown = cache.unknown(next.iter().copied(), leases);
         let is_next_lacking = next.first().map_or(false, |next| unknown.first() == Some(&Ahead::Header(*next)));
-        if unknown.len() >= LACKING || is_next_lacking {
+        if unknown.len() >= LACKING || is_next_lacking && unknown.len() > 1 {
             self.cached().ask_for(&unknown);
         }
     }
@@ -87,7 +103,7 @@ impl<D: Desk> Session<D> {
         if self.options.age.is_zero() || is_own || self.leases.is_live(number) {
             return;
         }
-        match self.cache.header_of(number) {
+        match self.cache.last_header(number) {
             Some(header) if !header.is_directory() && (1..u64::from(OPENED)).contains(&header.size) => {
                 let bytes = Ahead::Bytes { number, start: 0, most: OPENED };
                 self.cached().ask_for(&[bytes]);
