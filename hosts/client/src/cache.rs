@@ -125,9 +125,10 @@ impl Cache {
         self.headers.get(&number).copied().or(told).flatten()
     }
 
-    /// Whether nobody need ask for a node's header: it is known for some time yet, or was asked for.
+    /// Whether a node's header needn't be asked for ahead: it is known for some time yet, or was asked for, or there was none.
     fn is_known(&self, number: u32) -> bool {
-        let is_fresh = self.fresh.get(&number).map_or(false, |(asked, _)| asked.elapsed() < self.age / 2);
+        let told = self.fresh.get(&number);
+        let is_fresh = told.map_or(false, |(asked, header)| header.is_none() || asked.elapsed() < self.age / 2);
         is_fresh || self.under_way.values().any(|under_way| under_way.ahead == Ahead::Header(number))
     }
 
@@ -358,9 +359,20 @@ impl Shown for Cached<'_> {
         Ok(header)
     }
 
-    /// They aren't kept: these are of new numbers, on which there is no lease.
+    /// These are of new numbers of the client, on which there is no lease. Nobody else gives them to a node. So one that was free
+    /// when it was asked for ahead is free still, unless a log of one's own has taken it since.
     fn headers(&mut self, numbers: &[u32]) -> Result<Vec<Option<Header>>, Unshown> {
-        self.shown.headers(numbers)
+        let last = numbers.iter().rev().find_map(|number| self.cache.serial_of(|ahead| ahead == Ahead::Header(*number)));
+        if last.is_some() {
+            self.take_told(last);
+        }
+        let is_free = |number: &u32| matches!(self.cache.fresh.get(number), Some((_, None)));
+        let unknown: Vec<u32> = numbers.iter().copied().filter(|number| !is_free(number)).collect();
+        if unknown.is_empty() {
+            return Ok(vec![None; numbers.len()]);
+        }
+        let mut told = self.shown.headers(&unknown)?.into_iter();
+        Ok(numbers.iter().map(|number| if unknown.contains(number) { told.next().flatten() } else { None }).collect())
     }
 
     fn find(&mut self, directory: u32, name: &Name) -> Result<Option<u32>, Unshown> {

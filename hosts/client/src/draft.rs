@@ -17,8 +17,9 @@ use std::ops::Bound;
 
 /// How many names are asked for at a time.
 const PAGE: usize = 4096;
-/// Of how many numbers at a time it is asked whether they are free.
-const AHEAD: usize = 32;
+/// Of how many numbers at a time it is asked whether they are free, and with how many left those of the next ones are asked for.
+const AHEAD: usize = 24;
+const LEFT: usize = 12;
 
 /// A log that is under way, with its changes.
 #[derive(Clone, Debug)]
@@ -254,6 +255,15 @@ impl Draft {
             }
         }
         Err(Fault::NoNumber)
+    }
+
+    /// The numbers of which it will be asked next, where few are left that are free.
+    pub(crate) fn next_numbers(&self) -> Vec<u32> {
+        if self.free.len() > LEFT {
+            return Vec::new();
+        }
+        let [first, last] = self.client.grant;
+        (self.next.max(first)..=last).filter(|number| !self.is_known(*number)).take(AHEAD).collect()
     }
 
     /// Whether nobody needs to be asked whether a number is free.

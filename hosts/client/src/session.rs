@@ -268,6 +268,8 @@ impl<D: Desk> Session<D> {
         let number = draft.free_number(&mut Cached { shown: desk, cache, leases });
         let number = number.map_err(|fault| Failure::Entry { errno: fault.errno(), fault })?;
         self.enter(&Entry::Create { directory, name: name.clone(), number, kind, mode })?;
+        let next = self.draft.next_numbers();
+        self.headers_ahead(next.into_iter());
         Ok(number)
     }
 

@@ -17,6 +17,8 @@ struct Server {
     memory: Memory,
     moment: u64,
     headers: usize,
+    /// How often numbers were asked for, of which some may be free.
+    numbers: usize,
     finds: usize,
     lists: usize,
     reads: usize,
@@ -47,6 +49,7 @@ impl Shown for Server {
 
     fn headers(&mut self, numbers: &[u32]) -> Result<Vec<Option<Header>>, Unshown> {
         // These are of new numbers, and one question for many.
+        self.numbers += 1;
         numbers.iter().map(|number| self.memory.header(*number)).collect()
     }
 
@@ -124,10 +127,15 @@ fn name(text: &str) -> Name {
 }
 
 fn session(options: Options) -> Session<Server> {
+    session_of(client(), options)
+}
+
+fn session_of(client: Client, options: Options) -> Session<Server> {
     let desk = Server {
-        memory: Memory::new(client()),
+        memory: Memory::new(client.clone()),
         moment: 0,
         headers: 0,
+        numbers: 0,
         finds: 0,
         lists: 0,
         reads: 0,
@@ -137,7 +145,7 @@ fn session(options: Options) -> Session<Server> {
         is_lost: false,
         is_hidden: false,
     };
-    Session::new(desk, client(), options)
+    Session::new(desk, client, options)
 }
 
 /// What was asked without a lease is believed for long, so that a test that is late sees it, too.
@@ -420,4 +428,37 @@ fn a_node_whose_number_is_another_ones_by_now_is_asked_for_anew() {
     mine.bytes_ahead(file);
     assert_eq!(mine.read(file, 0, 9).unwrap(), b"other");
     assert_eq!(mine.lookup(ROOT, &name("00")).unwrap_err().errno(), Reason::NoSuchName.errno());
+}
+
+#[test]
+fn numbers_are_free_that_were_asked_for_ahead() {
+    let mut mine = session(believing());
+    for at in 0..300 {
+        mine.create(ROOT, &name(&at.to_string()), Kind::File, 0o644).unwrap();
+        if at % 50 == 49 {
+            mine.sync().unwrap();
+        }
+    }
+    assert!(mine.desk().numbers <= 2, "{} questions for numbers", mine.desk().numbers);
+    // Of few numbers each is given anew once it is free, in this log or in a later one.
+    for age in [Duration::ZERO, Duration::from_secs(600)] {
+        let few = Client { grant: [2, 41], ..client() };
+        let mut mine = session_of(few, Options { age, ..Options::default() });
+        for at in 0..400 {
+            let number = mine.create(ROOT, &name(&at.to_string()), Kind::File, 0o644).unwrap();
+            mine.write(number, 0, at.to_string().as_bytes()).unwrap();
+            if at % 3 == 2 {
+                mine.sync().unwrap();
+            }
+            if at >= 30 {
+                mine.unlink(ROOT, &name(&(at - 30).to_string()), Kind::File).unwrap();
+            }
+        }
+        mine.close().unwrap();
+        let names = mine.list(ROOT, None, usize::MAX).unwrap();
+        assert_eq!(names.len(), 30);
+        for (name, number) in names {
+            assert_eq!(mine.read(number, 0, 9).unwrap(), name.as_bytes());
+        }
+    }
 }
