@@ -69,10 +69,12 @@ class Machine(Daemon):
         self.space, self.address = f"{cluster.space}-{name}", f"{NETWORK}.{at + 1}"
         self.etcd, self.is_wanted, self.is_cut = None, False, False
         self.statuses = []
+        # where the files of kfs_serve are in memory
+        self.memory = tempfile.mkdtemp(prefix="kfsd-", dir="/dev/shm") if cluster.is_in_memory else None
 
     @property
     def replica(self):
-        return f"{self.folder}/replica"
+        return f"{self.memory or self.folder}/replica"
 
     def put_config(self):
         super().put_config()
@@ -80,6 +82,8 @@ class Machine(Daemon):
             "etcd": [f"{it.address}:{CLIENTS_PORT}" for it in self.cluster.in_order(self)], "volume": self.volume, "member": self.name,
             "peer": f"{self.address}:{self.port}", "key_file": f"{self.cluster.room}/key", **self.cluster.settings,
         }
+        if self.memory:
+            settings["replica_folder"] = self.memory
         with open(f"{self.room}/kfsd.toml", "a", encoding="utf-8") as it:
             it.write("\n".join(["[cluster]", *(f"{name} = {json.dumps(value)}" for name, value in settings.items())]) + "\n")
 
@@ -102,6 +106,8 @@ class Machine(Daemon):
         words = {
             "name": self.name, "data-dir": f"{self.room}/etcd", "listen-client-urls": f"{own}:{CLIENTS_PORT}", "advertise-client-urls": f"{own}:{CLIENTS_PORT}",
             "listen-peer-urls": f"{own}:{PEERS_PORT}", "initial-advertise-peer-urls": f"{own}:{PEERS_PORT}", "initial-cluster-token": self.cluster.space,
+            # as docs/CLUSTER.md has it for a local network
+            "heartbeat-interval": "50", "election-timeout": "500",
             # what is removed takes room until it is compacted
             "auto-compaction-mode": "revision", "auto-compaction-retention": "1000",
             "initial-cluster": ",".join(f"{it.name}=http://{it.address}:{PEERS_PORT}" for it in self.cluster.machines),
@@ -195,14 +201,17 @@ class Machine(Daemon):
         super().__exit__(*fault)
         if self.etcd and self.etcd.poll() is None:
             self.kill_etcd()
+        if self.memory:
+            shutil.rmtree(self.memory, ignore_errors=True)
 
 
 class Cluster:
     """Three machines and the wire between them. Threads connect to whichever leads."""
 
-    def __init__(self, made, settings=None, is_watched=True, is_begun=True, **words):
+    def __init__(self, made, settings=None, is_watched=True, is_begun=True, is_in_memory=False, **words):
         self.space = f"kfsd-{os.getpid()}"
         self.settings, self.is_watched, self.is_begun, self.watchers = settings or {}, is_watched, is_begun, []
+        self.is_in_memory = is_in_memory
         # The number of the first group.
         self.first = 0
         self.room = tempfile.mkdtemp(prefix="kfsd-cluster-")
