@@ -186,8 +186,8 @@ def show(connections, name, machine, users, seconds):
 
 
 def load_on_machines(made):
-    """90 connections of 30 users make 60,000 calls, a third of them at each machine, beside faults of each kind."""
-    run(made, 90, 60_000, faults_of(2, 1, 1, 1, 1), is_watched=True, state_bytes=300_000)
+    """90 connections of 30 users make 60,000 calls, a third of them at each machine, beside faults of each kind. The files of kfs_serve are in memory."""
+    run(made, 90, 60_000, faults_of(2, 1, 1, 1, 1), is_watched=True, is_in_memory=True, state_bytes=300_000)
 
 
 TESTS = [load_on_machines]

@@ -376,7 +376,8 @@ async fn begin(volume: &Volume, wanted: &str, folder: &Folder) -> Result<String,
 /// Locks another folder than kfsd's own.
 fn lock_other(path: &Path) -> Result<Folder, ClusterFault> {
     let failed = |fault| ClusterFault::Path(path.to_path_buf(), fault);
-    Folder::lock(path).map_err(failed)?.ok_or_else(|| failed(io::Error::new(io::ErrorKind::AlreadyExists, "another kfsd has it")))
+    let taken = || failed(io::Error::new(io::ErrorKind::AlreadyExists, "another kfsd has it"));
+    Folder::lock(path).map_err(failed)?.ok_or_else(taken)
 }
 
 /// Takes the questions of `kfsctl`, which a member that doesn't lead has no answer to, until the queue is closed.
