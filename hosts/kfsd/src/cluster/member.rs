@@ -393,14 +393,13 @@ impl Watch {
         Watch { sign: Sign::default(), since: now, term: 0, elected: now }
     }
 
-    /// Takes what was just seen.
+    /// Takes what was seen. It counts from when etcd told it: calls may have been made here since.
     fn see(&mut self, seen: &Seen) {
-        let now = Instant::now();
         if self.sign != seen.sign {
-            (self.sign, self.since) = (seen.sign, now);
+            (self.sign, self.since) = (seen.sign, seen.when);
         }
         if self.term < seen.term {
-            (self.term, self.elected) = (seen.term, now);
+            (self.term, self.elected) = (seen.term, seen.when);
             debug!("etcd has an own leader of term {}, or seeks one", seen.term);
         }
     }
@@ -428,5 +427,32 @@ impl Follower {
         self.moment = group.moment;
         self.next = number + 1;
         shared.figures.group.set(self.next);
+    }
+}
+
+#[cfg(test)]
+mod tests {
+    use super::*;
+
+    #[test]
+    fn a_sign_counts_from_when_etcd_told_it() {
+        let (lease, mut watch) = (Duration::from_secs(2), Watch::new());
+        let told = |sign, millis| {
+            let when = Instant::now() - Duration::from_millis(millis);
+            Seen { when, leader: None, sign: Sign { leader: 1, sign }, term: 5, next: 0, groups: vec![] }
+        };
+        watch.see(&told(2, 1900));
+        assert!(!watch.is_over(lease));
+        watch.see(&told(3, 2100));
+        assert!(watch.is_over(lease));
+        // the same sign, told again
+        watch.see(&told(3, 0));
+        assert!(watch.is_over(lease));
+        watch.see(&told(4, 0));
+        assert!(!watch.is_over(lease));
+        // etcd has just found a leader of its own
+        watch.see(&Seen { term: 6, ..told(5, 2100) });
+        watch.see(&Seen { term: 7, ..told(5, 0) });
+        assert!(!watch.is_over(lease));
     }
 }

@@ -41,6 +41,8 @@ pub struct Volume {
 /// How a volume stands.
 #[derive(Debug)]
 pub struct Seen {
+    /// When etcd had answered that.
+    pub when: Instant,
     /// Where the member is that leads it.
     pub leader: Option<String>,
     pub sign: Sign,
@@ -56,8 +58,8 @@ pub struct Seen {
 #[derive(Clone, Copy, Debug, Default, PartialEq, Eq)]
 pub struct Sign {
     /// The revisions at which the leader's key, and its sign, were put last; 0 where they aren't there.
-    leader: i64,
-    sign: i64,
+    pub(super) leader: i64,
+    pub(super) sign: i64,
 }
 
 /// What a leader has.
@@ -141,6 +143,7 @@ impl Volume {
     }
 
     async fn seen(&self, from: u64, done: Done) -> Result<Seen, ClusterFault> {
+        let when = Instant::now();
         let next = number_in(&done, 2).ok_or(ClusterFault::Unread("the number of the next group"))?;
         if next < from {
             return Err(ClusterFault::Ahead { own: from, next });
@@ -158,7 +161,7 @@ impl Volume {
         if groups.is_empty() && from < next {
             return Err(ClusterFault::Gap(from));
         }
-        Ok(Seen { leader, sign, term: done.term, next, groups })
+        Ok(Seen { when, leader, sign, term: done.term, next, groups })
     }
 
     /// The group of a row, with its parts.
