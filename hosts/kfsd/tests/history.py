@@ -30,10 +30,14 @@ class Client:
 
     def run(self):
         try:
-            while len(self.done) < self.most and not self.cluster.is_over.is_set():
+            while not self.is_through() and not self.cluster.is_over.is_set():
                 self.one()
         except BaseException as fault:  # noqa: BLE001
             self.fault = fault
+
+    def is_through(self):
+        """Whether it has made its calls, and there is no fault any more."""
+        return len(self.done) >= self.most and self.cluster.is_quiet.is_set()
 
     def one(self):
         call = lease(self.client, self.count + 1)
@@ -142,10 +146,10 @@ def is_serial(calls, clients):
 
 
 def history(made, most, faults, **settings):
-    """Lets 20 clients make so many calls each, beside so many faults of each kind. Prints what was seen."""
+    """Lets 20 clients make so many calls each or more, beside so many faults of each kind. Prints what was seen."""
     began = time.monotonic()
     with Cluster(made, settings=settings, users=USERS, tiers=(8192, 64, 64)) as cluster:
-        cluster.is_over, cluster.created = threading.Event(), 0
+        cluster.is_over, cluster.is_quiet, cluster.created = threading.Event(), threading.Event(), 0
         assert cluster.leader().connect(CREATOR).ask(1, lease(CREATOR, 1 << 40, writes=True)).answer[4] == 4
         kinds = {CREATOR: Creator, READER: Reader}
         clients = [kinds.get(it["client"], Client)(cluster, it["client"], most) for it in USERS]
@@ -160,6 +164,7 @@ def history(made, most, faults, **settings):
                     worked(cluster, chance.randrange(5, 60))
                     fault(cluster)
                 worked(cluster)
+            cluster.is_quiet.set()
             while any(it.thread.is_alive() for it in clients[1:-1]) and not any(it.fault for it in clients):
                 with cluster.lock:
                     cluster.look_after()

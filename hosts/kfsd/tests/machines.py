@@ -20,6 +20,8 @@ VOLUME = "volume"
 NAMES = ("a", "b", "c")
 # kfsd ends with it where it leads no more: a new start makes it a member again.
 LOST = 5
+# A line in which a member of etcd tells what was put has fewer bytes.
+LONGEST_LINE = 16 << 20
 # The files of a desk.
 FILES = ("first.kdjl", "second.kdjl")
 
@@ -276,10 +278,30 @@ class Cluster:
 
     def watch(self):
         """Has each member of etcd tell all that is put."""
-        for it in self.machines:
-            words = ["ip", "netns", "exec", self.space, "etcdctl", "--endpoints", f"{it.address}:{CLIENTS_PORT}", "watch", "--rev", "1", "--prefix", f"kfsd/{VOLUME}/", "-w", "json"]
-            with open(f"{self.room}/{it.name}", "wb") as to:
-                self.watchers.append(subprocess.Popen(words, stdout=to, stderr=subprocess.DEVNULL, env={**os.environ, "ETCDCTL_API": "3"}))
+        self.watchers = [self.watcher(it, 1) for it in self.machines]
+
+    def watcher(self, it, revision):
+        """Has a member of etcd tell all that is put from a revision on."""
+        words = ["ip", "netns", "exec", self.space, "etcdctl", "--endpoints", f"{it.address}:{CLIENTS_PORT}", "watch", "--rev", str(revision), "--prefix", f"kfsd/{VOLUME}/", "-w", "json"]
+        with open(f"{self.room}/{it.name}", "ab") as to:
+            return subprocess.Popen(words, stdout=to, stderr=subprocess.DEVNULL, env={**os.environ, "ETCDCTL_API": "3"})
+
+    def told_up_to(self, it):
+        """The last revision that a member of etcd has told."""
+        with open(f"{self.room}/{it.name}", "rb") as told:
+            told.seek(max(0, os.path.getsize(told.name) - LONGEST_LINE))
+            lines = [line for line in told.read().split(b"\n")[:-1] if line.startswith(b"{") and line.endswith(b"}")]
+        for line in reversed(lines):
+            events = json.loads(line).get("Events")
+            if events:
+                return max(event["kv"]["mod_revision"] for event in events)
+        return 0
+
+    def watch_on(self):
+        """A member that has no leader of its own for a while ends what it tells: it is asked again."""
+        for at, (it, watcher) in enumerate(zip(self.machines, self.watchers)):
+            if watcher.poll() is not None and it.etcd.poll() is None and not it.is_cut:
+                self.watchers[at] = self.watcher(it, self.told_up_to(it) + 1)
 
     def puts(self):
         """All that was ever put, in its order, each with its revision, its key and its value: what was told, and what is there now."""
@@ -318,6 +340,7 @@ class Cluster:
         for it in self.machines:
             if it.process:
                 it.look_after()
+        self.watch_on()
 
     def etcdctl(self, *words, data=None):
         """Asks the members of etcd that can be reached."""
