@@ -23,7 +23,7 @@ use Rattle.kfs_desk.specs.declared.history.answers.BeginFault.{BeginFault}
 use Rattle.kfs_call_desk.specs.Restore.Saved.{IsSaved, lease_of_row, rows_of_state, spelled_lease}
 use Rattle.kfs_call_desk.specs.Restore.Restored.{BadClients, BadLease, BrokenRule, RestoreAnswer, RestoreFault, begin_refusal, clients_refusal, leases_refusal, rule_refusal, shown_state, unless, verdict}
 use Rattle.kfs_kept.specs.Admitting.{begun_with}
-use Rattle.kfs_kept.specs.Restored.Laws.{CanBegin, SavedApart, SavedIsRestored, SavedOnce}
+use Rattle.kfs_kept.specs.Restored.Laws.{SavedApart, SavedIsRestored, SavedOnce}
 use Rattle.kfs_call_desk.proofs.RestoreLemmas.ClientRows.{clients_pass}
 use Rattle.kfs_call_desk.proofs.RestoreLemmas.OneAnswer.{one_answer, passes}
 

@@ -20,7 +20,7 @@ use Rattle.kfs_server.specs.declared.serving.fault.RunFault.TheVariants.{NotAdmi
 
 -- what is open isn't closed
 pub never_both : (is_open : Bool) → IsTrue is_open → IsFalse is_open → ⊥
-never_both is_open open closed = cc
+never_both is_open opened closed = cc
 
 module _ (A : Type 0) {D : Type 0} (seen : D → Files) (may_leave : D → Files → Type 0) (moment : D → ℕ) (left_since : D → ℕ → Files → Type 0) where
   -- the files were opened, and their desk was served

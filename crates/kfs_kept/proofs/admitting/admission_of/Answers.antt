@@ -1,7 +1,6 @@
-use Rattle.std.proofs.Common.{None, refl, sym, ap, subst, rules, ◌≡◌}
-use Rattle.std.specs.Prelude.{Result, Ok, IsNone}
+use Rattle.std.proofs.Common.{sym, subst, rules}
+use Rattle.std.specs.Prelude.{IsNone}
 use Rattle.std.proofs.lemmas.Result.{err_from_is_err_and}
-use Rattle.kfs_model.specs.Judgement.{State}
 use Rattle.kfs_call_desk.specs.Restore.Restored.{RestoreAnswer}
 use Rattle.kfs_kept.specs.Admitting.{Keeps, begun_with, with_clients}
 use Rattle.kfs_kept.proofs.Admitted.{begins, beside_before, beside_right}
