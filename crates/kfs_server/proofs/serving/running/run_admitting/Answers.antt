@@ -5,8 +5,8 @@ use Rattle.kfs_kept.specs.declared.kept.Kept.{Kept}
 use Rattle.kfs_server.proofs.ServingLemmas.Running.{admitted_run, never_both, not_admitted, not_opened}
 use Rattle.kfs_server.proofs.serving.running.run_admitting.Goals as goal
 
-pub returns-in-Ok-in-Ok : goal.returns-in-Ok-in-Ok
-returns-in-Ok-in-Ok g c =
+pub returns-in-Ok-admit : goal.returns-in-Ok-admit
+returns-in-Ok-admit g c =
     let disk = g.D.Disk in
     let kept = c.in-Ok.kept in
     let (input, text, consumed, appended, run) = c.run.ensures in (
@@ -15,22 +15,23 @@ returns-in-Ok-in-Ok g c =
       consumed,
       appended,
       admitted_run g.row.A.Denot disk.seen disk.may_leave disk.moment disk.left_since c.args.disk kept.disk kept.desk.state c.args.clients.now c.in-Ok.ensures.found c.in-Ok.ensures.any_moment
-          c.admit.new.self c.run.result input text c.in-Ok-in-Ok.ensures.admits c.in-Ok-in-Ok.ensures.state (c.admit.ensures.any_moment c.in-Ok.ensures.open) run,
+          c.admit.new.self c.run.result input text c.in-Ok-admit.ensures.admits c.in-Ok-admit.ensures.state (c.admit.ensures.any_moment c.in-Ok.ensures.open) run,
     )
 
-pub returns-in-Ok-in-Err : goal.returns-in-Ok-in-Err
-returns-in-Ok-in-Err g c =
+pub returns-in-Err-admit : goal.returns-in-Err-admit
+returns-in-Err-admit g c =
     let disk = g.D.Disk in
     let kept = c.in-Ok.kept in
-    let not_closed = λ is. never_both kept.is_open c.in-Ok.ensures.open (c.in-Ok-in-Err.ensures.closed.0 (ap Err is)) in
-    let stood = (c.in-Ok.ensures.kept c.in-Ok.ensures.open).stand in
-    let stand = ⊎_elim (λ failed. inl failed) (λ same. inr (subst (λ (k : Kept g.row.A.Denot _). StandFor (disk.seen k.disk) kept.desk.state) (sym same) stood)) c.in-Ok-in-Err.ensures.same in (
+    let stood = (c.in-Ok.ensures.kept c.in-Ok.ensures.open).stand in (
       [],
       [],
       Consumes-nil _,
       Appends-nil _,
       not_admitted g.row.A.Denot disk.seen disk.may_leave disk.moment disk.left_since c.args.disk kept.disk kept.desk.state c.args.clients.now c.in-Ok.ensures.found c.in-Ok.ensures.any_moment
-          c.admit.new.self.disk c.in-Ok-in-Err.why c.in-Ok-in-Err.ensures.why not_closed stand (c.admit.ensures.any_moment c.in-Ok.ensures.open),
+          c.admit.new.self.disk c.in-Err-admit.why c.in-Err-admit.ensures.why
+          (λ is. never_both kept.is_open c.in-Ok.ensures.open (c.in-Err-admit.ensures.closed.0 (ap Err is)))
+          (⊎_elim (λ failed. inl failed) (λ same. inr (subst (λ (k : Kept g.row.A.Denot _). StandFor (disk.seen k.disk) kept.desk.state) (sym same) stood)) c.in-Err-admit.ensures.same)
+          (c.admit.ensures.any_moment c.in-Ok.ensures.open),
     )
 
 pub returns-in-Err : goal.returns-in-Err
