@@ -3,3 +3,5 @@ pub mod Reads
 pub mod Listings
 pub mod Contents
 pub mod Held
+pub mod OwnLogs
+pub mod PlansFound
