@@ -1,5 +1,5 @@
 //! A log's pieces, laid over the bytes of a file. The bytes of one block after a log.
-ghost use Rattle.std.specs.Prelude.{◌≡◌, ◌+◌, ◌<◌, ◌≤◌, ◌∷◌, [], drop, length, slice_get, slice_index, EachIndex, IfSome, IsTrue, IfOk, vec_len};
+ghost use Rattle.std.specs.Prelude.{◌≡◌, ◌+◌, ◌-◌, ◌<◌, ◌≤◌, ◌∷◌, [], drop, length, replicate, slice_get, slice_index, EachIndex, IfSome, IsTrue, IfOk, vec_len};
 ghost use Rattle.kfs_types.specs.Views.{piece_of, source_of};
 ghost use Rattle.kfs_model.specs.Limits.{block_size};
 ghost use Rattle.kfs_model.specs.Run.{byte_at, payload_of};
@@ -153,20 +153,34 @@ fn front_block(bytes: &[u8]) -> Option<&[u8]>
     Some(&bytes[..BLOCK_LEN])
 }
 
-/// Makes the bytes from `first` on and below `end` zero, if there are any.
+/// Zero bytes, to be copied. A copy takes fewer instructions than bytes that are set, and `resize` sets
+/// them one by one.
+static ZEROS: [u8; BLOCK_LEN] = [0; BLOCK_LEN];
+
+/// As many zero bytes as a block has from `first` on and below `end`.
+fn zeros(first: usize, end: usize) -> &'static [u8]
+    requires order { first ≤ end }
+    requires within { end ≤ block_size }
+    ensures { result.now ≡ replicate (end - first) 0 }
+{
+    &ZEROS[first..end]
+}
+
+/// Makes the bytes from `first` on and below `end` zero, if there are any. They are a block's at most.
 fn clear(bytes: &mut [u8], first: usize, end: usize)
-    requires { end ≤ length bytes.old }
+    requires within { end ≤ length bytes.old }
+    requires block { length bytes.old ≤ block_size }
     ensures front { EachIndex bytes.new (λ k. k < first → slice_index bytes.new k ≡ slice_index bytes.old k) }
     ensures zero { EachIndex bytes.new (λ k. first ≤ k → k < end → slice_index bytes.new k ≡ 0) }
     ensures behind { EachIndex bytes.new (λ k. end ≤ k → slice_index bytes.new k ≡ slice_index bytes.old k) }
 {
     if first < end {
-        bytes[first..end].fill(0);
+        bytes[first..end].copy_from_slice(zeros(first, end));
     }
 }
 
-/// Puts those of a file from position `start` on in place of the bytes; zero behind the file's end, and
-/// where there is no file. Condition: the bytes from `held` on are zero already.
+/// Puts those of a file from position `start` on in place of the bytes, a block's at most; zero behind the
+/// file's end, and where there is no file. Condition: the bytes from `held` on are zero already.
 fn read_or_clear<A: Allocator>(
     image: &Image<A>,
     number: u32,
@@ -175,6 +189,7 @@ fn read_or_clear<A: Allocator>(
     held: usize,
 )
     requires held { held ≤ length bytes.old }
+    requires block { length bytes.old ≤ block_size }
     requires zero { EachIndex bytes.old (λ k. held ≤ k → slice_index bytes.old k ≡ 0) }
     ensures { AreBytesOf (shown_tree image.now) number start bytes.new }
 {
@@ -183,21 +198,21 @@ fn read_or_clear<A: Allocator>(
     clear(bytes, read, held);
 }
 
-/// `count` bytes of a file from position `start` on, in this memory; zero behind the file's end, and
-/// where there is no file. What the memory holds is read over, and made zero only where it isn't.
+/// The bytes of a block that begins at position `start` of a file, in this memory; zero behind the file's
+/// end, and where there is no file. What the memory holds is read over, and made zero only where it isn't.
 fn bytes_before<A: Allocator>(
     memory: Vec<u8, A>,
     image: &Image<A>,
     number: u32,
     start: u64,
-    count: usize,
 ) -> Result<Vec<u8, A>, AllocError>
-    ensures len { IfOk result (λ bytes. vec_len bytes ≡ count) }
+    ensures len { IfOk result (λ bytes. vec_len bytes ≡ block_size) }
     ensures bytes { IfOk result (λ bytes. AreBytesOf (shown_tree image.now) number start bytes.items) }
 {
     let mut bytes = memory;
-    let held = bytes.len().min(count);
-    bytes.resize(count, 0)?;
+    bytes.truncate(BLOCK_LEN);
+    let held = bytes.len();
+    bytes.extend_from_slice(zeros(held, BLOCK_LEN))?;
     read_or_clear(image, number, start, bytes.as_mut_slice(), held);
     Ok(bytes)
 }
@@ -249,7 +264,7 @@ fn patched_bytes<A: Allocator>(
     ensures { IfOk result (λ bytes. bytes.items ≡ block_after (shown_tree image.now) (entries_of log.now) (pieces_of log.now) number block) }
 {
     let start = u64::from(block) * BLOCK_SIZE;
-    let mut bytes = bytes_before(memory, image, number, start, BLOCK_LEN)?;
+    let mut bytes = bytes_before(memory, image, number, start)?;
     put_pieces(bytes.as_mut_slice(), log, number, start);
     Ok(bytes)
 }
