@@ -4,4 +4,3 @@ pub mod Listings
 pub mod Contents
 pub mod Held
 pub mod OwnLogs
-pub mod PlansFound

@@ -35,17 +35,17 @@ turned_away desk f look_up refusals.DocketFull asks is = absurd is
 -- the machine may reply this
 pub looked_replies : {B : Type 0} (desk : Desk) (f : Frame) (look_up : LookUp) (found : Result (Found B) Refusal) → AsksLookUp f look_up → IsLookedUp desk f.from look_up found → Replies desk f (looked_up_reply found) desk
 looked_replies desk f look_up (Ok found) asks (inl is) = (record { look_up = look_up; asks = asks; yours = is.0; is = is.1.0 }, refl)
-looked_replies desk f look_up (Ok found) asks (inr other) = let no = other.1.0 in absurd cc
+looked_replies desk f look_up (Ok found) asks (inr other) = let no = other.1 in absurd cc
 looked_replies desk f look_up (Err why) asks (inl is) = (subst (λ (w : Refusal). IsRefusedFor desk f (refusal_shown w)) (sym is.1) (inl tt), refl)
 looked_replies {B} desk f look_up (Err why) asks (inr other) =
-    let no = other.1.0 in
+    let no = other.1 in
     let same : why ≡ other.0 = cc in
-    (subst (λ (w : Refusal). IsRefusedFor desk f (refusal_shown w)) (sym same) (turned_away desk f look_up other.0 asks other.1.1), refl)
+    (subst (λ (w : Refusal). IsRefusedFor desk f (refusal_shown w)) (sym same) (turned_away desk f look_up other.0 asks other.2), refl)
 
 -- what is found is no longer than that may be
 pub looked_within : {B : Type 0} (desk : Desk) (from : ℕ) (look_up : LookUp) (found : Result (Found B) Refusal) → IsLookedUp desk from look_up found → IfOk found IsWithin
 looked_within desk from look_up (Ok found) (inl is) = is.1.1
-looked_within desk from look_up (Ok found) (inr other) = let no = other.1.0 in absurd cc
+looked_within desk from look_up (Ok found) (inr other) = let no = other.1 in absurd cc
 looked_within desk from look_up (Err why) is = tt
 
 -- what is written behind a first part
