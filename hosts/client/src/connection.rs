@@ -279,8 +279,10 @@ impl Connection {
         self.number = self.number.wrapping_add(bodies.len() as u32);
         let numbers = (0..bodies.len() as u32).map(|at| first.wrapping_add(at));
         let client = self.client;
-        let frames: Vec<u8> =
-            bodies.iter().zip(numbers.clone()).flat_map(|(body, number)| frame(number, client, body.as_ref())).collect();
+        let mut frames = Vec::new();
+        for (body, number) in bodies.iter().zip(numbers.clone()) {
+            put_frame(&mut frames, number, client, body.as_ref());
+        }
         if frames.len() > SHORT_FRAME {
             self.settle()?;
         }
@@ -389,21 +391,22 @@ fn nonsense(body: &[u8]) -> Unshown {
     Unshown::Nonsense(format!("frame with tag {}", body.first().copied().unwrap_or(0)))
 }
 
-/// The bytes of a frame.
-fn frame(number: u32, client: u32, body: &[u8]) -> Vec<u8> {
-    let mut frame = Vec::with_capacity(12 + body.len());
+/// Puts the bytes of a frame behind others.
+fn put_frame(out: &mut Vec<u8>, number: u32, client: u32, body: &[u8]) {
+    out.reserve(12 + body.len());
     // A body has at most 2 MiB: a log, and its plan.
     for word in [body.len() as u32, number, client] {
-        frame.extend_from_slice(&word.to_be_bytes());
+        out.extend_from_slice(&word.to_be_bytes());
     }
-    frame.extend_from_slice(body);
-    frame
+    out.extend_from_slice(body);
 }
 
 /// Sends a frame, and reads its reply. None where that is no reply.
 fn exchange(line: &mut Line, number: u32, client: u32, body: &[u8]) -> io::Result<Option<Reply>> {
     // Where kfsd refuses the connection it has said so before it closed: that can be read still.
-    let sent = line.stream.write_all(&frame(number, client, body));
+    let mut frame = Vec::new();
+    put_frame(&mut frame, number, client, body);
+    let sent = line.stream.write_all(&frame);
     let (replied, said) = line.next(false)?;
     let reply = reply_of(&said);
     if is_unwelcome(&said) {
@@ -738,7 +741,7 @@ impl Connection {
                 Ahead::Header(number) => look_up_body(NODE, number),
                 Ahead::Bytes { number, start, most } => read_body(number, start, 0, most as usize),
             };
-            frames.extend(frame(self.number, self.client, &body));
+            put_frame(&mut frames, self.number, self.client, &body);
             self.ahead.push_back((self.number, *serial));
         }
         self.line()?.stream.write_all(&frames)
