@@ -208,8 +208,9 @@ def load_with_kills(made, connections, users, seconds, kills, kfsd_kills, calls=
 
 
 def load_under_kills(made):
-    """200 connections of 50 users for 6 seconds, with 6 kills of kfs_serve and 3 of kfsd: each call is done once, and the tree is that of a model."""
-    load_with_kills(made, 200, 50, 6, 6, 3)
+    """200 connections of 50 users with 10,000 calls, 6 kills of kfs_serve and 3 of kfsd: each call is done once, and the tree is that of a model."""
+    # by calls: where a new start takes long, there are all kills still
+    load_with_kills(made, 200, 50, 300, 6, 3, 10_000)
 
 
 TESTS = [load_under_kills]
