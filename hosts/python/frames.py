@@ -1,7 +1,7 @@
 """Frames and replies of docs/PROTOCOL.md, for hosts and tests in Python.
 
-`frame` makes the bytes of a frame, and `node`, `state`, `checkpoint`, `find`, `names`, `read`, `places` and `leases` those of
-look-ups. `replies` cuts replies out of a stream of bytes, and `Reply` says what one tells. A `Server` is a running program with
+`frame` makes the bytes of a frame, and `node`, `state`, `checkpoint`, `find`, `names`, `read`, `places`, `leases` and `plan`
+those of look-ups. `replies` cuts replies out of a stream of bytes, and `Reply` says what one tells. A `Server` is a running program with
 its pipes: it sends frames and reads their replies.
 """
 import collections
@@ -14,7 +14,7 @@ ANSWERED, REFUSED, FOUND = 1, 2, 3
 REFUSALS = {1: "TooLong", 2: "CutShort", 3: "BadField", 4: "Trailing", 5: "NotYours", 6: "memory", 7: "full"}
 
 DENIALS = {1: "UnknownClient", 2: "NoSuchNode", 3: "NotDirectory", 4: "IsDirectory", 5: "NoSearch", 6: "NoRead"}
-NODE, STATE, CHECKPOINT, FIND, NAMES, READ, PLACES, LEASES = range(0x40, 0x48)
+NODE, STATE, CHECKPOINT, FIND, NAMES, READ, PLACES, LEASES, PLAN = range(0x40, 0x49)
 
 # number: the frame's; answer: the bytes of an answer, what a look-up found, or None; refusal: its name and index, or None
 Reply = collections.namedtuple("Reply", "number answer refusal")
@@ -29,6 +29,9 @@ NamesAre = collections.namedtuple("NamesAre", "more names")
 BytesAre = collections.namedtuple("BytesAre", "data")
 PlacesAre = collections.namedtuple("PlacesAre", "tiers")
 LeasesAre = collections.namedtuple("LeasesAre", "more leases")
+PlanIs = collections.namedtuple("PlanIs", "data")
+NoPlan = collections.namedtuple("NoPlan", "")
+PlanTooLong = collections.namedtuple("PlanTooLong", "")
 
 
 def frame(number, sender, body):
@@ -70,6 +73,11 @@ def places():
 def leases(first, limit):
     """Asks for the sender's own leases on nodes from the number `first` on, in at most so many bytes."""
     return struct.pack(">BII", LEASES, first, limit)
+
+
+def plan(log):
+    """Asks for the plan of the sender's own log."""
+    return bytes([PLAN]) + log
 
 
 # ---- Replies
@@ -120,6 +128,12 @@ def found_in(data):
             return PlacesAre(tuple(struct.iter_unpack(">II", rest)))
         case 9:
             return LeasesAre(bool(rest[0]), leases_in(rest[1:]))
+        case 10 if rest[:1] == b"\x01":
+            return PlanIs(rest[1:])
+        case 10 if rest == b"\x00":
+            return NoPlan()
+        case 10 if rest == b"\x02":
+            return PlanTooLong()
     raise ValueError(f"nothing that is found: {data.hex()}")
 
 

@@ -7,17 +7,20 @@ import random
 import struct
 
 from .calls import CallMaker, CallSession, Drop, Lease, LeaseAt, Migrate, Submit, decode_call, decoded
-from .codec import DIRECTORY, FILE, Refused
+from .codec import DIRECTORY, FILE, Create, Header, Link, Log, NameRow, NodeRow, Plan, Refused
+from .codec import decode_log, encode_log, encode_plan
 from .desk import U32, U64, hex_of
-from .scripts import NAMES
+from .judge import ROOT
+from .scripts import GRANTS, NAMES
 
 FRONT = 0xFFFFFFFF
 BODY_LIMIT = 16_777_216
 # How often a frame is forged before the right one, has a byte changed, is cut or lengthened, is none, or is too long.
 FORGED, CHANGED, LONG = 0.3, 0.5, 0.0005
-# How often a look-up stands before a call, and that of the front's own among them.
-LOOKED, OF_THE_FRONT = 0.6, 0.15
-# The most bytes of a file, of names or of leases that a look-up is answered; those of a lease.
+# How often a look-up stands before a call, and that of the front's own among them; how often the plan of its log is asked
+# for before a submission, and again behind it; how often that of a long log.
+LOOKED, OF_THE_FRONT, PLANNED, LONG_PLAN = 0.6, 0.15, 0.3, 0.002
+# The most bytes of a file, of names, of leases or of a plan that a look-up is answered; those of a lease.
 FOUND_LIMIT, LEASE_LEN = 65_536, 13
 ENTRY_REASONS = "NoSuchNode NotDirectory IsDirectory NoSuchName NameTaken NumberTaken NumberNotGranted NotEmpty BelowItself TooManyLinks TooBig NoSearch NoWrite NotOwner NoLease Sticky NotInGroup".split()
 LEASE_REASONS = "UnknownClient BadPath NoSuchName NotDirectory NoSearch Past LeaseHeld NoLeaseHeld Backwards NoSuchNode NotAllowed".split()
@@ -83,9 +86,17 @@ def frames_of(seed, numbers, calls):
                 yield chance.choice([owner_in(wrong), chance.choice(others)]), wrong
         if chance.random() < LOOKED:
             yield from look_ups(chance, numbers)
+        planned = decoded(data) if chance.random() < PLANNED else None
+        if isinstance(planned, Submit):
+            yield from plan_asked(chance, numbers, planned)
+        if chance.random() < LONG_PLAN:
+            client = chance.choice(numbers)
+            yield client, b"\x48" + long_log(chance, client)
         if chance.random() < LONG:
             yield chance.choice(others), bytes(BODY_LIMIT + 1)
         yield owner_in(data), data
+        if isinstance(planned, Submit) and chance.random() < PLANNED:
+            yield planned.client, b"\x48" + planned.log
 
 
 # ---- Look-ups
@@ -127,6 +138,28 @@ def look_ups(chance, numbers):
         yield chance.choice([*numbers] * 4 + [FRONT, 0]), body
 
 
+def plan_asked(chance, numbers, call):
+    """Senders and look-ups of the plan of a log that is handed in next, or of a changed one."""
+    log = changed(chance, call.log) if chance.random() < CHANGED / 4 else call.log
+    if chance.random() < FORGED:
+        yield chance.choice([*numbers, FRONT, 0]), b"\x48" + log
+    yield call.client, b"\x48" + log
+
+
+def long_log(chance, client):
+    """The bytes of a log that gives a new file long names, until its plan is as long as a look-up is answered, or nearly."""
+    number = chance.randrange(*GRANTS[(client - 7) % len(GRANTS)])
+    length = FOUND_LIMIT + chance.choice([-1, 0, 1, 1, 9])
+    names, rest = [], length - len(encode_plan(Plan(1, [], [NodeRow(number, Header(FILE, 0, 0, 0, 1, 0))], [])))
+    while rest > 0:
+        # Of a name a row has nine bytes more, and none may be too short to be told from the others.
+        count = rest - 9 if rest < 265 else 200
+        names.append((b"%03d" % len(names)).ljust(count, b"n"))
+        rest -= 9 + count
+    entries = [Create(ROOT, names[0], number, FILE, 0), *(Link(number, ROOT, name) for name in names[1:])]
+    return encode_log(Log(1, client, entries))
+
+
 def is_name(data):
     return 0 < len(data) < 256 and not {0, 47} & {*data} and data not in (b".", b"..")
 
@@ -140,7 +173,7 @@ class FrameSession(CallSession):
         """Returns the reply that is due. `said` is the program's, for what is left open."""
         if len(body) > BODY_LIMIT:
             return "TooLong"
-        looked = self.looked_up(sender, body)
+        looked = self.looked_up(sender, body, said)
         if looked is not None:
             return looked
         try:
@@ -151,7 +184,7 @@ class FrameSession(CallSession):
             return "NotYours"
         return self.expected(b"call " + hex_of(body).encode(), said and said.encode()).decode()
 
-    def looked_up(self, sender, body):
+    def looked_up(self, sender, body, said):
         """Returns what is due to a look-up, None to a body that is none's."""
         tag, fields = body[:1], body[1:]
         if tag in (b"\x41", b"\x42") and not fields:
@@ -171,6 +204,8 @@ class FrameSession(CallSession):
             return self.bytes_read(sender, *struct.unpack(">IQI", fields))
         if tag == b"\x47" and len(fields) == 8:
             return self.held(sender, *struct.unpack(">II", fields))
+        if tag == b"\x48":
+            return self.planned(sender, fields, said)
         if tag == b"\x46" and not fields:
             return "places " + " ".join(f"{self.sizes[tier]}:{self.free(tier)}" for tier in range(3))
         return None
@@ -211,6 +246,23 @@ class FrameSession(CallSession):
             return denied
         end = min(start + min(count, FOUND_LIMIT), self.tree.nodes[number].size)
         return f"bytes {hex_of(self.contents[number].read(start, end))}"
+
+    def planned(self, sender, data, said):
+        try:
+            log = decode_log(data)
+        except Refused:
+            return "BadField(0)"
+        if log.client != sender:
+            return "NotYours"
+        if sender not in self.clients:
+            return "denied UnknownClient"
+        # Of several right plans the program's is taken.
+        self.reply = (said or "").encode()
+        made = self.made_plan(sender, data)
+        if made is None:
+            return "plan none"
+        plan = encode_plan(made)
+        return f"plan {plan.hex()}" if len(plan) <= FOUND_LIMIT else "plan longer"
 
     def held(self, client, first, limit):
         own = []
@@ -305,6 +357,12 @@ def found_text(found):
             return f"bytes {hex_of(data)}"
         case "LeasesAre", more, held:
             return f"leases {more} {held}"
+        case "PlanIs", data:
+            return f"plan {data.hex()}"
+        case "NoPlan", :
+            return "plan none"
+        case "PlanTooLong", :
+            return "plan longer"
         case "PlacesAre", tiers:
             return "places " + " ".join(f"{size}:{free}" for size, free in tiers)
     raise ValueError(f"nothing that is found: {found}")

@@ -31,9 +31,10 @@ def run_once(program, judges, room, first, limit, data):
 
 
 def kind_of(due):
-    """In which way a frame is answered: of a denial with its reason."""
+    """In which way a frame is answered: of a denial with its reason, and of a plan whether there is one."""
     words = due.split("(")[0].split(" ")
-    return words[1] if due[0].isdigit() else " ".join(words[:2]) if words[0] == "denied" else words[0]
+    is_said = words[0] == "denied" or words[1:] in (["none"], ["longer"])
+    return words[1] if due[0].isdigit() else " ".join(words[:2]) if is_said else words[0]
 
 
 def one_seed(program, judges, seed, lines):

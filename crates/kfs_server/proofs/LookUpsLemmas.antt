@@ -3,3 +3,4 @@ pub mod Reads
 pub mod Listings
 pub mod Contents
 pub mod Held
+pub mod OwnLogs

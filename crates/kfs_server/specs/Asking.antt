@@ -6,7 +6,7 @@ use Rattle.kfs_call.specs.Layout as layouts
 use Rattle.kfs_call.specs.declared.frame.Incoming.{Incoming}
 use Rattle.kfs_server.specs.Frames.Frame.{Frame}
 use Rattle.kfs_server.specs.Frames.Begun.{body_limit}
-use Rattle.kfs_server.specs.LookUps.LookUp.{LookUp, AsksLookUp, IsNoLookUp, MayAsk}
+use Rattle.kfs_server.specs.LookUps.LookUp.{LookUp, AsksLookUp, IsAnothers, IsNoLookUp, IsOfNoLog}
 use Rattle.kfs_server.specs.Replies.Reply.{Refusal, TooLong, CutShort, BadField, Trailing, NotYours, OutOfMemory, DocketFull}
 
 -- the frame asks for this call, and has a body that is kept
@@ -25,11 +25,17 @@ IsBad f NotYours = (call : Call) × Asks f call × (owner call ≢ f.from)
 IsBad f OutOfMemory = Unit {0}
 IsBad f DocketFull = ⊥
 
--- the frame asks for a look-up that isn't its sender's to ask
+-- the frame asks for a look-up that is another's than its sender's
 pub record AsksForAnother (f : Frame) : Type 0 where
   pub look_up : LookUp
   pub asks : AsksLookUp f look_up
-  pub another : MayAsk look_up f.from → ⊥
+  pub another : IsAnothers look_up f.from
+
+-- the frame asks for a look-up of a log, and its bytes are none
+pub record AsksOfNoLog (f : Frame) : Type 0 where
+  pub look_up : LookUp
+  pub asks : AsksLookUp f look_up
+  pub none : IsOfNoLog look_up
 
 -- the frame's body, if it is kept, is no look-up's
 abbrev pub HasNoLookUp : {A : Type 0} → Incoming A → Type 0

@@ -2,10 +2,11 @@
 use Rattle.std.specs.Prelude.{ℕ, false, List, [], ◌∷◌, ◌++◌, Some}
 use Rattle.kfs_call.specs.Examples.{lease_call_bytes, leased_answer}
 use Rattle.kfs_lease.specs.LeaseLists.{LeaseRow}
+use Rattle.kfs_model.specs.Examples.Example.SpellingCases.{create_a_log_bytes, create_a_plan_bytes}
 use Rattle.kfs_model.specs.Header.{Header, Directory}
 use Rattle.kfs_model.specs.Lease.{WriteLease}
 use Rattle.kfs_server.specs.Frames.Frame.{Frame}
-use Rattle.kfs_server.specs.LookUps.Found.{LeasesAre, NamesAre, NodeIs, StateIs, held_bytes, listing_bytes}
+use Rattle.kfs_server.specs.LookUps.Found.{LeasesAre, NamesAre, NodeIs, PlanIs, StateIs, held_bytes, listing_bytes}
 use Rattle.kfs_server.specs.Replies.Reply.{Reply, Answered, Refused, Found, NotYours}
 
 -- frame 1: client 7 asks for a write lease on the root
@@ -101,3 +102,16 @@ abbrev pub leases_reply_bytes : List ℕ
 leases_reply_bytes =
     (0 ∷ 0 ∷ 0 ∷ 16 ∷ 0 ∷ 0 ∷ 0 ∷ 6 ∷ 3 ∷ 9 ∷ 0 ∷ [])
     ++ (0 ∷ 0 ∷ 0 ∷ 1 ∷ 1 ∷ 0 ∷ 0 ∷ 0 ∷ 0 ∷ 0 ∷ 0 ∷ 0 ∷ 100 ∷ [])
+
+-- frame 7: client 7 asks for the plan of its log, which creates a file
+abbrev pub plan_frame : Frame
+plan_frame = record { number = 7; from = 7; body = 72 ∷ create_a_log_bytes }
+
+abbrev pub plan_frame_bytes : List ℕ
+plan_frame_bytes = 0 ∷ 0 ∷ 0 ∷ 26 ∷ 0 ∷ 0 ∷ 0 ∷ 7 ∷ 0 ∷ 0 ∷ 0 ∷ 7 ∷ 72 ∷ create_a_log_bytes
+
+abbrev pub plan_reply : Reply
+plan_reply = Found (PlanIs create_a_plan_bytes)
+
+abbrev pub plan_reply_bytes : List ℕ
+plan_reply_bytes = 0 ∷ 0 ∷ 0 ∷ 51 ∷ 0 ∷ 0 ∷ 0 ∷ 7 ∷ 3 ∷ 10 ∷ 1 ∷ create_a_plan_bytes

@@ -5,6 +5,7 @@ mod leases;
 mod look_up;
 mod names;
 mod permission;
+mod plans;
 mod reading;
 mod spelling;
 
@@ -15,4 +16,6 @@ pub(crate) use self::leases::found_leases;
 pub(crate) use self::look_up::look_up_in;
 pub use self::look_up::{LookUp, look_up_of};
 pub(crate) use self::names::found_names;
+pub(crate) use self::permission::may_ask;
+pub(crate) use self::plans::found_plan;
 pub use self::spelling::{FOUND_HEAD_LIMIT, found_tail, spell_found_head};

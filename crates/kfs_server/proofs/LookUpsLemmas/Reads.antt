@@ -6,8 +6,8 @@ use Rattle.kfs_model.specs.Spelling.{IsBytes, IsName, is_name, number32, number6
 use Rattle.kfs_model.proofs.Reading.{byte_read, number32_read, number64_read}
 use Rattle.kfs_model.proofs.Fields.{byte_is, byte_field, number32_field, number64_field, some_from, some_if, some_is}
 use Rattle.kfs_model.proofs.NameTest.{is_name_true, is_name_sound}
-use Rattle.kfs_server.specs.LookUps.LookUp.{LookUp, Node, State, Checkpoint, Find, Names, Read, Places, Leases, IsAfterName, IsLookUp, IsNoLookUp, after_bytes, look_up_bytes}
-use Rattle.kfs_server.specs.LookUps.Reading.{after_read, ended, find_read, leases_read, look_up_read, name_of, names_read, node_read, read_read, tagged_read}
+use Rattle.kfs_server.specs.LookUps.LookUp.{LookUp, Node, State, Checkpoint, Find, Names, Read, Places, Leases, Plan, IsAfterName, IsLookUp, IsNoLookUp, after_bytes, look_up_bytes}
+use Rattle.kfs_server.specs.LookUps.Reading.{after_read, at_end, ended, find_read, leases_read, look_up_read, name_of, names_read, node_read, plan_read, read_read, tagged_read}
 
 -- the bytes are this look-up's
 record IsThis (bytes : List ℕ) (look_up : LookUp) : Type 0 where
@@ -23,9 +23,9 @@ end_takes [] one x e = (refl, some_is one x e)
 end_takes (b ∷ bytes) one x e = let never : None ≡ some_look_up x = e in absurd cc
 
 -- or something does
-pub ended_more : (bytes : List ℕ) (one : LookUp) → 0 < length bytes → None ≡ ended bytes one
-ended_more [] one more = absurd (omega (arith, more))
-ended_more (b ∷ bytes) one more = refl
+pub more_behind : (bytes : List ℕ) → 0 < length bytes → None ≡ at_end bytes
+more_behind [] more = absurd (omega (arith, more))
+more_behind (b ∷ bytes) more = refl
 
 -- a look-up of a tag alone
 alone : (tag : ℕ) (bytes rest : List ℕ) (one x : LookUp) → bytes ≡ tag ∷ rest → look_up_bytes one ≡ tag ∷ [] → IsLookUp one → ended rest one ≡ Some x → IsThis bytes x
@@ -108,6 +108,9 @@ leases_takes bytes rest x parts are e =
     subst (λ (l : LookUp). IsThis bytes l) last.1
     (record { is = parts ∙ ap (λ (bs : List ℕ). 71 ∷ bs) (m.parts ∙ ap (λ (bs : List ℕ). number32 a.0.0 ++ bs) behind); fits = (m.fits, n.fits) })
 
+plan_takes : (bytes rest : List ℕ) (x : LookUp) → bytes ≡ 72 ∷ rest → plan_read rest ≡ Some x → IsThis bytes x
+plan_takes bytes rest x parts e = subst (λ (l : LookUp). IsThis bytes l) (some_is (Plan rest) x e) (record { is = parts; fits = tt })
+
 -- what is read is there
 sound : (bytes : List ℕ) (x : LookUp) → IsBytes bytes → look_up_read bytes ≡ Some x → IsThis bytes x
 sound bytes x are e =
@@ -129,9 +132,12 @@ sound bytes x are e =
                 | inl p ↦ read_takes bytes rest x (front 69 p.0) m.rest_bytes p.1
                 | inr q ↦ elim (byte_is a.0.0 70 (ended rest Places) _ x q.1) [
                   | inl p ↦ alone 70 bytes rest Places x (front 70 p.0) refl tt p.1
-                  | inr q ↦ elim (byte_is a.0.0 71 (leases_read rest) None x q.1) [
+                  | inr q ↦ elim (byte_is a.0.0 71 (leases_read rest) _ x q.1) [
                     | inl p ↦ leases_takes bytes rest x (front 71 p.0) m.rest_bytes p.1
-                    | inr q ↦ let never : None ≡ some_look_up x = q.1 in absurd cc
+                    | inr q ↦ elim (byte_is a.0.0 72 (plan_read rest) None x q.1) [
+                      | inl p ↦ plan_takes bytes rest x (front 72 p.0) p.1
+                      | inr q ↦ let never : None ≡ some_look_up x = q.1 in absurd cc
+                    ]
                   ]
                 ]
               ]
@@ -171,6 +177,7 @@ complete (Leases first limit) fits =
     ap (λ o. o >>= λ f. number32_read f.1 >>= λ g. ended g.1 (Leases f.0 g.0)) (number32_field.again first (number32 limit) fits.0)
     ∙ ap (λ (bs : List ℕ). number32_read bs >>= λ g. ended g.1 (Leases first g.0)) (sym (append-nil (number32 limit)))
     ∙ ap (λ o. o >>= λ g. ended g.1 (Leases first g.0)) (number32_field.again limit [] fits.1)
+complete (Plan log) fits = refl
 
 -- the code's answer, shown by any view of it
 pub is_read : {V : Type 0} (view : V → LookUp) (bytes : List ℕ) (found : Option V) → IsBytes bytes → option_map view found ≡ look_up_read bytes

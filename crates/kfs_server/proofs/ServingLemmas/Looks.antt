@@ -10,7 +10,8 @@ use Rattle.kfs_server.specs.Frames.Frame.{Frame}
 use Rattle.std.specs.Prelude.{IfOk}
 use Rattle.kfs_server.specs.LookUps.LookUp.{LookUp, AsksLookUp}
 use Rattle.kfs_server.specs.LookUps.Views.{IsWithin}
-use Rattle.kfs_server.specs.Serving.Looking.{IsLookedUp, looked_up_bytes, looked_up_reply}
+use Rattle.kfs_server.specs.Replies.Reply as spelled
+use Rattle.kfs_server.specs.Serving.Looking.{IsLookedUp, IsTurnedAway, looked_up_bytes, looked_up_reply}
 use Rattle.kfs_server.specs.Replies.Views.{refusal_shown}
 use Rattle.kfs_server.specs.Serving.Machine.{IsRefusedFor, Replies}
 use Rattle.kfs_server.specs.Serving.Standing.{StandForSome}
@@ -21,6 +22,16 @@ use Rattle.kfs_server.specs.declared.replies.reply.Refusal.TheVariants as refusa
 use Rattle.kfs_server.proofs.ServingLemmas.Crashes.{none_served}
 use Rattle.kfs_server.proofs.ServingLemmas.Sessions.{group_failed}
 
+-- the machine may refuse so
+turned_away : (desk : Desk) (f : Frame) (look_up : LookUp) (why : Refusal) → AsksLookUp f look_up → IsTurnedAway look_up f.from why → IsRefusedFor desk f (refusal_shown why)
+turned_away desk f look_up refusals.OutOfMemory asks is = inl tt
+turned_away desk f look_up refusals.NotYours asks is = inr (inr (inl (refl, record { look_up = look_up; asks = asks; another = is })))
+turned_away desk f look_up (refusals.BadField k) asks is = inr (inr (inr (ap (λ (n : ℕ). spelled.BadField n) is.0, record { look_up = look_up; asks = asks; none = is.1 })))
+turned_away desk f look_up refusals.TooLong asks is = absurd is
+turned_away desk f look_up refusals.CutShort asks is = absurd is
+turned_away desk f look_up refusals.Trailing asks is = absurd is
+turned_away desk f look_up refusals.DocketFull asks is = absurd is
+
 -- the machine may reply this
 pub looked_replies : {B : Type 0} (desk : Desk) (f : Frame) (look_up : LookUp) (found : Result (Found B) Refusal) → AsksLookUp f look_up → IsLookedUp desk f.from look_up found → Replies desk f (looked_up_reply found) desk
 looked_replies desk f look_up (Ok found) asks (inl is) = (record { look_up = look_up; asks = asks; yours = is.0; is = is.1.0 }, refl)
@@ -28,8 +39,8 @@ looked_replies desk f look_up (Ok found) asks (inr other) = let no = other.1 in 
 looked_replies desk f look_up (Err why) asks (inl is) = (subst (λ (w : Refusal). IsRefusedFor desk f (refusal_shown w)) (sym is.1) (inl tt), refl)
 looked_replies {B} desk f look_up (Err why) asks (inr other) =
     let no = other.1 in
-    let same : why ≡ refusals.NotYours = cc in
-    (subst (λ (w : Refusal). IsRefusedFor desk f (refusal_shown w)) (sym same) (inr (inr (refl, record { look_up = look_up; asks = asks; another = other.0 }))), refl)
+    let same : why ≡ other.0 = cc in
+    (subst (λ (w : Refusal). IsRefusedFor desk f (refusal_shown w)) (sym same) (turned_away desk f look_up other.0 asks other.2), refl)
 
 -- what is found is no longer than that may be
 pub looked_within : {B : Type 0} (desk : Desk) (from : ℕ) (look_up : LookUp) (found : Result (Found B) Refusal) → IsLookedUp desk from look_up found → IfOk found IsWithin

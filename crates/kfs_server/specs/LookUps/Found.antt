@@ -1,10 +1,12 @@
 -- What look-ups are answered from the state of a desk. Numbers are big-endian.
-use Rattle.std.specs.Prelude.{◌≡◌, ◌<◌, ◌≤◌, ◌+◌, ◌-◌, ◌==◌, ◌&&◌, nat_le, nat_lt, ℕ, Bool, true, false, List, [], ◌∷◌, ◌++◌, filter, length, take, drop, min, Option, Some, None, Ok, Err}
+use Rattle.std.specs.Prelude.{◌≡◌, ◌⊎◌, ◌<◌, ◌≤◌, ◌+◌, ◌-◌, ◌==◌, ◌&&◌, if◌then◌else◌, nat_le, nat_lt, ℕ, Bool, true, false, List, [], ◌∷◌, ◌++◌, filter, length, take, drop, min, Option, Some, None, Ok, Err}
 use Rattle.std.specs.Cmp.Lexicographic.{slice_cmp}
 use Rattle.std.specs.List.{flat_map}
 use Rattle.std.specs.Ordering.{is_lt, nat_cmp}
 use Rattle.std.specs.declared.cmp.Ordering.TheVariants.{Less}
+use Rattle.kfs_model.specs.Access.{Client}
 use Rattle.kfs_model.specs.Header.{Header}
+use Rattle.kfs_model.specs.Lease.{row_of}
 use Rattle.kfs_model.specs.Spelling.{byte, header_bytes, number32, number64}
 use Rattle.kfs_model.specs.Table.{get}
 use Rattle.kfs_model.specs.Tree.{NameTable, content_of, headers, target}
@@ -17,7 +19,8 @@ use Rattle.kfs_judge.specs.declared.access.AccessFault.TheVariants as faults
 use Rattle.kfs_desk.specs.Machine.{Desk}
 use Rattle.kfs_call.specs.Call.{lease_kind_bytes}
 use Rattle.kfs_lease.specs.LeaseLists.{Ascend, LeaseRow, listed_leases}
-use Rattle.kfs_server.specs.LookUps.LookUp.{LookUp, Node, State, Checkpoint, Find, Names, Read, Places, Leases}
+use Rattle.kfs_plan_maker.specs.PlanMade.{HasNoPlan, IsPlanMade}
+use Rattle.kfs_server.specs.LookUps.LookUp.{LookUp, Node, State, Checkpoint, Find, Names, Read, Places, Leases, Plan}
 
 -- the moment, how many rows the docket has, and how many places are free on each of the three tiers
 pub record Figures : Type 0 where
@@ -49,6 +52,10 @@ pub data Found : Type 0 where
   PlacesAre : (first second third : TierFigures) → Found
   -- leases of the sender, and whether it has more behind them
   LeasesAre : (more : Bool) (bytes : List ℕ) → Found
+  -- the plan of the log; none, where an entry has a fault; or that it is longer than a look-up is answered
+  PlanIs : (bytes : List ℕ) → Found
+  NoPlan : Found
+  PlanTooLong : Found
 
 -- ---- the encoding
 
@@ -86,6 +93,9 @@ found_bytes (NamesAre more bytes) = byte 6 ++ byte (more_byte more) ++ bytes
 found_bytes (BytesAre bytes) = byte 7 ++ bytes
 found_bytes (PlacesAre first second third) = byte 8 ++ (tier_bytes first ++ tier_bytes second ++ tier_bytes third)
 found_bytes (LeasesAre more bytes) = byte 9 ++ byte (more_byte more) ++ bytes
+found_bytes (PlanIs bytes) = byte 10 ++ byte 1 ++ bytes
+found_bytes NoPlan = byte 10 ++ byte 0
+found_bytes PlanTooLong = byte 10 ++ byte 2
 
 -- ---- names of a directory
 
@@ -173,7 +183,7 @@ figures_of desk = record { moment = desk.state.leases.moment; rows = length desk
 abbrev pub tier_of : Desk → (tier : ℕ) → TierFigures
 tier_of desk tier = record { size = tier_size desk.state.sizes tier; free = free_on desk tier }
 
--- the most bytes of a file, or of names, that one look-up is answered
+-- the most bytes of a file, of names, of leases or of a plan that one look-up is answered
 abbrev pub found_limit : ℕ
 found_limit = 65536
 
@@ -200,6 +210,24 @@ pub record AreLeases (desk : Desk) (client first limit : ℕ) (found : Found) : 
   pub held : AreFirst (filter (is_held desk.state.leases.moment client first) rows) (min limit found_limit) more bytes
   pub said : found ≡ LeasesAre more bytes
 
+-- ---- the plan of a log
+
+-- what is told of a plan
+abbrev pub plan_told : (plan : List ℕ) → Found
+plan_told plan = if nat_lt found_limit (length plan) then PlanTooLong else PlanIs plan
+
+-- of the client's log over the desk's tree a plan is told, such as `make_plan` makes
+pub record IsPlanTold (desk : Desk) (client : Client) (log : List ℕ) (found : Found) : Type 0 where
+  pub plan : List ℕ
+  pub made : IsPlanMade client desk.state.tree log plan
+  pub told : found ≡ plan_told plan
+
+-- so it is of the log of the client with this row, or it has none: an entry has a fault, though the client holds every
+-- node. Without a row the sender is no client
+abbrev pub IsPlanFound : Desk → Option Client → (log : List ℕ) → Found → Type 0
+IsPlanFound desk None log found = found ≡ Denied faults.UnknownClient
+IsPlanFound desk (Some client) log found = IsPlanTold desk client log found ⊎ (HasNoPlan client desk.state.tree log × (found ≡ NoPlan))
+
 -- the sender's look-up finds this at the desk. Where permission is asked, it is what `View::may_find`, `may_list` and
 -- `may_read` answer of the desk's state
 abbrev pub IsFound : Desk → (from : ℕ) → LookUp → Found → Type 0
@@ -213,3 +241,4 @@ IsFound desk from (Read file start count) found =
     IsFoundIf (permitted_by_state desk.state ReadBytes from file) (λ it. it ≡ BytesAre (take (min count found_limit) (drop start (content_of (get desk.state.tree.nodes file))))) found
 IsFound desk from Places found = found ≡ PlacesAre (tier_of desk 0) (tier_of desk 1) (tier_of desk 2)
 IsFound desk from (Leases first limit) found = AreLeases desk from first limit found
+IsFound desk from (Plan log) found = IsPlanFound desk (row_of desk.state.clients from) log found

@@ -3,12 +3,16 @@ use Rattle.std.specs.Prelude.{ℕ, List, [], ◌∷◌, Option, Some, None, ◌=
 use Rattle.kfs_model.specs.Steps.{◌>>=◌}
 use Rattle.kfs_model.specs.Spelling.{is_name}
 use Rattle.kfs_model.proofs.Reading.{byte_read, number32_read, number64_read}
-use Rattle.kfs_server.specs.LookUps.LookUp.{LookUp, Node, State, Checkpoint, Find, Names, Read, Places, Leases}
+use Rattle.kfs_server.specs.LookUps.LookUp.{LookUp, Node, State, Checkpoint, Find, Names, Read, Places, Leases, Plan}
 
--- the look-up, where nothing stands behind it
+-- nothing stands behind it
+abbrev pub at_end : List ℕ → Option (Unit {0})
+at_end [] = Some tt
+at_end (b ∷ bytes) = None
+
+-- the look-up, if so
 abbrev pub ended : List ℕ → LookUp → Option LookUp
-ended [] look_up = Some look_up
-ended (b ∷ bytes) look_up = None
+ended bytes look_up = at_end bytes >>= λ end. Some look_up
 
 abbrev pub node_read : List ℕ → Option LookUp
 node_read bytes = number32_read bytes >>= λ f. ended f.1 (Node f.0)
@@ -34,6 +38,10 @@ read_read bytes = number32_read bytes >>= λ f. number64_read f.1 >>= λ g. numb
 abbrev pub leases_read : List ℕ → Option LookUp
 leases_read bytes = number32_read bytes >>= λ f. number32_read f.1 >>= λ g. ended g.1 (Leases f.0 g.0)
 
+-- all that is left is the log
+abbrev pub plan_read : List ℕ → Option LookUp
+plan_read bytes = Some (Plan bytes)
+
 abbrev pub tagged_read : (tag : ℕ) → List ℕ → Option LookUp
 tagged_read tag bytes =
     if tag == 64 then node_read bytes
@@ -44,6 +52,7 @@ tagged_read tag bytes =
     else if tag == 69 then read_read bytes
     else if tag == 70 then ended bytes Places
     else if tag == 71 then leases_read bytes
+    else if tag == 72 then plan_read bytes
     else None
 
 abbrev pub look_up_read : List ℕ → Option LookUp

@@ -20,6 +20,7 @@ look_up_shown (look_ups.Names directory limit after) = spelled.Names directory l
 look_up_shown (look_ups.Read file start count) = spelled.Read file start count
 look_up_shown look_ups.Places = spelled.Places
 look_up_shown (look_ups.Leases first limit) = spelled.Leases first limit
+look_up_shown (look_ups.Plan log) = spelled.Plan log.now
 
 abbrev pub figures_shown : Figures → finding.Figures
 figures_shown figures =
@@ -39,6 +40,9 @@ module _ {B : Type 0} where
   found_shown (founds.BytesAre bytes) = finding.BytesAre bytes.items
   found_shown (founds.PlacesAre first second third) = finding.PlacesAre (tier_shown first) (tier_shown second) (tier_shown third)
   found_shown (founds.LeasesAre more bytes) = finding.LeasesAre more bytes.items
+  found_shown (founds.PlanIs bytes) = finding.PlanIs bytes.items
+  found_shown founds.NoPlan = finding.NoPlan
+  found_shown founds.PlanTooLong = finding.PlanTooLong
 
   -- what is said behind its fixed part
   abbrev pub tail_of : Found B → List ℕ
@@ -51,6 +55,9 @@ module _ {B : Type 0} where
   tail_of (founds.BytesAre bytes) = bytes.items
   tail_of (founds.PlacesAre first second third) = []
   tail_of (founds.LeasesAre more bytes) = bytes.items
+  tail_of (founds.PlanIs bytes) = bytes.items
+  tail_of founds.NoPlan = []
+  tail_of founds.PlanTooLong = []
 
   -- that has at most as many bytes as a look-up is answered
   abbrev pub IsWithin : Found B → Type 0

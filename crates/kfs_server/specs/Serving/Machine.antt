@@ -11,8 +11,8 @@ use Rattle.kfs_server.specs.Frames.Frame.{Frame}
 use Rattle.kfs_server.specs.LookUps.LookUp.{LookUp, AsksLookUp, MayAsk}
 use Rattle.kfs_server.specs.LookUps.Found as finding
 use Rattle.kfs_server.specs.LookUps.Found.{IsFound}
-use Rattle.kfs_server.specs.Asking.{Asks, AsksForAnother, IsBad}
-use Rattle.kfs_server.specs.Replies.Reply.{Refusal, DocketFull, NotYours, Reply, Answered, Refused, Found}
+use Rattle.kfs_server.specs.Asking.{Asks, AsksForAnother, AsksOfNoLog, IsBad}
+use Rattle.kfs_server.specs.Replies.Reply.{Refusal, BadField, DocketFull, NotYours, Reply, Answered, Refused, Found}
 
 -- the frame's call is its sender's own; it is made on the desk, and this is its answer
 pub record IsMadeFor (desk : Desk) (f : Frame) (answer : AnswerRow) (next : Desk) : Type 0 where
@@ -30,9 +30,11 @@ pub record IsFoundFor (desk : Desk) (f : Frame) (found : finding.Found) : Type 0
   pub yours : MayAsk look_up f.from
   pub is : IsFound desk f.from look_up found
 
--- the frame is refused for a reason that is right: it is bad, the docket is full, or its look-up isn't its sender's
+-- the frame is refused for a reason that is right: it is bad, the docket is full, or its look-up isn't its sender's or is
+-- of no log
 abbrev pub IsRefusedFor : Desk → Frame → Refusal → Type 0
-IsRefusedFor desk f refusal = IsBad f refusal ⊎ ((refusal ≡ DocketFull) × (length desk.docket ≡ desk.limit)) ⊎ ((refusal ≡ NotYours) × AsksForAnother f)
+IsRefusedFor desk f refusal =
+    IsBad f refusal ⊎ ((refusal ≡ DocketFull) × (length desk.docket ≡ desk.limit)) ⊎ ((refusal ≡ NotYours) × AsksForAnother f) ⊎ ((refusal ≡ BadField 0) × AsksOfNoLog f)
 
 -- the desk may reply this to the frame, and goes on to the next one; a frame that is refused changes nothing, and nor
 -- does a look-up

@@ -8,7 +8,7 @@ use kfs_judge::AccessFault;
 use kfs_types::Header;
 use std::alloc::Allocator;
 
-/// The most bytes of a file, of names or of leases that one look-up is answered.
+/// The most bytes of a file, of names, of leases or of a plan that one look-up is answered.
 pub const FOUND_LIMIT: usize = 65_536;
 
 /// The figures of a desk.
@@ -56,6 +56,12 @@ pub enum Found<B: Allocator> {
     PlacesAre(TierFigures, TierFigures, TierFigures),
     /// 9: leases of the sender, as bytes; and whether it has more behind them.
     LeasesAre { more: bool, bytes: Vec<u8, B> },
+    /// 10, 1: the plan of the log.
+    PlanIs(Vec<u8, B>),
+    /// 10, 0: an entry of the log has a fault, whatever leases its client holds.
+    NoPlan,
+    /// 10, 2: the plan has more than `FOUND_LIMIT` bytes.
+    PlanTooLong,
 }
 
 /// What of a list is answered, as bytes, and whether there is more.

@@ -13,7 +13,7 @@ use std::alloc::Allocator;
 
 /// What a frame asks that makes no call of a desk.
 #[derive(Clone, Copy, Debug, PartialEq, Eq)]
-pub enum LookUp {
+pub enum LookUp<'a> {
     /// 40: the header of the node with this number.
     Node {
         number: u32,
@@ -46,20 +46,24 @@ pub enum LookUp {
         first: u32,
         limit: u32,
     },
+    /// 48: the plan of the sender's own log, whose bytes these are.
+    Plan {
+        log: &'a [u8],
+    },
 }
 
 /// The look-up that these bytes are, with nothing behind it. None where they are none's.
-pub fn look_up_of(body: &[u8]) -> Option<LookUp>
-    ensures some { IfSome result (λ look_up. (body.now ≡ look_up_bytes (look_up_shown look_up)) × IsLookUp (look_up_shown look_up)) }
-    ensures none { IsNone result → IsNoLookUp body.now }
+pub fn look_up_of(body: &[u8]) -> Option<LookUp<'_>>
+    ensures some { IfSome result (λ look_up. (body.entry.now ≡ look_up_bytes (look_up_shown look_up)) × IsLookUp (look_up_shown look_up)) }
+    ensures none { IsNone result → IsNoLookUp body.entry.now }
 {
     read_look_up(body)
 }
 
 /// The look-up that the frame asks for. None where its body is no look-up's, or isn't kept.
-pub(crate) fn look_up_in<A: Allocator>(incoming: &Incoming<A>) -> Option<LookUp>
-    ensures some { IfSome result (λ look_up. (f : Frame) → IsFrameOf incoming.now f → AsksLookUp f (look_up_shown look_up)) }
-    ensures none { IsNone result → HasNoLookUp incoming.now }
+pub(crate) fn look_up_in<A: Allocator>(incoming: &Incoming<A>) -> Option<LookUp<'_>>
+    ensures some { IfSome result (λ look_up. (f : Frame) → IsFrameOf incoming.entry.now f → AsksLookUp f (look_up_shown look_up)) }
+    ensures none { IsNone result → HasNoLookUp incoming.entry.now }
 {
     match &incoming.body {
         Ok(body) => look_up_of(body),

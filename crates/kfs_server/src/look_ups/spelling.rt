@@ -44,13 +44,15 @@ pub fn spell_found_head<B: Allocator>(
     out
 }
 
-/// The bytes of a file, of names or of leases. Of else nothing.
+/// The bytes of a file, of names, of leases or of a plan. Of else nothing.
 pub fn found_tail<B: Allocator>(found: &Found<B>) -> &[u8]
     ensures { result.now ≡ tail_of found.now }
 {
     match found {
-        Found::NamesAre { bytes, .. } | Found::BytesAre(bytes) | Found::LeasesAre { bytes, .. } =>
-            bytes,
+        Found::NamesAre { bytes, .. }
+        | Found::BytesAre(bytes)
+        | Found::LeasesAre { bytes, .. }
+        | Found::PlanIs(bytes) => bytes,
         _ => &[],
     }
 }
@@ -69,6 +71,9 @@ fn finding<B: Allocator>(found: &Found<B>) -> ArrayVec<u8, FINDING_LIMIT>
         Found::BytesAre(_) => tagged(7),
         Found::PlacesAre(first, second, third) => places_finding(first, second, third),
         Found::LeasesAre { more, .. } => tagged_byte(9, flag(*more)),
+        Found::PlanIs(_) => tagged_byte(10, 1),
+        Found::NoPlan => tagged_byte(10, 0),
+        Found::PlanTooLong => tagged_byte(10, 2),
     }
 }
 

@@ -1,9 +1,10 @@
 //! What a frame is replied.
 ghost use Rattle.std.specs.Prelude.{◌≡◌};
-ghost use Rattle.kfs_server.specs.Replies.Refusals.{refusal_for_body, refusal_for_fields};
+ghost use Rattle.kfs_server.specs.Replies.Refusals.{refusal_for_body, refusal_for_fields, refusal_for_log};
 ghost use Rattle.kfs_server.specs.declared.replies.reply.Refusal.TheVariants as refusals;
 
 use kfs_call::{AnswerRow, BodyFault, FieldFault};
+use kfs_entry::SpellFault;
 use std::alloc::AllocError;
 use thiserror::Error;
 
@@ -60,6 +61,17 @@ impl From<FieldFault> for Refusal {
             FieldFault::BadField(index) => Refusal::BadField(index),
             FieldFault::Trailing => Refusal::Trailing,
             FieldFault::OutOfMemory => Refusal::OutOfMemory,
+        }
+    }
+}
+
+impl From<SpellFault> for Refusal {
+    ghost from_gives = { λ fault why. why ≡ refusal_for_log fault };
+
+    fn from(fault: SpellFault) -> Refusal {
+        match fault {
+            SpellFault::OutOfMemory => Refusal::OutOfMemory,
+            _ => Refusal::BadField(0),
         }
     }
 }

@@ -6,10 +6,9 @@ ghost use Rattle.kfs_kept.specs.Keeping.{IsKept};
 ghost use Rattle.kfs_kept.specs.Standing.{StandFor};
 ghost use Rattle.kfs_program_text.specs.Streams.{IsWritten, Writes};
 ghost use Rattle.kfs_server.specs.Frames.Begun.{IsFrameOf};
-ghost use Rattle.kfs_call.specs.Asking.{front};
 ghost use Rattle.kfs_server.specs.Frames.Frame.{Frame};
 ghost use Rattle.kfs_server.specs.LookUps.LookUp as asked;
-ghost use Rattle.kfs_server.specs.LookUps.LookUp.{AsksLookUp, MayAsk};
+ghost use Rattle.kfs_server.specs.LookUps.LookUp.{AsksLookUp};
 ghost use Rattle.kfs_server.specs.LookUps.Views.{IsWithin, found_shown, look_up_shown};
 ghost use Rattle.kfs_server.specs.Replies.Reply as spelled;
 ghost use Rattle.kfs_server.specs.Replies.Reply.{reply_bytes};
@@ -19,12 +18,12 @@ ghost use Rattle.kfs_server.specs.declared.serving.fault.GroupFault.TheVariants 
 ghost use Rattle.kfs_server.specs.declared.serving.fault.ServeFault.TheVariants as faults;
 
 use crate::look_ups::{
-    Found, LookUp, figures_now, found_bytes, found_leases, found_names, found_number, found_tail,
-    spell_found_head, tier_now,
+    Found, LookUp, figures_now, found_bytes, found_leases, found_names, found_number, found_plan,
+    found_tail, may_ask, spell_found_head, tier_now,
 };
 use crate::replies::{NumberedReply, Refusal, Reply, spell_reply};
 use crate::serving::fault::{GroupFault, ServeFault};
-use kfs_call::{FRONT, Incoming};
+use kfs_call::Incoming;
 use kfs_desk::Desk;
 use kfs_journal::Disk;
 use kfs_kept::{Kept, SaveFault};
@@ -37,7 +36,7 @@ pub fn answer_look_up<A, B, C, D, O>(
     alloc: B,
     kept: &mut Kept<A, D>,
     incoming: &Incoming<C>,
-    look_up: &LookUp,
+    look_up: &LookUp<'_>,
     writer: &mut O,
 ) -> Result<(), ServeFault>
 where
@@ -109,7 +108,7 @@ fn look<A: Allocator + Copy, B: Allocator + Copy, D: Disk + Drop>(
     alloc: B,
     kept: &mut Kept<A, D>,
     from: u32,
-    look_up: &LookUp,
+    look_up: &LookUp<'_>,
 ) -> Result<Result<Found<B>, Refusal>, GroupFault>
     requires kept { IsKept D.seen D.may_leave kept.old }
     requires open { IsTrue kept.old.is_open }
@@ -120,8 +119,8 @@ fn look<A: Allocator + Copy, B: Allocator + Copy, D: Disk + Drop>(
     ensures found { IfOk result (IsLookedUp kept.old.desk from (look_up_shown look_up.now)) }
     ensures any_moment { LeavesOnly D.moment D.left_since kept.old.disk kept.new.disk (λ c. StandFor c kept.old.desk.state) }
 {
-    if !may_ask(look_up, from) {
-        return Ok(Err(Refusal::NotYours));
+    if let Err(why) = may_ask(alloc, look_up, from) {
+        return Ok(Err(why));
     }
     match look_up {
         LookUp::Checkpoint => begin_anew(alloc, kept),
@@ -134,7 +133,7 @@ fn look_at<A: Allocator + Copy, B: Allocator + Copy>(
     alloc: B,
     desk: &Desk<A>,
     from: u32,
-    look_up: &LookUp,
+    look_up: &LookUp<'_>,
 ) -> Result<Found<B>, Refusal>
     ensures { IsSought desk.now from (look_up_shown look_up.now) result }
 {
@@ -157,6 +156,7 @@ fn look_at<A: Allocator + Copy, B: Allocator + Copy>(
             tier_now(desk, 2),
         )),
         LookUp::Leases { first, limit } => found_leases(alloc, desk, from, *first, *limit),
+        LookUp::Plan { log } => found_plan(alloc, desk, from, log),
     }
 }
 
@@ -194,15 +194,5 @@ fn open_desk<A: Allocator + Copy, D: Disk + Drop>(kept: &Kept<A, D>) -> &Desk<A>
         Some(desk) => desk,
         // The condition says that it is open.
         None => unreachable!(),
-    }
-}
-
-/// Whether the look-up is the sender's to ask.
-fn may_ask(look_up: &LookUp, from: u32) -> bool
-    ensures { IsTrue result ↔ MayAsk (look_up_shown look_up.now) from }
-{
-    match look_up {
-        LookUp::State | LookUp::Checkpoint => from == FRONT,
-        _ => true,
     }
 }
