@@ -8,3 +8,6 @@ mod OneState
 mod Unanswered
 mod Due
 mod UnderWay
+mod SameClients
+mod KnownClients
+mod Admitted

@@ -4,3 +4,4 @@ pub mod Standing
 pub mod Renewing
 pub mod Keeping
 pub mod Faults
+pub mod Admitting

@@ -1,9 +1,11 @@
 //! Why calls aren't answered, a state isn't kept, and files aren't opened.
 ghost use Rattle.std.specs.Prelude.{◌≡◌};
 ghost use Rattle.kfs_kept.specs.Faults.{of_encoding, of_journal};
+ghost use Rattle.kfs_kept.specs.declared.fault.AdmitFault.TheVariants as admitting;
 ghost use Rattle.kfs_kept.specs.declared.fault.CallsFault.TheVariants as calls;
 
 use kfs_call_desk::{EncodeFault, RestoreFault};
+use kfs_desk::BeginFault;
 use kfs_journal::JournalFault;
 use std::alloc::{AllocError, AllocFailed};
 use thiserror::Error;
@@ -85,6 +87,29 @@ impl From<EncodeFault> for SaveFault {
             EncodeFault::TooMany => SaveFault::TooMany,
             EncodeFault::OutOfMemory => SaveFault::OutOfMemory,
         }
+    }
+}
+
+/// Why a desk doesn't go on with a list of clients.
+#[derive(Clone, Copy, Debug, PartialEq, Eq, Error)]
+pub enum AdmitFault {
+    /// The desk's client with this number isn't in the list as it is: it is left out, or is another one there. Nothing has
+    /// changed.
+    #[error("client {0} isn't in the list as it was")]
+    LeftOut(u32),
+    /// The list's clients can't be beside each other. Nothing has changed.
+    #[error("{0}")]
+    BadClients(BeginFault),
+    /// The state with the list's clients isn't kept. Nothing has changed but by `Failed`.
+    #[error("{0}")]
+    Unsaved(SaveFault),
+}
+
+impl From<EncodeFault> for AdmitFault {
+    ghost from_gives = { λ found fault. fault ≡ admitting.Unsaved (of_encoding found) };
+
+    fn from(found: EncodeFault) -> AdmitFault {
+        AdmitFault::Unsaved(SaveFault::from(found))
     }
 }
 

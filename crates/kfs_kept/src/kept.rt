@@ -2,10 +2,12 @@
 ghost use Rattle.std.specs.Prelude.{◌≡◌, ◌⊎◌, ◌≤◌, ◌+◌, ◌^◌, ◌↔◌, [], None, OnOk, OnErr, IfErr, IfOk, IfSome, IsErrOf, IsFalse, IsNone, IsSome, IsSomeAnd, IsTrue, length, map};
 ghost use Rattle.std.specs.List.{sum_by};
 ghost use Rattle.kfs_model.specs.Judgement.{State};
+ghost use Rattle.kfs_desk.specs.Machine.{opened_at};
 ghost use Rattle.kfs_desk.specs.Opening.{begin_fault};
 ghost use Rattle.kfs_journal.specs.Disk.{Files, LeavesOnly, Only};
 ghost use Rattle.kfs_journal.specs.Format.{meaning};
 ghost use Rattle.kfs_journal.specs.Journal.{AreEmpty, HasGrown};
+ghost use Rattle.kfs_kept.specs.Admitting.{Admits, IsWhyNotAdmitted, StandForAdmitted, with_clients};
 ghost use Rattle.kfs_kept.specs.Calls.Making.{Runs, answered};
 ghost use Rattle.kfs_call_desk.specs.Restore.Saved.{HasTooMany};
 ghost use Rattle.kfs_kept.specs.Faults.{IsOutside, IsWhy};
@@ -13,14 +15,16 @@ ghost use Rattle.kfs_kept.specs.Keeping.{IsKept};
 ghost use Rattle.kfs_kept.specs.Renewing.{Finishes, GoesOn, IsBegun, StaysOrEnds};
 ghost use Rattle.kfs_kept.specs.Standing.{HasLongBytes, MeanTheSame, StandFor, StandForAtMost, StandForBeforeOrAfter};
 
+use crate::admitting::{admission_of, are_same};
 use crate::calls::{Early, Judges, Made, judge_early, room_for};
-use crate::fault::{CallsFault, OpenFault, SaveFault};
+use crate::fault::{AdmitFault, CallsFault, OpenFault, SaveFault};
 use crate::opening::find;
 use crate::renewal::{Renewal, with_group};
 use crate::saving::{begin_journal, state_of};
 use kfs_call_desk::{CallFault, Called};
 use kfs_desk::Desk;
 use kfs_journal::{Disk, Journal, JournalFault};
+use kfs_mode::Client;
 use std::alloc::Allocator;
 use std::thread::Threads;
 
@@ -135,6 +139,71 @@ impl<A: Allocator + Copy, D: Disk + Drop> Kept<A, D> {
                 renewal: None,
             }),
             Err(why) => Err(OpenBack { disk, why }),
+        }
+    }
+
+    /// Goes on with other clients, which are those of the desk and new ones: `clients` takes the place of the desk's list. The
+    /// journal is begun anew in the other file, with that state and no group. Image, leases and moment stay. The docket is
+    /// empty then, and will have at most `limit` rows.
+    ///
+    /// The list has to have each client of the desk as it is, in whatever order. What a new client is granted may be numbers
+    /// of nodes that are there, as where a desk is begun. False where the list is the desk's own: nothing is written then.
+    ///
+    /// It takes memory for the state's bytes, and for a second desk. A checkpoint that is under way is given up. `Err`
+    /// leaves all as it was, unless the disk has failed.
+    pub fn admit(
+        &mut self,
+        rt: &(impl Threads + Sync),
+        alloc: A,
+        clients: &[Client],
+        limit: u32,
+    ) -> Result<bool, AdmitFault>
+        requires kept { IsKept D.seen D.may_leave self.old }
+        ensures kept { IsKept D.seen D.may_leave self.new }
+        ensures open { OnOk result (IsTrue self.new.is_open) }
+
+        // The clients can be, and take the place of those that were there. Nothing else of the state changes.
+        ensures admits { OnOk result (Admits self.old.desk.state.clients clients.now) }
+        ensures state { OnOk result (self.new.desk.state ≡ with_clients self.old.desk.state clients.now) }
+        ensures begun { IfOk result (λ made. IsTrue made → self.new.desk ≡ opened_at (with_clients self.old.desk.state clients.now) limit) }
+        ensures short { IfOk result (λ made. IsTrue made → IfSome (meaning (D.seen self.new.disk)) (λ kept. kept.1 ≡ [])) }
+        ensures over { IfOk result (λ made. IsTrue made → IsNone self.new.renewal) }
+
+        // Where the list is the desk's own, nothing changes.
+        ensures due { IfOk result (λ made. IsFalse made ↔ (clients.now ≡ self.old.desk.state.clients)) }
+        ensures idle { IfOk result (λ made. IsFalse made → self.new ≡ self.old) }
+
+        // A crash at any moment leaves the state with the clients that were there; or, where the list admits, that with its own.
+        ensures any_moment { IsTrue self.old.is_open → LeavesOnly D.moment D.left_since self.old.disk self.new.disk
+            (StandForAdmitted self.old.desk.state clients.now) }
+
+        // It doesn't give up by itself.
+        ensures closed { IsErrOf result (AdmitFault.Unsaved SaveFault.Closed) ↔ IsFalse self.old.is_open }
+        ensures why { IfErr result (IsWhyNotAdmitted self.old.desk.state clients.now) }
+        ensures full { IsErrOf result (AdmitFault.Unsaved SaveFault.Full) → HasLongBytes (with_clients self.old.desk.state clients.now) ⊎ (2 ^ 64 ≤ self.old.journal.number + 1) }
+        ensures failed { IsErrOf result (AdmitFault.Unsaved SaveFault.Failed) → IsFalse self.new.is_open × IsTrue (D.has_failed self.new.disk) }
+        ensures same { IfErr result (λ why. (why ≡ AdmitFault.Unsaved SaveFault.Failed) ⊎ (self.new ≡ self.old)) }
+    {
+        if !self.is_open {
+            return Err(AdmitFault::Unsaved(SaveFault::Closed));
+        }
+        if are_same(clients, self.desk.clients()) {
+            return Ok(false);
+        }
+        let made = admission_of(rt, alloc, &self.desk, clients, limit)?;
+        match self.journal.change(alloc, &mut self.disk, &made.state) {
+            Ok(()) => {
+                self.desk = made.desk;
+                // A checkpoint's file is the one that counts now.
+                self.renewal = None;
+                Ok(true)
+            }
+            Err(JournalFault::OutOfMemory) => Err(AdmitFault::Unsaved(SaveFault::OutOfMemory)),
+            Err(JournalFault::Full) => Err(AdmitFault::Unsaved(SaveFault::Full)),
+            Err(JournalFault::Failed) => {
+                self.is_open = false;
+                Err(AdmitFault::Unsaved(SaveFault::Failed))
+            }
         }
     }
 

@@ -42,15 +42,21 @@ pub record NamesJudges (words : Words) (count judges : ℕ) : Type 0 where
 abbrev pub AsksForJudges : (words : Words) → (count judges : ℕ) → Type 0
 AsksForJudges words count judges = ((length words ≡ count) × (judges ≡ 1)) ⊎ NamesJudges words count judges
 
+-- nothing; or `--clients FILE` behind `open FOLDER LIMIT`; and then the judges
+abbrev pub AsksForClients : (words : Words) → (admitted : Option (Bor (List ℕ))) → (judges : ℕ) → Type 0
+AsksForClients words None judges = AsksForJudges words 4 judges
+AsksForClients words (Some file) judges = (word_at words 4 ≡ codes "--clients") × (word_at words 5 ≡ file.now) × AsksForJudges words 6 judges
+
 -- `open FOLDER LIMIT`
 pub record AsksToOpen (words : Words) (asked : Asked) : Type 0 where
-  pub judges : AsksForJudges words 4 asked.judges
+  pub admitted : AsksForClients words asked.admitted asked.judges
   pub name : word_at words 1 ≡ codes "open"
   pub folder : word_at words 2 ≡ asked.folder.now
   pub limit : number_of (word_at words 3) ≡ Some asked.limit
 
 -- `new FOLDER LIMIT CLIENTS A B C`
 pub record AsksForNew (words : Words) (asked : Asked) (first : FirstStart) : Type 0 where
+  pub none_admitted : asked.admitted ≡ None
   pub judges : AsksForJudges words 8 asked.judges
   pub name : word_at words 1 ≡ codes "new"
   pub folder : word_at words 2 ≡ asked.folder.now

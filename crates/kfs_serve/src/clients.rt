@@ -1,4 +1,4 @@
-//! The clients of a first start, from the lines of a file.
+//! The clients of a desk, from the lines of a file.
 ghost use Rattle.std.specs.Prelude.{◌≡◌, Ok, Some, IfOk};
 ghost use Rattle.kfs_program_command.specs.Command.{Row, Setup, asked_by};
 ghost use Rattle.kfs_program_command.specs.Views.{opening_of};

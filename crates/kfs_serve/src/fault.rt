@@ -11,7 +11,7 @@ use thiserror::Error;
 #[derive(Clone, Copy, Debug, Error)]
 pub enum ProgramFault {
     /// The words ask for nothing.
-    #[error("usage: kfs_serve open FOLDER LIMIT [--judges N] | new FOLDER LIMIT CLIENTS A B C [--judges N]")]
+    #[error("usage: kfs_serve open FOLDER LIMIT [--clients FILE] [--judges N] | new FOLDER LIMIT CLIENTS A B C [--judges N]")]
     Usage,
     /// The file of clients can't be read.
     #[error("the clients can't be read: {0}")]

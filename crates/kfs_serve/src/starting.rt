@@ -8,7 +8,8 @@ use crate::words::{Asked, FirstStart, asked_of};
 use kfs_desk::{BeginFault, Desk};
 use kfs_image::Image;
 use kfs_journal_files::{OpenedFiles, create_files, open_files};
-use kfs_server::{Judges, run_new, run_opened};
+use kfs_mode::Client;
+use kfs_server::{Judges, run_admitting, run_new, run_opened};
 use std::alloc::Global;
 use std::io::{Read, Write};
 use std::thread::Threads;
@@ -36,7 +37,7 @@ pub fn run<T: Threads + Sync, I: Read, O: Write>(
     }
 }
 
-/// Opens the two files of the folder, and serves their desk.
+/// Opens the two files of the folder, and serves their desk, with the clients of a file if the words name one.
 fn serve_files<T: Threads + Sync, I: Read, O: Write>(
     rt: &HostRuntime,
     judges: &Judges<'_, T>,
@@ -44,13 +45,23 @@ fn serve_files<T: Threads + Sync, I: Read, O: Write>(
     reader: &mut I,
     writer: &mut O,
 ) -> Result<(), ProgramFault> {
+    // The clients come first, so that no file is opened where a line is refused.
+    let admitted = match asked.admitted {
+        None => None,
+        Some(path) => Some(clients_of(rt, path)?),
+    };
     let OpenedFiles {
         disk,
         first,
         second,
     } = open_files(rt, asked.folder)?;
-    let files = (first, second);
-    run_opened(judges, rt.alloc(), disk, files, asked.limit, reader, writer)?;
+    let (alloc, files, limit) = (rt.alloc(), (first, second), asked.limit);
+    match admitted {
+        None => run_opened(judges, alloc, disk, files, limit, reader, writer)?,
+        Some(clients) => run_admitting(
+            judges, alloc, disk, files, &clients, limit, reader, writer,
+        )?,
+    }
     Ok(())
 }
 
@@ -78,8 +89,7 @@ fn new_desk(
 ) -> Result<Desk<Global>, ProgramFault>
     ensures { IfOk result (λ desk. begin_fault desk.state.clients ≡ None) }
 {
-    let text = clients_text(rt, first.clients)?;
-    let clients = clients_in(rt.alloc(), &text)?;
+    let clients = clients_of(rt, first.clients)?;
     let image = Image::fresh(rt.alloc(), first.sizes)?;
     match Desk::begin(rt.alloc(), image, clients, limit) {
         Ok(desk) => Ok(desk),
@@ -92,6 +102,12 @@ fn begin_refused(why: BeginFault) -> ProgramFault {
         BeginFault::OutOfMemory => ProgramFault::OutOfMemory,
         why => ProgramFault::BadClients(why),
     }
+}
+
+/// The clients of the lines of a file.
+fn clients_of(rt: &HostRuntime, path: &str) -> Result<Vec<Client>, ProgramFault> {
+    let text = clients_text(rt, path)?;
+    clients_in(rt.alloc(), &text)
 }
 
 /// The file of the clients.

@@ -24,12 +24,14 @@ pub struct Asked<'a> {
     pub limit: u32,
     /// What a first start takes; none where the files are there.
     pub first: Option<FirstStart<'a>>,
+    /// The file of the clients with which the desk of the files goes on; none where it goes on with its own.
+    pub admitted: Option<&'a str>,
     /// In how many threads the submissions of a group are judged, 1 to 8.
     pub judges: usize,
 }
 
-/// What the words ask for: `open FOLDER LIMIT` or `new FOLDER LIMIT CLIENTS A B C`, and behind each `--judges N` or nothing,
-/// which stands for one judge. The first word is the program's name.
+/// What the words ask for: `open FOLDER LIMIT`, `open FOLDER LIMIT --clients FILE` or `new FOLDER LIMIT CLIENTS A B C`, and
+/// behind each `--judges N` or nothing, which stands for one judge. The first word is the program's name.
 pub fn asked_of<'a>(words: &[&'a str]) -> Option<Asked<'a>>
     ensures { IfSome result (λ asked. IsAskedFor words.now asked) }
 {
@@ -38,12 +40,37 @@ pub fn asked_of<'a>(words: &[&'a str]) -> Option<Asked<'a>>
             folder,
             limit: number_in(limit)?,
             first: None,
+            admitted: None,
             judges: 1,
         }),
         [_, "open", folder, limit, "--judges", judges] => Some(Asked {
             folder,
             limit: number_in(limit)?,
             first: None,
+            admitted: None,
+            judges: judges_in(judges)?,
+        }),
+        [_, "open", folder, limit, "--clients", clients] => Some(Asked {
+            folder,
+            limit: number_in(limit)?,
+            first: None,
+            admitted: Some(clients),
+            judges: 1,
+        }),
+        [
+            _,
+            "open",
+            folder,
+            limit,
+            "--clients",
+            clients,
+            "--judges",
+            judges,
+        ] => Some(Asked {
+            folder,
+            limit: number_in(limit)?,
+            first: None,
+            admitted: Some(clients),
             judges: judges_in(judges)?,
         }),
         [_, "new", folder, limit, clients, first, second, third] => {
@@ -53,6 +80,7 @@ pub fn asked_of<'a>(words: &[&'a str]) -> Option<Asked<'a>>
                 folder,
                 limit,
                 first: Some(FirstStart { clients, sizes }),
+                admitted: None,
                 judges: 1,
             })
         }
@@ -74,6 +102,7 @@ pub fn asked_of<'a>(words: &[&'a str]) -> Option<Asked<'a>>
                 folder,
                 limit,
                 first: Some(FirstStart { clients, sizes }),
+                admitted: None,
                 judges: judges_in(judges)?,
             })
         }

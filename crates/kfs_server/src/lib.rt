@@ -21,4 +21,6 @@ pub use look_ups::{
     spell_found_head,
 };
 pub use replies::{NumberedReply, REPLY_LIMIT, Refusal, Reply, spell_reply, write_replies};
-pub use serving::{GroupFault, RunFault, ServeFault, exit_status, run_new, run_opened, serve};
+pub use serving::{
+    GroupFault, RunFault, ServeFault, exit_status, run_admitting, run_new, run_opened, serve,
+};

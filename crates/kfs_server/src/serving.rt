@@ -11,5 +11,5 @@ mod running;
 mod session;
 
 pub use self::fault::{GroupFault, RunFault, ServeFault};
-pub use self::running::{exit_status, run_new, run_opened};
+pub use self::running::{exit_status, run_admitting, run_new, run_opened};
 pub use self::session::serve;

@@ -6,21 +6,21 @@
 use crate::desk::{Answer, Blocks, Desk, LeaseRefusal, RowPart, Unanswered, Wanted, Wish, Wrong};
 use crate::entry::Kind;
 use crate::fault::Reason;
+use crate::line::Line;
 use crate::name::Name;
 use crate::node::Header;
-use crate::shown::{Shown, Unshown};
+use crate::shown::{Ahead, FoundAhead, Shown, Unshown};
 use crate::wants::Wants;
 use std::collections::hash_map::RandomState;
+use std::collections::VecDeque;
 use std::hash::{BuildHasher, Hasher};
-use std::io::{self, Read, Write};
+use std::io::{self, Write};
 use std::os::unix::net::UnixStream;
 use std::path::{Path, PathBuf};
 use std::thread::sleep;
 use std::time::{Duration, Instant};
 use thiserror::Error;
 
-/// The most bytes of a reply behind its head.
-const REPLY_LIMIT: u32 = 1 << 24;
 /// The body that asks kfsd who the client is, and the tag of its answer.
 const HELLO: u8 = 0xf0;
 /// The same of the moment.
@@ -50,6 +50,11 @@ const NAME_ROOM: usize = 260;
 const AT_ONCE: usize = 8;
 /// How many calls for leases are. kfsd takes 64 frames of a connection.
 const LEASES_AT_ONCE: usize = 32;
+/// How many look-ups that nobody waits for are under way at most, beside those.
+const AHEAD_AT_ONCE: usize = 24;
+/// A frame of more bytes is sent only when no such look-up is under way: kfsd may wait with reading it until their replies are
+/// read.
+const SHORT_FRAME: usize = 4096;
 /// The tags of calls for a lease.
 const LEASE_BY_PATH: u8 = 2;
 const LEASE_BY_NUMBER: u8 = 6;
@@ -151,7 +156,7 @@ struct Clock {
 #[derive(Debug)]
 pub struct Connection {
     path: PathBuf,
-    stream: Option<UnixStream>,
+    line: Option<Line>,
     client: u32,
     grant: [u32; 2],
     number: u32,
@@ -162,6 +167,9 @@ pub struct Connection {
     wants: Option<Wants>,
     /// How long what isn't answered is asked again.
     again: Duration,
+    /// The frames of look-ups that were asked for ahead, with their numbers there, and what has come of others.
+    ahead: VecDeque<(u32, u64)>,
+    told: Vec<(u64, FoundAhead)>,
 }
 
 impl Connection {
@@ -170,7 +178,7 @@ impl Connection {
         let random = RandomState::new().build_hasher().finish();
         let mut connection = Connection {
             path: path.into(),
-            stream: None,
+            line: None,
             client,
             grant: [0, 0],
             number: 0,
@@ -178,6 +186,8 @@ impl Connection {
             next_call: random & !u64::from(u32::MAX),
             wants: None,
             again: AGAIN,
+            ahead: VecDeque::new(),
+            told: Vec::new(),
         };
         connection.grant = connection.hello()?;
         Ok(connection)
@@ -200,12 +210,14 @@ impl Connection {
 
     /// Closes the connection. The next call connects anew.
     pub fn break_off(&mut self) {
-        self.stream = None;
+        self.line = None;
+        // Who wants what was asked for ahead asks for it anew.
+        self.told.extend(self.ahead.drain(..).map(|(_, ahead)| (ahead, FoundAhead::Nothing)));
     }
 
     fn hello(&mut self) -> Result<[u32; 2], Unconnected> {
-        let mut stream = UnixStream::connect(&self.path)?;
-        let grant = match exchange(&mut stream, self.number, self.client, &[HELLO])? {
+        let mut line = Line::new(UnixStream::connect(&self.path)?);
+        let grant = match exchange(&mut line, self.number, self.client, &[HELLO])? {
             Some(Reply::Welcome(client, grant)) if client == self.client => grant,
             Some(Reply::Welcome(..) | Reply::Refused(5)) => return Err(Unconnected::Another),
             Some(Reply::Refused(130)) => return Err(Unconnected::Unlisted),
@@ -214,7 +226,7 @@ impl Connection {
             _ => return Err(Unconnected::Nonsense),
         };
         let asked_at = Instant::now();
-        self.clock = match exchange(&mut stream, self.number, self.client, &[MOMENT])? {
+        self.clock = match exchange(&mut line, self.number, self.client, &[MOMENT])? {
             Some(Reply::Moment(moment, longest)) => Some(Clock { moment, asked_at, longest }),
             _ => None,
         };
@@ -222,48 +234,107 @@ impl Connection {
             Some(_) => Some(Wants::ask(&self.path, self.client)?),
             None => None,
         };
-        self.stream = Some(stream);
+        self.line = Some(line);
         Ok(grant)
     }
 
     /// Connects anew, where the connection is gone.
-    fn stream(&mut self) -> io::Result<&mut UnixStream> {
-        if self.stream.is_none() {
+    fn connect(&mut self) -> io::Result<()> {
+        if self.line.is_none() {
             let told = self.hello().map_err(|fault| io::Error::new(io::ErrorKind::NotConnected, fault))?;
             if told != self.grant {
-                self.stream = None;
+                self.break_off();
                 return Err(io::Error::new(io::ErrorKind::NotConnected, Unconnected::Another));
             }
         }
-        self.stream.as_mut().ok_or_else(|| io::ErrorKind::NotConnected.into())
+        Ok(())
+    }
+
+    fn line(&mut self) -> io::Result<&mut Line> {
+        self.line.as_mut().ok_or_else(|| io::ErrorKind::NotConnected.into())
     }
 
     /// Sends a frame, and waits for its reply.
     fn ask(&mut self, body: &[u8]) -> Result<Reply, Unshown> {
-        self.number = self.number.wrapping_add(1);
-        let (number, client) = (self.number, self.client);
-        let told = self.stream().and_then(|stream| exchange(stream, number, client, body));
+        let told = self.exchange_all(std::slice::from_ref(&body));
         if told.is_err() {
-            self.stream = None;
+            self.break_off();
         }
-        told?.ok_or_else(|| nonsense(body))
+        told?.pop().flatten().ok_or_else(|| nonsense(body))
     }
 
     /// Sends frames at once, and waits for the replies to all.
     fn ask_all(&mut self, bodies: &[Vec<u8>]) -> Result<Vec<Reply>, Unshown> {
-        let (first, client) = (self.number.wrapping_add(1), self.client);
-        self.number = self.number.wrapping_add(bodies.len() as u32);
-        let numbers = (0..).map(|at| first.wrapping_add(at));
-        let frames: Vec<u8> =
-            bodies.iter().zip(numbers.clone()).flat_map(|(body, number)| frame(number, client, body)).collect();
-        let told = self.stream().and_then(|stream| {
-            stream.write_all(&frames)?;
-            numbers.take(bodies.len()).map(|number| receive(stream, number)).collect::<io::Result<Vec<_>>>()
-        });
+        let told = self.exchange_all(bodies);
         if told.is_err() {
-            self.stream = None;
+            self.break_off();
         }
         bodies.iter().zip(told?).map(|(body, reply)| reply.ok_or_else(|| nonsense(body))).collect()
+    }
+
+    /// Sends frames, and reads their replies. None where that is no reply.
+    fn exchange_all<T: AsRef<[u8]>>(&mut self, bodies: &[T]) -> io::Result<Vec<Option<Reply>>> {
+        self.connect()?;
+        let first = self.number.wrapping_add(1);
+        self.number = self.number.wrapping_add(bodies.len() as u32);
+        let numbers = (0..bodies.len() as u32).map(|at| first.wrapping_add(at));
+        let client = self.client;
+        let frames: Vec<u8> =
+            bodies.iter().zip(numbers.clone()).flat_map(|(body, number)| frame(number, client, body.as_ref())).collect();
+        if frames.len() > SHORT_FRAME {
+            self.settle()?;
+        }
+        // Where kfsd refuses the connection it has said so before it closed: that can be read still.
+        let sent = self.line()?.stream.write_all(&frames);
+        let is_soon = bodies.first().map_or(false, |body| is_soon(body.as_ref()));
+        let mut replies = Vec::with_capacity(bodies.len());
+        for number in numbers {
+            let said = self.receive(number, is_soon)?;
+            if !is_unwelcome(&said) {
+                sent.as_ref().map_err(|fault| io::Error::from(fault.kind()))?;
+            }
+            replies.push(reply_of(&said));
+        }
+        Ok(replies)
+    }
+
+    /// Reads the reply to a frame, behind those to look-ups that were asked for ahead of it.
+    fn receive(&mut self, number: u32, is_soon: bool) -> io::Result<Vec<u8>> {
+        loop {
+            let (replied, said) = self.line()?.next(is_soon)?;
+            if replied == number || is_unwelcome(&said) {
+                return Ok(said);
+            }
+            self.take_ahead(replied, &said, number)?;
+        }
+    }
+
+    /// Takes the reply to the look-up that was asked for first of those that are ahead.
+    fn take_ahead(&mut self, replied: u32, said: &[u8], number: u32) -> io::Result<()> {
+        match self.ahead.pop_front() {
+            Some((first, ahead)) if first == replied => {
+                self.told.push((ahead, found_ahead(said)));
+                Ok(())
+            }
+            first => {
+                self.ahead.extend(first);
+                let text = format!("the reply to frame {replied}, and not {number}");
+                Err(io::Error::new(io::ErrorKind::InvalidData, text))
+            }
+        }
+    }
+
+    /// Waits for what was asked for ahead, down to so many.
+    fn settle_to(&mut self, left: usize) -> io::Result<()> {
+        while self.ahead.len() > left {
+            let (replied, said) = self.line()?.next(true)?;
+            self.take_ahead(replied, &said, 0)?;
+        }
+        Ok(())
+    }
+
+    fn settle(&mut self) -> io::Result<()> {
+        self.settle_to(0)
     }
 
     /// The same of what may be asked twice: again and again, where the server or the connection has ended meanwhile.
@@ -330,32 +401,42 @@ fn frame(number: u32, client: u32, body: &[u8]) -> Vec<u8> {
 }
 
 /// Sends a frame, and reads its reply. None where that is no reply.
-fn exchange(stream: &mut UnixStream, number: u32, client: u32, body: &[u8]) -> io::Result<Option<Reply>> {
+fn exchange(line: &mut Line, number: u32, client: u32, body: &[u8]) -> io::Result<Option<Reply>> {
     // Where kfsd refuses the connection it has said so before it closed: that can be read still.
-    let sent = stream.write_all(&frame(number, client, body));
-    let reply = receive(stream, number)?;
-    if !matches!(reply, Some(Reply::Refused(130 | 131 | 136))) {
-        sent?;
+    let sent = line.stream.write_all(&frame(number, client, body));
+    let (replied, said) = line.next(false)?;
+    let reply = reply_of(&said);
+    if is_unwelcome(&said) {
+        return Ok(reply);
+    }
+    sent?;
+    if replied != number {
+        return Err(io::Error::new(io::ErrorKind::InvalidData, format!("the reply to frame {replied}, and not {number}")));
     }
     Ok(reply)
 }
 
-/// Reads the reply to a frame.
-fn receive(stream: &mut UnixStream, number: u32) -> io::Result<Option<Reply>> {
-    let mut head = [0; 8];
-    stream.read_exact(&mut head)?;
-    let [l0, l1, l2, l3, n0, n1, n2, n3] = head;
-    let (length, replied) = (u32::from_be_bytes([l0, l1, l2, l3]), u32::from_be_bytes([n0, n1, n2, n3]));
-    if length == 0 || length > REPLY_LIMIT {
-        return Err(io::Error::new(io::ErrorKind::InvalidData, format!("a reply of {length} bytes")));
+/// Whether kfsd refuses the connection, whatever was asked.
+fn is_unwelcome(said: &[u8]) -> bool {
+    matches!(said, [REFUSED, 130 | 131 | 136, ..])
+}
+
+/// Whether the answer is due soon: nothing has to be kept before.
+fn is_soon(body: &[u8]) -> bool {
+    matches!(body.first(), Some(NODE..=PLACES))
+}
+
+/// What a look-up has found that was asked for ahead. What is refused is asked for again by who wants it.
+fn found_ahead(said: &[u8]) -> FoundAhead {
+    let found = match said.split_first() {
+        Some((&FOUND, found)) => found,
+        _ => return FoundAhead::Nothing,
+    };
+    match found.first() {
+        Some(&FOUND_BYTES) => FoundAhead::Bytes(found[1..].to_vec()),
+        Some(&FOUND_NODE) => found_header(found).map_or(FoundAhead::Nothing, FoundAhead::Header),
+        _ => FoundAhead::Nothing,
     }
-    let mut said = vec![0; length as usize];
-    stream.read_exact(&mut said)?;
-    let reply = reply_of(&said);
-    if replied != number && !matches!(reply, Some(Reply::Refused(130 | 131 | 136))) {
-        return Err(io::Error::new(io::ErrorKind::InvalidData, format!("the reply to frame {replied}, and not {number}")));
-    }
-    Ok(reply)
 }
 
 /// What the reply to a call tells.
@@ -625,6 +706,56 @@ impl Shown for Connection {
             }
         }
         Ok(bytes)
+    }
+
+    /// At most as many as are let be under way.
+    fn ask_ahead(&mut self, some: &[(u64, Ahead)]) -> usize {
+        let count = some.len().min(AHEAD_AT_ONCE.saturating_sub(self.ahead.len()));
+        if self.line.is_none() || count == 0 {
+            return 0;
+        }
+        if self.send_ahead(&some[..count]).is_err() {
+            self.break_off();
+        }
+        count
+    }
+
+    fn told_ahead(&mut self, wait_for: Option<u64>) -> Vec<(u64, FoundAhead)> {
+        if !self.ahead.is_empty() && self.take_all_ahead(wait_for).is_err() {
+            self.break_off();
+        }
+        std::mem::take(&mut self.told)
+    }
+}
+
+/// Look-ups that nobody waits for.
+impl Connection {
+    fn send_ahead(&mut self, some: &[(u64, Ahead)]) -> io::Result<()> {
+        let mut frames = Vec::new();
+        for (serial, ahead) in some {
+            self.number = self.number.wrapping_add(1);
+            let body = match *ahead {
+                Ahead::Header(number) => look_up_body(NODE, number),
+                Ahead::Bytes { number, start, most } => read_body(number, start, 0, most as usize),
+            };
+            frames.extend(frame(self.number, self.client, &body));
+            self.ahead.push_back((self.number, *serial));
+        }
+        self.line()?.stream.write_all(&frames)
+    }
+
+    /// Takes what has come without waiting, and waits for one.
+    fn take_all_ahead(&mut self, wait_for: Option<u64>) -> io::Result<()> {
+        if let Some(at) = wait_for.and_then(|serial| self.ahead.iter().position(|(_, ahead)| *ahead == serial)) {
+            self.settle_to(self.ahead.len() - at - 1)?;
+        }
+        while !self.ahead.is_empty() {
+            match self.line()?.next_if_there()? {
+                Some((replied, said)) => self.take_ahead(replied, &said, 0)?,
+                None => break,
+            }
+        }
+        Ok(())
     }
 }
 

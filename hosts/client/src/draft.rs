@@ -16,9 +16,10 @@ use std::collections::{BTreeMap, BTreeSet};
 use std::ops::Bound;
 
 /// How many names are asked for at a time.
-const PAGE: usize = 256;
-/// Of how many numbers at a time it is asked whether they are free.
-const AHEAD: usize = 32;
+const PAGE: usize = 4096;
+/// Of how many numbers at a time it is asked whether they are free, and with how many left those of the next ones are asked for.
+const AHEAD: usize = 24;
+const LEFT: usize = 12;
 
 /// A log that is under way, with its changes.
 #[derive(Clone, Debug)]
@@ -114,6 +115,22 @@ impl Draft {
         let is_changed = self.nodes.contains_key(&number) || self.files.contains_key(&number);
         let is_leant_on = is_changed || self.names.contains_key(&number) || self.moved.contains(&number);
         is_leant_on && !self.has_created(number)
+    }
+
+    /// What this log has made of a node's header, where it has changed it; none where the node has gone with it.
+    pub(crate) fn header_made(&self, number: u32) -> Option<Option<Header>> {
+        self.nodes.get(&number).map(|change| change.now)
+    }
+
+    /// Where the names of a directory lead that this log has changed.
+    pub(crate) fn names_made(&self, directory: u32) -> impl Iterator<Item = (&Name, Option<u32>)> {
+        let names = self.names.get(&directory).into_iter().flatten();
+        names.map(|(name, change)| (name, change.now))
+    }
+
+    /// Whether this log has changed bytes of a file.
+    pub(crate) fn has_bytes(&self, number: u32) -> bool {
+        self.files.contains_key(&number)
     }
 
     /// The nodes that were there before this log, and have gone with it.
@@ -238,6 +255,15 @@ impl Draft {
             }
         }
         Err(Fault::NoNumber)
+    }
+
+    /// The numbers of which it will be asked next, where few are left that are free.
+    pub(crate) fn next_numbers(&self) -> Vec<u32> {
+        if self.free.len() > LEFT {
+            return Vec::new();
+        }
+        let [first, last] = self.client.grant;
+        (self.next.max(first)..=last).filter(|number| !self.is_known(*number)).take(AHEAD).collect()
     }
 
     /// Whether nobody needs to be asked whether a number is free.

@@ -24,6 +24,8 @@ impl<D: Desk> Session<D> {
             return Ok(());
         }
         if self.is_uncertain && self.was_done()? {
+            // It may be long ago.
+            self.draft.changed().into_iter().for_each(|number| self.cache.forget(number));
             self.land();
             return Ok(());
         }
@@ -31,6 +33,11 @@ impl<D: Desk> Session<D> {
         loop {
             let said = match self.hand_in()? {
                 Answer::Yes => {
+                    // The answer may have been long in coming: what was shown under leases that have ended goes before.
+                    match self.pass_time() {
+                        Ok(_) => self.cache.land(&self.draft, &self.leases),
+                        Err(_) => self.cache.clear(),
+                    }
                     self.land();
                     return Ok(());
                 }
@@ -87,7 +94,6 @@ impl<D: Desk> Session<D> {
 
     /// The log is done: the next one begins.
     fn land(&mut self) {
-        self.cache.land(&self.draft);
         // A lease ends with its node, whose number may be another node's soon.
         self.draft.gone().into_iter().for_each(|number| self.leases.forget(number));
         self.draft.clear();

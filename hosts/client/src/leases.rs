@@ -72,6 +72,11 @@ impl Leases {
         self.live(number).is_some()
     }
 
+    /// The same, where it serves nothing: such a lease needn't be renewed.
+    pub fn is_live(&self, number: u32) -> bool {
+        self.since(number).is_some()
+    }
+
     /// A number that is the node's while a lease on it is live without a gap.
     pub fn since(&self, number: u32) -> Option<u64> {
         self.rows.get(&number).filter(|lease| lease.end > self.moment).map(|lease| lease.since)

@@ -2,6 +2,7 @@
 
 use crate::cache::{Cache, Cached};
 use crate::client::{Access, Client};
+use crate::course::Course;
 use crate::desk::{Desk, LeaseKind, LeaseRefusal, Unanswered, Wanted, Wish};
 use crate::draft::Draft;
 use crate::entry::{Entry, Kind, PAYLOAD_LIMIT};
@@ -44,12 +45,15 @@ pub struct Options {
     /// After how many reads of a file, or look-ups in a directory, a lease for reading is taken, so that later ones ask nobody; 0
     /// for never.
     pub reads_before_lease: u32,
+    /// For how long a header that was told without a lease is believed, and the first bytes of a file that was opened; not at all,
+    /// unless it is set. What is asked for ahead without a lease is no use else.
+    pub age: Duration,
 }
 
 impl Default for Options {
     fn default() -> Options {
         let (linger, patience) = (Duration::from_secs(5), Duration::from_secs(10));
-        Options { linger, term: 60, patience, reads_before_lease: 3 }
+        Options { linger, term: 60, patience, reads_before_lease: 3, age: Duration::ZERO }
     }
 }
 
@@ -77,16 +81,20 @@ pub struct Session<D> {
     given_up: HashMap<u32, Instant>,
     /// When others wanted leases.
     wished: HashMap<u32, Instant>,
+    /// Where names were looked up last.
+    pub(crate) course: Course,
 }
 
 impl<D: Desk> Session<D> {
     /// The session of a client, with an empty log.
     pub fn new(desk: D, client: Client, options: Options) -> Session<D> {
+        let mut cache = Cache::default();
+        cache.set_age(options.age);
         Session {
             desk,
             draft: Draft::new(client),
             leases: Leases::default(),
-            cache: Cache::default(),
+            cache,
             options,
             calls: Vec::new(),
             call: 0,
@@ -96,6 +104,7 @@ impl<D: Desk> Session<D> {
             reads: HashMap::new(),
             given_up: HashMap::new(),
             wished: HashMap::new(),
+            course: Course::default(),
         }
     }
 
@@ -109,7 +118,7 @@ impl<D: Desk> Session<D> {
         self.call
     }
 
-    /// How it behaves from now on.
+    /// How it behaves from now on. `age` stays as it was.
     pub fn options_mut(&mut self) -> &mut Options {
         &mut self.options
     }
@@ -132,6 +141,12 @@ impl<D: Desk> Session<D> {
         self.pass_time()?;
         let header = self.look(|draft, shown| draft.header(shown, number))?;
         header.ok_or(Failure::Missing(Reason::NoSuchNode))
+    }
+
+    /// The same, and never as it was told without a lease before.
+    pub fn header_of_now(&mut self, number: u32) -> Result<Header, Failure> {
+        self.cache.look_anew(number);
+        self.header(number)
     }
 
     /// Whether the node's bits grant this.
@@ -162,6 +177,7 @@ impl<D: Desk> Session<D> {
         self.directory(directory, Access::Search)?;
         let found = self.look(|draft, shown| draft.find(shown, directory, name))?;
         let number = found.ok_or(Failure::Missing(Reason::NoSuchName))?;
+        self.look_ahead(directory, name, number);
         Ok((number, self.header(number)?))
     }
 
@@ -252,6 +268,8 @@ impl<D: Desk> Session<D> {
         let number = draft.free_number(&mut Cached { shown: desk, cache, leases });
         let number = number.map_err(|fault| Failure::Entry { errno: fault.errno(), fault })?;
         self.enter(&Entry::Create { directory, name: name.clone(), number, kind, mode })?;
+        let next = self.draft.next_numbers();
+        self.headers_ahead(next.into_iter());
         Ok(number)
     }
 
@@ -314,6 +332,7 @@ impl<D: Desk> Session<D> {
     /// The next call begins. A log of which nobody knows whether it was done takes no entry: that is found out before.
     fn begin_call(&mut self) -> Result<(), Failure> {
         self.call += 1;
+        self.pass_time()?;
         if self.is_uncertain {
             self.sync_patiently()?;
         }
@@ -440,11 +459,12 @@ impl<D: Desk> Session<D> {
     /// another client may have had one.
     fn take_over(&mut self, wanted: &Wanted, answer: Result<(), LeaseRefusal>) -> Result<(), Unanswered> {
         self.pass_time()?;
-        self.cache.look_anew();
+        self.cache.look_anew(wanted.number);
         match answer {
             Ok(()) => self.leases.grant(wanted.number, wanted.kind, wanted.end),
             // It has taken the place of one that is held.
             Err(LeaseRefusal::Elsewhere(found)) if self.leases.reads(found) => {
+                self.cache.look_anew(found);
                 self.leases.grant(found, wanted.kind, wanted.end);
             }
             Err(LeaseRefusal::Elsewhere(found)) => {
@@ -456,7 +476,7 @@ impl<D: Desk> Session<D> {
     }
 
     /// Looks which moment it is. What was shown under leases that have ended is forgotten.
-    fn pass_time(&mut self) -> Result<u64, Unanswered> {
+    pub(crate) fn pass_time(&mut self) -> Result<u64, Unanswered> {
         let moment = self.desk.moment()?;
         for number in self.leases.set_moment(moment) {
             self.cache.forget(number);
@@ -521,6 +541,7 @@ impl<D: Desk> Session<D> {
     /// enough, or needs a lease that ends soon, is handed in. Call it now and then, some times within `linger`.
     pub fn poll(&mut self) -> Result<(), Failure> {
         self.pass_time()?;
+        self.take_told();
         self.give_up_wanted()?;
         self.give_up_contended()?;
         self.renew()?;

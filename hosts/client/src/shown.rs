@@ -34,6 +34,42 @@ impl Unshown {
     }
 }
 
+/// A look-up that is asked for before what it finds is wanted.
+#[derive(Clone, Copy, Debug, PartialEq, Eq, Hash)]
+pub enum Ahead {
+    /// The header of a node.
+    Header(u32),
+    /// Bytes of a file.
+    Bytes {
+        /// The file.
+        number: u32,
+        /// The place of the first one.
+        start: u64,
+        /// How many at most.
+        most: u32,
+    },
+}
+
+impl Ahead {
+    /// The node that it is about.
+    pub fn number(self) -> u32 {
+        match self {
+            Ahead::Header(number) | Ahead::Bytes { number, .. } => number,
+        }
+    }
+}
+
+/// What such a look-up has found.
+#[derive(Clone, Debug, PartialEq, Eq)]
+pub enum FoundAhead {
+    /// The header of a node, if there is one of this number.
+    Header(Option<Header>),
+    /// Bytes of a file: fewer than were asked for only where it ends.
+    Bytes(Vec<u8>),
+    /// Nothing is told. Who wants it asks for it as if it hadn't been asked for.
+    Nothing,
+}
+
 /// Look-ups by number. They tell what is kept by now, and nothing of a log that isn't handed in.
 pub trait Shown {
     /// The header of a node, if there is one of this number.
@@ -52,4 +88,15 @@ pub trait Shown {
 
     /// The bytes of a file from a place on, at most so many, and fewer only where the file ends.
     fn read(&mut self, number: u32, start: u64, most: usize) -> Result<Vec<u8>, Unshown>;
+
+    /// Asks for some look-ups without waiting, each under a number of who asks. Returns how many of the first ones were asked
+    /// for. Others may be asked for meanwhile: these are told by `told_ahead` alone, each once.
+    fn ask_ahead(&mut self, _some: &[(u64, Ahead)]) -> usize {
+        0
+    }
+
+    /// Tells what was asked for ahead and has come by now. One of these is waited for, if it is named.
+    fn told_ahead(&mut self, _wait_for: Option<u64>) -> Vec<(u64, FoundAhead)> {
+        Vec::new()
+    }
 }

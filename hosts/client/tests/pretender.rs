@@ -2,7 +2,8 @@
 
 use kfs_client::connection::Connection;
 use kfs_client::desk::{Answer, Desk, LeaseKind, LeaseRefusal, Unanswered, Wanted, Wish};
-use kfs_client::{Name, Shown, Unshown};
+use kfs_client::shown::{Ahead, FoundAhead};
+use kfs_client::{Header, Kind, Name, Shown, Unshown};
 use std::io::{Read, Write};
 use std::os::unix::net::{UnixListener, UnixStream};
 use std::path::PathBuf;
@@ -251,4 +252,35 @@ fn look_ups_are_asked_for_until_all_is_told() {
     let blocks = connection.blocks().unwrap().unwrap();
     assert_eq!((blocks.all, blocks.free), (256, 9));
     assert!(connection.blocks().is_err());
+}
+
+#[test]
+fn what_is_asked_for_ahead_is_told_once_and_holds_no_answer_up() {
+    let kfsd = Pretender::start("ahead");
+    let mut connection = Connection::open(&kfsd.path, 7).unwrap();
+    let file = vec![3, 1, 1, 1, 0xa4, 0, 0, 3, 0xe8, 0, 0, 3, 0xe9, 0, 1, 0, 0, 0, 0, 0, 0, 0, 9];
+    let header = Header { kind: Kind::File, mode: 0o644, uid: 1000, gid: 1001, links: 1, size: 9 };
+    let found = FoundAhead::Header(Some(header));
+    let bytes = Ahead::Bytes { number: 5, start: 2, most: 9 };
+    kfsd.told().replies = vec![file.clone(), vec![3, 7, 8, 8], vec![3, 5, 1, 0, 0, 0, 5], vec![2, 128, 0, 0, 0, 0]];
+    assert_eq!(connection.ask_ahead(&[(1, Ahead::Header(5)), (2, bytes)]), 2);
+    assert_eq!(connection.find(1, &Name::new(b"a").unwrap()).unwrap(), Some(5));
+    assert_eq!(connection.ask_ahead(&[(3, Ahead::Header(6))]), 1);
+    let told = connection.told_ahead(Some(3));
+    assert_eq!(told, [(1, found.clone()), (2, FoundAhead::Bytes(vec![8, 8])), (3, FoundAhead::Nothing)]);
+    assert_eq!(connection.told_ahead(Some(3)), []);
+    assert_eq!(kfsd.told().bodies[1], [&[0x45, 0, 0, 0, 5][..], &2u64.to_be_bytes(), &9u32.to_be_bytes()].concat());
+    // A long log is sent behind the answers: kfsd may not read it before.
+    kfsd.told().replies = vec![file.clone(), YES.to_vec()];
+    assert_eq!(connection.ask_ahead(&[(4, Ahead::Header(5))]), 1);
+    assert_eq!(connection.submit(&[0; 10_000], b"plan").unwrap(), Answer::Yes);
+    assert_eq!(connection.told_ahead(None), [(4, found)]);
+    // Where the connection ends nothing is told, and the next question is asked over a new one.
+    kfsd.told().replies = vec![vec![], file];
+    assert_eq!(connection.ask_ahead(&[(5, Ahead::Header(5)), (6, bytes)]), 2);
+    assert_eq!(connection.told_ahead(Some(5)), [(5, FoundAhead::Nothing), (6, FoundAhead::Nothing)]);
+    assert_eq!(connection.ask_ahead(&[(7, bytes)]), 0);
+    assert_eq!(connection.header(5).unwrap(), Some(header));
+    let many: Vec<_> = (8..108).map(|serial| (serial, bytes)).collect();
+    assert!((1..=24).contains(&connection.ask_ahead(&many)));
 }

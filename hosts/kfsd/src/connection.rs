@@ -16,13 +16,15 @@ use crate::outcomes::Stands;
 use crate::queue::{Answer, Asker, Call, Permits, Queue};
 use crate::rules::Rules;
 use crate::users::{Account, Place};
+use std::collections::VecDeque;
 use std::future::Future;
 use std::io;
 use std::pin::Pin;
-use std::sync::Arc;
+use std::sync::{Arc, Mutex, MutexGuard, PoisonError};
+use std::task::{Context, Poll};
 use std::time::{Duration, Instant};
 use tokio::io::{sink, AsyncRead, AsyncReadExt, AsyncWrite, AsyncWriteExt, BufReader};
-use tokio::sync::{mpsc, oneshot, watch};
+use tokio::sync::{oneshot, watch};
 use tokio::time::{sleep, timeout};
 use tracing::debug;
 
@@ -93,12 +95,6 @@ impl From<tokio::time::error::Elapsed> for End {
     }
 }
 
-impl<T> From<mpsc::error::SendError<T>> for End {
-    fn from(_fault: mpsc::error::SendError<T>) -> End {
-        End::Input
-    }
-}
-
 /// The place of a frame's reply.
 struct Slot {
     number: u32,
@@ -133,6 +129,52 @@ impl Slot {
     }
 }
 
+/// The places of the replies that a connection owes, in the order of their frames.
+#[derive(Default)]
+struct Places {
+    waiting: VecDeque<Slot>,
+    is_closed: bool,
+}
+
+/// What one half of a connection hands to the other. Both are one task, which is polled from its front: so the half that writes sees what
+/// the one that reads has put, and isn't woken. A task that wakes itself has tokio wake another thread, which finds nothing to do.
+#[derive(Default)]
+struct Owed(Mutex<Places>);
+
+/// The next place, once it is there; none where none comes any more.
+struct Next<'a>(&'a Owed);
+
+impl Owed {
+    fn places(&self) -> MutexGuard<'_, Places> {
+        self.0.lock().unwrap_or_else(PoisonError::into_inner)
+    }
+
+    fn put(&self, slot: Slot) {
+        self.places().waiting.push_back(slot);
+    }
+
+    /// No other one comes.
+    fn close(&self) {
+        self.places().is_closed = true;
+    }
+
+    fn take(&self) -> Option<Slot> {
+        self.places().waiting.pop_front()
+    }
+}
+
+impl Future for Next<'_> {
+    type Output = Option<Slot>;
+
+    fn poll(self: Pin<&mut Self>, _context: &mut Context<'_>) -> Poll<Option<Slot>> {
+        let mut places = self.0.places();
+        match places.waiting.pop_front() {
+            None if !places.is_closed => Poll::Pending,
+            next => Poll::Ready(next),
+        }
+    }
+}
+
 /// The reply to a frame that was handed to the desk. Where there is no answer, nobody knows.
 fn reply_of(number: u32, answer: Option<Answer>) -> Vec<u8> {
     match answer {
@@ -154,12 +196,12 @@ enum Said {
 /// Serves a connection to its end.
 pub async fn serve(from: impl AsyncRead + Unpin, to: impl AsyncWrite + Unpin, place: Place, shared: Arc<Shared>) {
     // Each has its place among the frames that are under way, so there are as many as may be.
-    let (slots, waiting) = mpsc::unbounded_channel();
+    let owed = Owed::default();
     let limits = shared.limits();
     let (frames, bytes) = (Allowance::new(limits.frames_a_connection), Allowance::new(limits.bytes_a_connection));
     let mut reader = Reader {
         from: BufReader::with_capacity(BUFFER, from),
-        slots,
+        owed: &owed,
         account: Arc::clone(&place.account),
         frames: Arc::clone(&frames),
         bytes: Arc::clone(&bytes),
@@ -175,13 +217,16 @@ pub async fn serve(from: impl AsyncRead + Unpin, to: impl AsyncWrite + Unpin, pl
             () = closing(&shared, &place.account, limit) => End::Input,
         };
         drop(reader);
+        owed.close();
         end
     };
-    let writing = write_replies(to, waiting, &shared);
+    let writing = write_replies(to, &owed, &shared);
     tokio::pin!(reading, writing);
     let is_slow = tokio::select! {
-        written = &mut writing => written.is_err(),
+        // What is read first is seen by the half that writes.
+        biased;
         end = &mut reading => writing.await.is_err() || matches!(end, End::Slow),
+        written = &mut writing => written.is_err(),
     };
     if is_slow {
         shared.figures.too_slow.add(1);
@@ -212,7 +257,7 @@ async fn closing(shared: &Shared, account: &Arc<Account>, limit: impl Fn(&Limits
 /// The half of a connection that frames come from.
 struct Reader<'a, R> {
     from: BufReader<R>,
-    slots: mpsc::UnboundedSender<Slot>,
+    owed: &'a Owed,
     account: Arc<Account>,
     frames: Arc<Allowance>,
     bytes: Arc<Allowance>,
@@ -292,7 +337,7 @@ impl<R: AsyncRead + Unpin> Reader<'_, R> {
         let asker = Asker { to, frame: Some(Arc::clone(&frame)) };
         self.shared.queue.push(Call { client, body, note, came: Instant::now(), number, bytes, asker });
         let said = Said::Waits(answer);
-        self.slots.send(Slot { number: head.number, said, _frame: frame, _found: found })?;
+        self.owed.put(Slot { number: head.number, said, _frame: frame, _found: found });
         Ok(())
     }
 
@@ -370,7 +415,7 @@ impl<R: AsyncRead + Unpin> Reader<'_, R> {
                 sleep(wait).await;
             }
         }
-        self.slots.send(Slot { number: head.number, said, _frame: frame, _found: None })?;
+        self.owed.put(Slot { number: head.number, said, _frame: frame, _found: None });
         Ok(())
     }
 }
@@ -447,21 +492,21 @@ async fn set_time(shared: Arc<Shared>, account: Arc<Account>, node: u32, time: i
 /// Writes replies in the order of their frames, each as soon as it is there. Those that are there together are written at once.
 async fn write_replies(
     mut to: impl AsyncWrite + Unpin,
-    mut waiting: mpsc::UnboundedReceiver<Slot>,
+    owed: &Owed,
     shared: &Shared,
 ) -> Result<(), tokio::time::error::Elapsed> {
-    let mut next = waiting.recv().await;
+    let mut next = Next(owed).await;
     while let Some(mut slot) = next {
         let mut bytes = slot.reply().await;
         // Frames are under way until their replies are written.
         let mut written = vec![slot];
-        next = waiting.try_recv().ok();
+        next = owed.take();
         while let Some(mut slot) = next.take() {
             let more = if bytes.len() < TOGETHER { slot.reply_now() } else { None };
             if let Some(more) = more {
                 bytes.extend_from_slice(&more);
                 written.push(slot);
-                next = waiting.try_recv().ok();
+                next = owed.take();
             } else {
                 next = Some(slot);
                 break;
@@ -472,7 +517,7 @@ async fn write_replies(
         }
         drop(written);
         if next.is_none() {
-            next = waiting.recv().await;
+            next = Next(owed).await;
         }
     }
     Ok(())

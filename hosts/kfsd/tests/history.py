@@ -5,6 +5,7 @@ import time
 
 from clustering import calls_of, ends_alike, worked
 from killing import YES, submission
+from machine_loads import slow_disks
 from machines import Cluster
 from numbering import UNDER_WAY, UNKNOWN
 from running import Gone, lease, numbered, user
@@ -29,10 +30,14 @@ class Client:
 
     def run(self):
         try:
-            while len(self.done) < self.most and not self.cluster.is_over.is_set():
+            while not self.is_through() and not self.cluster.is_over.is_set():
                 self.one()
         except BaseException as fault:  # noqa: BLE001
             self.fault = fault
+
+    def is_through(self):
+        """Whether it has made its calls, and there is no fault any more."""
+        return len(self.done) >= self.most and self.cluster.is_quiet.is_set()
 
     def one(self):
         call = lease(self.client, self.count + 1)
@@ -117,6 +122,15 @@ def kill_etcd(cluster):
     cluster.wait_for(lambda: cluster.etcdctl("endpoint", "health").returncode == 0)
 
 
+def slow(cluster):
+    slow_disks(cluster, random.Random())
+
+
+def faults_of(kills, cuts, stands, etcd_kills, slows):
+    """So many faults of each kind."""
+    return {kill: kills, cut: cuts, stand_still: stands, kill_etcd: etcd_kills, slow: slows}
+
+
 def is_serial(calls, clients):
     """Looks whether the order of the calls in etcd is one in which each was done between its beginning and its answer, with this answer."""
     place = {call: at for at, (call, _) in enumerate(calls)}
@@ -132,9 +146,10 @@ def is_serial(calls, clients):
 
 
 def history(made, most, faults, **settings):
-    """Lets 20 clients make so many calls each, beside so many faults of each kind. Prints what was seen."""
+    """Lets 20 clients make so many calls each or more, beside so many faults of each kind. Prints what was seen."""
+    began = time.monotonic()
     with Cluster(made, settings=settings, users=USERS, tiers=(8192, 64, 64)) as cluster:
-        cluster.is_over, cluster.created = threading.Event(), 0
+        cluster.is_over, cluster.is_quiet, cluster.created = threading.Event(), threading.Event(), 0
         assert cluster.leader().connect(CREATOR).ask(1, lease(CREATOR, 1 << 40, writes=True)).answer[4] == 4
         kinds = {CREATOR: Creator, READER: Reader}
         clients = [kinds.get(it["client"], Client)(cluster, it["client"], most) for it in USERS]
@@ -149,6 +164,7 @@ def history(made, most, faults, **settings):
                     worked(cluster, chance.randrange(5, 60))
                     fault(cluster)
                 worked(cluster)
+            cluster.is_quiet.set()
             while any(it.thread.is_alive() for it in clients[1:-1]) and not any(it.fault for it in clients):
                 with cluster.lock:
                     cluster.look_after()
@@ -157,13 +173,14 @@ def history(made, most, faults, **settings):
             cluster.is_over.set()
             for it in clients:
                 it.thread.join()
+        lasted = time.monotonic() - began
         wrong = [it.fault for it in clients if it.fault]
         assert not wrong, wrong[0]
         groups = ends_alike(cluster)
         count = is_serial(calls_of(groups), clients)
         reads, again = len(clients[-1].done), sum(it.again for it in clients)
         ends = sum(len(it.statuses) for it in cluster.machines)
-        print(f"    {count} calls and {reads} look-ups in {len(groups)} groups are one serial history; {again} were asked for again, and kfsd ended {ends} times")
+        print(f"    {count} calls and {reads} look-ups in {len(groups)} groups and {lasted:.0f} s are one serial history; {again} were asked for again, and kfsd ended {ends} times")
 
 
 def one_serial_history(made):

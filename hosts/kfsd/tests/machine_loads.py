@@ -98,12 +98,12 @@ def compare(cluster, parts, images):
     return model.count, len(due[2])
 
 
-def run(made, connections, calls, faults, seconds=None, is_watched=False, **settings):
+def run(made, connections, calls, faults, seconds=None, is_watched=False, is_in_memory=False, **settings):
     """Has connections make so many calls of all kinds, a third of them at each machine, or calls for so many seconds, beside so many faults of each
     kind. Looks at all images at the end, and where all groups are watched at all calls."""
     users = load_users(30, connections)
     limits = {"connections_a_user": -(-connections // len(users)) + 8}
-    with Cluster(made, settings=settings, is_watched=is_watched, users=users, tiers=(4 * NUMBERS * connections, 16, 16), **limits) as cluster:
+    with Cluster(made, settings=settings, is_watched=is_watched, is_in_memory=is_in_memory, users=users, tiers=(4 * NUMBERS * connections, 16, 16), **limits) as cluster:
         parts = [Part(machine, users[at::3]) for at, machine in enumerate(cluster.machines)]
         for it in parts:
             prepare(it)
@@ -160,7 +160,7 @@ def sleep(cluster, seconds):
         time.sleep(0.1)
 
 
-def figures(made, seconds):
+def figures(made, seconds, is_in_memory=False):
     """Prints how many calls a second connections make at a leader, and at a kfsd without etcd."""
     print("connections                calls/s    median 99 of 100      most, in microseconds")
     for connections in COUNTS:
@@ -169,10 +169,10 @@ def figures(made, seconds):
         with Daemon(*made, **words).start() as alone:
             alone.cluster = alone
             show(connections, "alone", alone, users, seconds)
-        with Cluster(made, is_watched=False, **words) as cluster:
+        with Cluster(made, is_watched=False, is_in_memory=is_in_memory, **words) as cluster:
             leader = cluster.leader()
             show(connections, "at the leader", leader, users, seconds)
-        with Cluster(made, is_watched=False, **words) as cluster:
+        with Cluster(made, is_watched=False, is_in_memory=is_in_memory, **words) as cluster:
             leader = cluster.leader()
             show(connections, "handed on", next(it for it in cluster.machines if it is not leader), users, seconds)
 
@@ -186,8 +186,8 @@ def show(connections, name, machine, users, seconds):
 
 
 def load_on_machines(made):
-    """90 connections of 30 users make 60,000 calls, a third of them at each machine, beside faults of each kind."""
-    run(made, 90, 60_000, faults_of(2, 1, 1, 1, 1), is_watched=True, state_bytes=300_000)
+    """90 connections of 30 users make 60,000 calls, a third of them at each machine, beside faults of each kind. The files of kfs_serve are in memory."""
+    run(made, 90, 60_000, faults_of(2, 1, 1, 1, 1), is_watched=True, is_in_memory=True, state_bytes=300_000)
 
 
 TESTS = [load_on_machines]

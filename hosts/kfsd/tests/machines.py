@@ -20,6 +20,8 @@ VOLUME = "volume"
 NAMES = ("a", "b", "c")
 # kfsd ends with it where it leads no more: a new start makes it a member again.
 LOST = 5
+# A line in which a member of etcd tells what was put has fewer bytes.
+LONGEST_LINE = 16 << 20
 # The files of a desk.
 FILES = ("first.kdjl", "second.kdjl")
 
@@ -69,10 +71,12 @@ class Machine(Daemon):
         self.space, self.address = f"{cluster.space}-{name}", f"{NETWORK}.{at + 1}"
         self.etcd, self.is_wanted, self.is_cut = None, False, False
         self.statuses = []
+        # where the files of kfs_serve are in memory
+        self.memory = tempfile.mkdtemp(prefix="kfsd-", dir="/dev/shm") if cluster.is_in_memory else None
 
     @property
     def replica(self):
-        return f"{self.folder}/replica"
+        return f"{self.memory or self.folder}/replica"
 
     def put_config(self):
         super().put_config()
@@ -80,6 +84,8 @@ class Machine(Daemon):
             "etcd": [f"{it.address}:{CLIENTS_PORT}" for it in self.cluster.in_order(self)], "volume": self.volume, "member": self.name,
             "peer": f"{self.address}:{self.port}", "key_file": f"{self.cluster.room}/key", **self.cluster.settings,
         }
+        if self.memory:
+            settings["replica_folder"] = self.memory
         with open(f"{self.room}/kfsd.toml", "a", encoding="utf-8") as it:
             it.write("\n".join(["[cluster]", *(f"{name} = {json.dumps(value)}" for name, value in settings.items())]) + "\n")
 
@@ -102,6 +108,8 @@ class Machine(Daemon):
         words = {
             "name": self.name, "data-dir": f"{self.room}/etcd", "listen-client-urls": f"{own}:{CLIENTS_PORT}", "advertise-client-urls": f"{own}:{CLIENTS_PORT}",
             "listen-peer-urls": f"{own}:{PEERS_PORT}", "initial-advertise-peer-urls": f"{own}:{PEERS_PORT}", "initial-cluster-token": self.cluster.space,
+            # as docs/CLUSTER.md has it for a local network
+            "heartbeat-interval": "50", "election-timeout": "500",
             # what is removed takes room until it is compacted
             "auto-compaction-mode": "revision", "auto-compaction-retention": "1000",
             "initial-cluster": ",".join(f"{it.name}=http://{it.address}:{PEERS_PORT}" for it in self.cluster.machines),
@@ -195,14 +203,17 @@ class Machine(Daemon):
         super().__exit__(*fault)
         if self.etcd and self.etcd.poll() is None:
             self.kill_etcd()
+        if self.memory:
+            shutil.rmtree(self.memory, ignore_errors=True)
 
 
 class Cluster:
     """Three machines and the wire between them. Threads connect to whichever leads."""
 
-    def __init__(self, made, settings=None, is_watched=True, is_begun=True, **words):
+    def __init__(self, made, settings=None, is_watched=True, is_begun=True, is_in_memory=False, **words):
         self.space = f"kfsd-{os.getpid()}"
         self.settings, self.is_watched, self.is_begun, self.watchers = settings or {}, is_watched, is_begun, []
+        self.is_in_memory = is_in_memory
         # The number of the first group.
         self.first = 0
         self.room = tempfile.mkdtemp(prefix="kfsd-cluster-")
@@ -267,10 +278,30 @@ class Cluster:
 
     def watch(self):
         """Has each member of etcd tell all that is put."""
-        for it in self.machines:
-            words = ["ip", "netns", "exec", self.space, "etcdctl", "--endpoints", f"{it.address}:{CLIENTS_PORT}", "watch", "--rev", "1", "--prefix", f"kfsd/{VOLUME}/", "-w", "json"]
-            with open(f"{self.room}/{it.name}", "wb") as to:
-                self.watchers.append(subprocess.Popen(words, stdout=to, stderr=subprocess.DEVNULL, env={**os.environ, "ETCDCTL_API": "3"}))
+        self.watchers = [self.watcher(it, 1) for it in self.machines]
+
+    def watcher(self, it, revision):
+        """Has a member of etcd tell all that is put from a revision on."""
+        words = ["ip", "netns", "exec", self.space, "etcdctl", "--endpoints", f"{it.address}:{CLIENTS_PORT}", "watch", "--rev", str(revision), "--prefix", f"kfsd/{VOLUME}/", "-w", "json"]
+        with open(f"{self.room}/{it.name}", "ab") as to:
+            return subprocess.Popen(words, stdout=to, stderr=subprocess.DEVNULL, env={**os.environ, "ETCDCTL_API": "3"})
+
+    def told_up_to(self, it):
+        """The last revision that a member of etcd has told."""
+        with open(f"{self.room}/{it.name}", "rb") as told:
+            told.seek(max(0, os.path.getsize(told.name) - LONGEST_LINE))
+            lines = [line for line in told.read().split(b"\n")[:-1] if line.startswith(b"{") and line.endswith(b"}")]
+        for line in reversed(lines):
+            events = json.loads(line).get("Events")
+            if events:
+                return max(event["kv"]["mod_revision"] for event in events)
+        return 0
+
+    def watch_on(self):
+        """A member that has no leader of its own for a while ends what it tells: it is asked again."""
+        for at, (it, watcher) in enumerate(zip(self.machines, self.watchers)):
+            if watcher.poll() is not None and it.etcd.poll() is None and not it.is_cut:
+                self.watchers[at] = self.watcher(it, self.told_up_to(it) + 1)
 
     def puts(self):
         """All that was ever put, in its order, each with its revision, its key and its value: what was told, and what is there now."""
@@ -309,6 +340,7 @@ class Cluster:
         for it in self.machines:
             if it.process:
                 it.look_after()
+        self.watch_on()
 
     def etcdctl(self, *words, data=None):
         """Asks the members of etcd that can be reached."""

@@ -5,8 +5,9 @@ use kfs_client::Header;
 use std::collections::HashMap;
 use std::time::{Duration, SystemTime, UNIX_EPOCH};
 
-/// How long the kernel may keep what it was told, in seconds.
-const KEPT: u64 = 1;
+/// How old a header is at most that the kernel is told of, and how many nanoseconds it may keep it: a second together.
+pub const AGE: Duration = Duration::from_millis(200);
+const KEPT: u32 = 800_000_000;
 const DIRECTORY: u32 = 0o040_000;
 const FILE: u32 = 0o100_000;
 const LINK: u32 = 0o120_000;
@@ -112,14 +113,14 @@ pub fn attributes(number: u32, shape: &Shape, times: Times, reply: &mut Reply) {
 /// `fuse_attr_out`.
 pub fn attribute_reply(number: u32, shape: &Shape, clocks: &Clocks) -> Reply {
     let mut reply = Reply::default();
-    reply.long(KEPT).word(0).word(0);
+    reply.long(0).word(KEPT).word(0);
     attributes(number, shape, clocks.of(number), &mut reply);
     reply
 }
 
 /// `fuse_entry_out`.
 pub fn entry(number: u32, shape: &Shape, clocks: &Clocks, reply: &mut Reply) {
-    reply.long(number.into()).long(clocks.generation(number)).long(KEPT).long(KEPT).word(0).word(0);
+    reply.long(number.into()).long(clocks.generation(number)).long(0).long(0).word(KEPT).word(KEPT);
     attributes(number, shape, clocks.of(number), reply);
 }
 

@@ -8,6 +8,7 @@ use kfs_client::connection::Connection;
 use kfs_client::memory::Memory;
 use kfs_client::program::Program;
 use kfs_client::{Client, Desk, Options, Session};
+use kfs_mount::attributes::AGE;
 use kfs_mount::mounting::Mounted;
 use kfs_mount::serving::serve;
 use kfs_mount::volume::Volume;
@@ -61,7 +62,7 @@ fn signals() -> Result<SignalFd> {
 
 /// Serves the kernel until it is told to stop.
 fn run(mut mounted: Mounted, mut ends: SignalFd, client: Client, desk: impl Desk) -> Result<()> {
-    let options = Options { patience: PATIENCE, ..Options::default() };
+    let options = Options { patience: PATIENCE, age: AGE, ..Options::default() };
     let mut volume = Volume::new(Session::new(desk, client, options));
     println!("mounted");
     let served = serve(&mut mounted.device, &mut ends, &mut volume);

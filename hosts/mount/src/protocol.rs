@@ -181,15 +181,15 @@ impl Reply {
     }
 }
 
-/// The whole reply to a request.
-pub fn reply_bytes(unique: u64, answer: Result<Reply, Errno>) -> Vec<u8> {
-    let (error, said) = match answer {
-        Ok(reply) => (0, reply.0),
-        Err(errno) => (-(errno as i32), Vec::new()),
+/// What stands before a reply to a request. One that is refused says nothing else.
+pub fn reply_head(unique: u64, answer: &Result<Reply, Errno>) -> Reply {
+    let (error, length) = match answer {
+        Ok(reply) => (0, reply.0.len()),
+        Err(errno) => (-(*errno as i32), 0),
     };
-    let mut whole = Reply::default();
-    whole.word(16 + said.len() as u32).word(error as u32).long(unique).bytes(&said);
-    whole.0
+    let mut head = Reply::default();
+    head.word(16 + length as u32).word(error as u32).long(unique);
+    head
 }
 
 /// The answer to the first request.
@@ -224,10 +224,10 @@ mod tests {
 
     #[test]
     fn a_refusal_is_a_negative_number() {
-        let bytes = reply_bytes(9, Err(Errno::ENOENT));
-        assert_eq!(bytes.len(), 16);
-        assert_eq!(i32::from_ne_bytes(bytes[4..8].try_into().unwrap()), -2);
-        assert_eq!(reply_bytes(9, Ok(Reply(vec![7; 3]))).len(), 19);
+        let head = reply_head(9, &Err(Errno::ENOENT)).0;
+        assert_eq!((head.len(), &head[..4]), (16, &16u32.to_ne_bytes()[..]));
+        assert_eq!(i32::from_ne_bytes(head[4..8].try_into().unwrap()), -2);
+        assert_eq!(reply_head(9, &Ok(Reply(vec![7; 3]))).0[..4], 19u32.to_ne_bytes());
     }
 
     #[test]

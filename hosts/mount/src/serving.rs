@@ -1,21 +1,26 @@
 //! Requests of the kernel, one after another.
 
 use crate::attributes::{attribute_reply, entry, now, type_bits, Shape};
-use crate::protocol::{init_reply, reply_bytes, Operation, Reply, Request, REQUEST};
+use crate::protocol::{init_reply, reply_head, Operation, Reply, Request, REQUEST};
 use crate::volume::{Attributes, Volume};
 use kfs_client::desk::Blocks;
+use kfs_client::looks::Looks;
 use kfs_client::node::GREATEST_NUMBER;
-use kfs_client::{Desk, Kind, Name};
+use kfs_client::{Desk, Kind};
 use nix::errno::Errno;
 use nix::poll::{poll, PollFd, PollFlags};
 use nix::sys::signalfd::SignalFd;
 use std::fs::File;
-use std::io::{self, Read, Write};
+use std::io::{self, IoSlice, Read, Write};
 use std::os::unix::io::AsRawFd;
 use std::time::{Duration, Instant};
 
 /// After how long what is due is done.
 const PAUSE: Duration = Duration::from_millis(100);
+/// For how long the next request is looked for behind an answer, before this sleeps until it comes.
+const LONGEST_LOOK: Duration = Duration::from_micros(50);
+/// How many bytes a name takes in a list at least, with what it leads to.
+const LISTED: usize = 160;
 /// The bits of a mode that say what a node is, and those of a file.
 const TYPE: u32 = 0o170_000;
 const FILE: u32 = 0o100_000;
@@ -27,7 +32,7 @@ const REPLACES_NOTHING: u32 = 1;
 /// Answers the kernel until the tree is unmounted, or a signal comes.
 pub fn serve<D: Desk>(device: &mut File, signals: &mut SignalFd, volume: &mut Volume<D>) -> io::Result<()> {
     let mut bytes = vec![0; REQUEST];
-    let mut polled = Instant::now();
+    let (mut polled, mut looks) = (Instant::now(), Looks::new(LONGEST_LOOK));
     loop {
         // Also where requests come without a pause.
         if polled.elapsed() >= PAUSE {
@@ -38,9 +43,14 @@ pub fn serve<D: Desk>(device: &mut File, signals: &mut SignalFd, volume: &mut Vo
             }
         }
         match device.read(&mut bytes) {
-            Ok(count) => answer(device, volume, &bytes[..count])?,
+            Ok(count) => {
+                looks.found();
+                answer(device, volume, &bytes[..count])?;
+                looks.begin();
+            }
             Err(fault) => match fault.raw_os_error().map(Errno::from_i32) {
                 Some(Errno::ENODEV) => return Ok(()),
+                Some(Errno::EAGAIN) if looks.goes_on() => {}
                 Some(Errno::EAGAIN) if has_signal(device, signals, PAUSE)? => return Ok(()),
                 // The caller has given up meanwhile.
                 Some(Errno::ENOENT | Errno::EINTR | Errno::EAGAIN) => {}
@@ -71,11 +81,14 @@ fn answer<D: Desk>(device: &mut File, volume: &mut Volume<D>, bytes: &[u8]) -> i
     }
     let unique = request.unique;
     volume.begin_request();
-    let said = reply_bytes(unique, answer_of(volume, &mut request));
-    match device.write_all(&said) {
+    let answer = answer_of(volume, &mut request);
+    let head = reply_head(unique, &answer);
+    let said = answer.as_ref().map_or(&[][..], |reply| &reply.0);
+    // The kernel takes a reply whole, or not at all.
+    match device.write_vectored(&[IoSlice::new(&head.0), IoSlice::new(said)]) {
         // The caller has given up meanwhile.
         Err(fault) if fault.raw_os_error() == Some(Errno::ENOENT as i32) => Ok(()),
-        written => written,
+        written => written.map(|_all| ()),
     }
 }
 
@@ -252,16 +265,28 @@ fn open_directory<D: Desk>(volume: &mut Volume<D>, request: &mut Request<'_>) ->
     Ok(Reply::default())
 }
 
+/// The name at an offset of a list, which begins with the directory itself and the one above.
+fn listed<D: Desk>(volume: &Volume<D>, handle: u64, directory: u32, offset: u64) -> Option<(Vec<u8>, u32)> {
+    match offset {
+        0 => Some((b".".to_vec(), directory)),
+        1 => Some((b"..".to_vec(), volume.parent(directory))),
+        _ => {
+            let (name, number) = volume.handles.list(handle).get(usize::try_from(offset - 2).ok()?)?;
+            Some((name.as_bytes().to_vec(), *number))
+        }
+    }
+}
+
 /// Names of a directory from an offset on, as many as fit; with what they lead to, where that is asked for.
 fn read_directory<D: Desk>(volume: &mut Volume<D>, request: &mut Request<'_>, is_plus: bool) -> Result<Reply, Errno> {
     let (handle, offset, most) = (request.long()?, request.long()?, request.word()? as usize);
     let mut reply = Reply::default();
-    let dots: [(&[u8], u32); 2] = [(b".", request.node), (b"..", volume.parent(request.node))];
-    let names: Vec<(Name, u32)> =
-        volume.handles.list(handle).iter().skip((offset as usize).saturating_sub(2)).cloned().collect();
-    let dots = dots.into_iter().map(|(text, number)| (text.to_vec(), number)).skip(offset as usize);
-    let names = names.into_iter().map(|(name, number)| (name.as_bytes().to_vec(), number));
-    for (at, (text, number)) in (offset + 1..).zip(dots.chain(names)) {
+    let next = volume.handles.list(handle).iter().skip((offset as usize).saturating_sub(2)).take(most / LISTED);
+    let next: Vec<u32> = next.map(|(_, number)| *number).collect();
+    volume.expect(next.into_iter());
+    let mut at = offset;
+    while let Some((text, number)) = listed(volume, handle, request.node, at) {
+        at += 1;
         let length = (24 + text.len() + 7) / 8 * 8 + if is_plus { 128 } else { 0 };
         if reply.0.len() + length > most {
             break;
@@ -290,7 +315,7 @@ mod tests {
     use super::*;
     use kfs_client::desk::{Answer, LeaseRefusal, Unanswered, Wanted, Wish};
     use kfs_client::memory::Memory;
-    use kfs_client::{Client, Header, Options, Session, Shown, Unshown};
+    use kfs_client::{Client, Header, Name, Options, Session, Shown, Unshown};
 
     /// A server that doesn't tell of one node, and has lost another.
     struct Silent {

@@ -178,6 +178,11 @@ impl<D: Desk> Volume<D> {
         Ok(self.handles.open_list(names))
     }
 
+    /// The headers of these nodes are wanted now.
+    pub fn expect(&mut self, numbers: impl Iterator<Item = u32>) {
+        self.session.headers_ahead(numbers);
+    }
+
     pub fn parent(&self, directory: u32) -> u32 {
         self.session.draft().paths().parent(directory).unwrap_or(directory)
     }
@@ -228,6 +233,9 @@ impl<D: Desk> Volume<D> {
         let keeps = since.is_some() && self.kept.get(&number) == Some(&Kept::Since(since));
         if !keeps {
             self.kept.insert(number, Kept::Since(since));
+        }
+        if flags & ACCESS != WRITE_ONLY {
+            self.session.bytes_ahead(number);
         }
         Ok(keeps)
     }
@@ -337,7 +345,7 @@ impl<D: Desk> Volume<D> {
     pub fn unlink(&mut self, directory: u32, name: &[u8], kind: Kind) -> Result<(), Errno> {
         let name = named(name)?;
         let (number, header) = self.session.lookup(directory, &name).map_err(|failure| self.told(&failure))?;
-        if kind == Kind::File && self.is_to_hide(number, &header) {
+        if kind == Kind::File && self.is_to_hide(number, &header)? {
             self.hide(number, directory, &name)?;
         } else {
             self.session.unlink(directory, &name, kind).map_err(|failure| self.told(&failure))?;
@@ -347,9 +355,13 @@ impl<D: Desk> Volume<D> {
         Ok(())
     }
 
-    /// Whether a file that loses this name is open, and has no other.
-    fn is_to_hide(&self, number: u32, header: &Header) -> bool {
-        !header.is_directory() && header.links == 1 && self.handles.is_open(number)
+    /// Whether a file that loses this name is open, and has no other by now.
+    fn is_to_hide(&mut self, number: u32, header: &Header) -> Result<bool, Errno> {
+        if header.is_directory() || !self.handles.is_open(number) {
+            return Ok(false);
+        }
+        let header = self.session.header_of_now(number).map_err(|failure| self.told(&failure))?;
+        Ok(header.links == 1)
     }
 
     /// Gives an open file a name that goes with its last close.
@@ -371,7 +383,7 @@ impl<D: Desk> Volume<D> {
         };
         match there {
             Some(_) if !replaces => return Err(Errno::EEXIST),
-            Some((number, other)) if number != moved && !header.is_directory() && self.is_to_hide(number, &other) => {
+            Some((number, other)) if number != moved && !header.is_directory() && self.is_to_hide(number, &other)? => {
                 self.hide(number, to, &new_name)?;
             }
             _ => {}

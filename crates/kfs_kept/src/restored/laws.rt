@@ -1,11 +1,14 @@
 //! Laws of states as bytes. Each is the contract of a function that has nothing to do when it is called.
-ghost use Rattle.std.specs.Prelude.{◌≡◌, ℕ, List, None, Ok};
+ghost use Rattle.std.specs.Prelude.{◌≡◌, ℕ, List, None, Ok, All};
+ghost use Rattle.kfs_model.specs.CleanStep.{IsClient};
 ghost use Rattle.kfs_desk.specs.Opening.{begin_fault};
+ghost use Rattle.kfs_kept.specs.Admitting.{Keeps, begun_with, with_clients};
 ghost use Rattle.kfs_kept.specs.Restored.Laws.{SavedApart, SavedIsRestored, SavedOnce};
 ghost use Rattle.kfs_call_desk.specs.Restore.Restored.{RestoreAnswer};
 ghost use Rattle.kfs_call_desk.specs.Restore.Saved.{IsSaved};
 
 use kfs_desk::Desk;
+use kfs_mode::Client;
 use std::alloc::Allocator;
 
 /// A state that a desk can begin with is what its bytes come to, to the lease and the place. It has one encoding, and no
@@ -26,4 +29,27 @@ pub fn a_saved_desk_is_restored<A: Allocator + Copy>(desk: &Desk<A>)
     let image = desk.image();
     let _shape = image.shape();
     let _leases = desk.leases();
+}
+
+/// The bytes of a desk's state with other clients come to that state, where the desk's own are among these. If they can't be
+/// beside each other, that is told, and nothing else.
+pub fn other_clients_are_restored<A: Allocator + Copy>(desk: &Desk<A>, clients: &[Client])
+    ensures { (bytes : List ℕ) → Keeps desk.now.state.clients clients.now → IsSaved (with_clients desk.now.state clients.now) bytes
+        → RestoreAnswer bytes (begun_with (with_clients desk.now.state clients.now)) }
+{
+    // Tells the prover that the state is in order, that its leases are lawful, and that a lawful image shows it.
+    let image = desk.image();
+    let _shape = image.shape();
+    let _leases = desk.leases();
+    tell_clients(clients);
+}
+
+/// Tells the prover that each client is in range. It goes over them once and changes nothing.
+fn tell_clients(clients: &[Client])
+    ensures { All IsClient clients.now }
+{
+    for client in clients {
+        // The call says that it is.
+        let _number = client.number();
+    }
 }

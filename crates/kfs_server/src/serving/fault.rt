@@ -2,7 +2,7 @@
 ghost use Rattle.std.specs.Prelude.{◌≡◌};
 ghost use Rattle.kfs_server.specs.declared.serving.fault.ServeFault.TheVariants as faults;
 
-use kfs_kept::{OpenFault, SaveFault};
+use kfs_kept::{AdmitFault, OpenFault, SaveFault};
 use kfs_program_text::{InputFault, OutputFault};
 use std::alloc::{AllocError, AllocFailed};
 use thiserror::Error;
@@ -41,6 +41,9 @@ pub enum RunFault {
     /// The files aren't opened.
     #[error("the files aren't opened: {0}")]
     NotOpened(OpenFault),
+    /// The files are opened, and their desk doesn't go on with the list of clients.
+    #[error("the clients: {0}")]
+    NotAdmitted(AdmitFault),
     /// No journal is made on the files.
     #[error("no journal is made: {0}")]
     NotMade(SaveFault),

@@ -1,17 +1,21 @@
 //! A desk served from its files, from their opening on; and the exit status.
-ghost use Rattle.std.specs.Prelude.{◌≡◌, None, Ok, Err, IsTrue};
+ghost use Rattle.std.specs.Prelude.{◌≡◌, None, Ok, Err, IfErr, IfOk, IsTrue};
+ghost use Rattle.kfs_model.specs.Judgement.{State};
 ghost use Rattle.kfs_desk.specs.Opening.{begin_fault};
-ghost use Rattle.kfs_journal.specs.Disk.{Only};
+ghost use Rattle.kfs_journal.specs.Disk.{LeavesOnly, Only};
 ghost use Rattle.kfs_journal.specs.Journal.{AreEmpty};
+ghost use Rattle.kfs_kept.specs.Faults.{IsOutside};
 ghost use Rattle.kfs_kept.specs.Keeping.{IsKept};
+ghost use Rattle.kfs_kept.specs.Standing.{MeanTheSame, StandFor};
 ghost use Rattle.kfs_program_text.specs.Streams.{Exchanges};
-ghost use Rattle.kfs_server.specs.Serving.Running.{IsRun, IsRunFromFiles, IsRunFromNew, open_status, save_status, serve_status, status_of};
+ghost use Rattle.kfs_server.specs.Serving.Running.{IsRun, IsRunAdmitting, IsRunFromFiles, IsRunFromNew, admit_status, open_status, save_status, serve_status, status_of};
 
 use crate::serving::fault::{GroupFault, RunFault, ServeFault};
 use crate::serving::session::serve;
 use kfs_desk::Desk;
 use kfs_journal::Disk;
-use kfs_kept::{Judges, Kept, OpenFault, SaveFault};
+use kfs_kept::{AdmitFault, Judges, Kept, OpenBack, OpenFault, SaveFault};
+use kfs_mode::Client;
 use std::alloc::Allocator;
 use std::io::{Read, Write};
 use std::thread::Threads;
@@ -41,6 +45,63 @@ where
     requires durable { Only (D.seen disk) (D.may_leave disk) }
     ensures { Exchanges (I.remaining reader.old) (I.remaining reader.new) (O.contents writer.old) (O.contents writer.new) (IsRunFromFiles A D.seen D.may_leave D.moment D.left_since disk result) }
 {
+    match open_kept(judges, alloc, disk, files, limit) {
+        Ok(kept) => run(judges, alloc, kept, reader, writer),
+        Err(back) => Err(RunFault::NotOpened(back.why)),
+    }
+}
+
+/// The same with a list of clients, which takes the place of the desk's before anything is read (`Kept::admit`).
+///
+/// `NotAdmitted` where it isn't taken: nothing was read or written, and the files stand for what they did, unless the disk
+/// has failed.
+pub fn run_admitting<R, A, D, I, O>(
+    judges: &Judges<'_, R>,
+    alloc: A,
+    disk: D,
+    files: (Vec<u8, A>, Vec<u8, A>),
+    clients: &[Client],
+    limit: u32,
+    reader: &mut I,
+    writer: &mut O,
+) -> Result<(), RunFault>
+where
+    R: Threads + Sync,
+    A: Allocator + Copy + Send + Sync,
+    D: Disk + Drop,
+    I: Read,
+    O: Write,
+    requires bytes { D.seen disk ≡ (files.0.items, files.1.items) }
+    // After a restart, what is there is what is on the disk.
+    requires durable { Only (D.seen disk) (D.may_leave disk) }
+    ensures { Exchanges (I.remaining reader.old) (I.remaining reader.new) (O.contents writer.old) (O.contents writer.new) (IsRunAdmitting A D.seen D.may_leave D.moment D.left_since disk clients.now result) }
+{
+    match open_kept(judges, alloc, disk, files, limit) {
+        Ok(mut kept) => match kept.admit(judges.threads, alloc, clients, limit) {
+            Ok(_) => run(judges, alloc, kept, reader, writer),
+            Err(why) => Err(RunFault::NotAdmitted(why)),
+        },
+        Err(back) => Err(RunFault::NotOpened(back.why)),
+    }
+}
+
+/// Opens files, and frees their bytes.
+fn open_kept<R: Threads + Sync, A: Allocator + Copy, D: Disk + Drop>(
+    judges: &Judges<'_, R>,
+    alloc: A,
+    disk: D,
+    files: (Vec<u8, A>, Vec<u8, A>),
+    limit: u32,
+) -> Result<Kept<A, D>, OpenBack<D>>
+    requires bytes { D.seen disk ≡ (files.0.items, files.1.items) }
+    requires durable { Only (D.seen disk) (D.may_leave disk) }
+    ensures found { IfOk result (λ kept. StandFor (D.seen disk) kept.desk.state) }
+    ensures kept { IfOk result (λ kept. IsKept D.seen D.may_leave kept) }
+    ensures open { IfOk result (λ kept. IsTrue kept.is_open) }
+    ensures any_moment { IfOk result (λ kept. LeavesOnly D.moment D.left_since disk kept.disk (MeanTheSame (D.seen disk))) }
+    ensures any_moment_err { IfErr result (λ back. LeavesOnly D.moment D.left_since disk back.disk (MeanTheSame (D.seen disk))) }
+    ensures due { (s : State) → StandFor (D.seen disk) s → IfErr result (λ back. IsOutside back.why) }
+{
     let (first, second) = files;
     let opened = Kept::open(
         judges.threads,
@@ -53,10 +114,7 @@ where
     // A server may run for months, and the bytes are as many as the journal's.
     drop(first);
     drop(second);
-    match opened {
-        Ok(kept) => run(judges, alloc, kept, reader, writer),
-        Err(back) => Err(RunFault::NotOpened(back.why)),
-    }
+    opened
 }
 
 /// Keeps a desk in a new journal on two empty files, and serves it from `reader` to `writer`.
@@ -113,6 +171,7 @@ where
 
 /// The exit status of a program that ran so:
 /// - 0: the input has ended;
+/// - 1: the list of clients leaves one out or changes it, or its clients can't be beside each other;
 /// - 3: the files aren't those of a kept desk, or have failed;
 /// - 4: memory was refused;
 /// - 5: the input can't be read, or the output can't be written.
@@ -122,6 +181,7 @@ pub fn exit_status(ended: &Result<(), RunFault>) -> u8
     match ended {
         Ok(()) => 0,
         Err(RunFault::NotOpened(why)) => status_of_opening(*why),
+        Err(RunFault::NotAdmitted(why)) => status_of_admitting(*why),
         Err(RunFault::NotMade(why)) => status_of_making(*why),
         Err(RunFault::Stopped(fault)) => status_of_serving(*fault),
     }
@@ -133,6 +193,15 @@ fn status_of_opening(why: OpenFault) -> u8
     match why {
         OpenFault::OutOfMemory => 4,
         _ => 3,
+    }
+}
+
+fn status_of_admitting(why: AdmitFault) -> u8
+    ensures { result ≡ admit_status why }
+{
+    match why {
+        AdmitFault::LeftOut(_) | AdmitFault::BadClients(_) => 1,
+        AdmitFault::Unsaved(why) => status_of_making(why),
     }
 }
 

@@ -87,7 +87,8 @@ pub mod call {
 /// A desk whose answers outlive a crash, and a desk from the bytes of a state in several threads.
 pub mod kept {
     pub use kfs_kept::{
-        CallsFault, CreateBack, Early, Judges, Kept, OpenBack, OpenFault, SaveFault, restore,
+        AdmitFault, CallsFault, CreateBack, Early, Judges, Kept, OpenBack, OpenFault, SaveFault,
+        restore,
     };
 }
 

@@ -87,6 +87,36 @@ impl Base {
     }
 }
 
+/// How many bytes of groups there were since a state was copied, and behind how many the next one is: these calls are made at a start, so
+/// they shall take no longer than the state does to be opened.
+#[derive(Clone, Copy, Debug)]
+pub struct Since {
+    bytes: u64,
+    due: u64,
+    least: u64,
+}
+
+impl Since {
+    /// Nothing since a state of this length. The next one is behind so many bytes at least.
+    pub fn new(least: u64, length: u64) -> Since {
+        Since { bytes: 0, due: least.max(length / 2), least }
+    }
+
+    pub fn add(&mut self, bytes: usize) {
+        self.bytes += bytes as u64;
+    }
+
+    /// Whether a state is due.
+    pub fn is_long(&self) -> bool {
+        self.bytes >= self.due
+    }
+
+    /// A state of this length was copied.
+    pub fn begin_anew(&mut self, length: u64) {
+        *self = Since::new(self.least, length);
+    }
+}
+
 /// The folder in which a member keeps its state.
 #[derive(Clone, Debug)]
 pub struct Bases(PathBuf);
@@ -97,11 +127,12 @@ impl Bases {
     }
 
     /// Copies the state of the file that counts in a folder of `kfs_serve`, which has just begun its journal anew. It is kept by `keep`.
-    pub fn copy(&self, replica: &Path) -> io::Result<()> {
+    /// Tells how long it is.
+    pub fn copy(&self, replica: &Path) -> io::Result<u64> {
         let (file, length) = journal::counting(replica)?.ok_or(ErrorKind::NotFound)?;
         let mut part = self.part()?;
         match io::copy(&mut file.take(length), &mut part)? {
-            copied if copied == length => Ok(()),
+            copied if copied == length => Ok(length),
             _ => Err(ErrorKind::UnexpectedEof.into()),
         }
     }
@@ -128,6 +159,11 @@ impl Bases {
         File::open(&part)?.sync_all()?;
         fs::rename(part, self.0.join(NAME))?;
         File::open(&self.0)?.sync_all()
+    }
+
+    /// How long the file is that is kept; 0 where there is none.
+    pub fn length(&self) -> u64 {
+        fs::metadata(self.0.join(NAME)).map_or(0, |found| found.len())
     }
 
     /// Whether one is kept.
@@ -215,6 +251,20 @@ mod tests {
         bases.put(&to.0).unwrap();
         assert_eq!(fs::read(to.0.join(FILES[0])).unwrap(), file(4, b"cde"));
         assert_eq!(fs::read(to.0.join(FILES[1])).unwrap(), b"");
+    }
+
+    #[test]
+    fn a_state_is_due_behind_half_of_its_bytes() {
+        let mut since = Since::new(100, 50);
+        since.add(99);
+        assert!(!since.is_long());
+        since.add(1);
+        assert!(since.is_long());
+        since.begin_anew(1000);
+        since.add(499);
+        assert!(!since.is_long());
+        since.add(1);
+        assert!(since.is_long());
     }
 
     #[test]

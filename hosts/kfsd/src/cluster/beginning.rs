@@ -1,6 +1,6 @@
 //! A volume that begins with a desk that is there: with the two files of one, or with the state that a member of a volume has kept.
 
-use super::base::{Base, Bases};
+use super::base::{Base, Bases, Since};
 use super::origin::Origin;
 use super::replica::{begin_anew, Replica};
 use super::volume::Volume;
@@ -39,7 +39,7 @@ pub async fn begin(settings: &Settings, config: &Config, own: &Folder, from: &Pa
     let words = ["open".into(), folder.clone().into(), config.rows.to_string().into()];
     let mut replica =
         Replica::start(&config.program, &words, folder.clone()).await.map_err(|fault| no_desk(fault.to_string()))?;
-    if !replica.copy_state(&bases).await? {
+    if !replica.copy_state(&bases, &mut Since::new(0, 0)).await? {
         return Err(no_desk("kfs_serve is of an older version".to_string()));
     }
     replica.end().await;

@@ -35,6 +35,11 @@ impl Group {
         bytes
     }
 
+    /// How many bytes its calls and answers have.
+    pub fn length(&self) -> usize {
+        self.calls.iter().map(|(call, answer)| call.len() + answer.len()).sum()
+    }
+
     /// The group that these bytes are; none where they are none.
     pub fn of(bytes: &[u8]) -> Option<Group> {
         let mut bytes = Bytes(bytes);

@@ -2,7 +2,7 @@
 //!
 //! While a group is put, `kfs_serve` makes the next one. So its files may be ahead of etcd, by calls of which nobody has heard.
 
-use super::base::{Base, Bases};
+use super::base::{Base, Bases, Since};
 use super::group::Group;
 use super::replica::{bodies, Replica};
 use super::volume::{Lead, Volume};
@@ -34,8 +34,6 @@ pub struct Leading<'a> {
     pub bases: &'a Bases,
     /// The random number of the volume.
     pub id: u64,
-    /// A state is kept behind groups of so many bytes.
-    pub state_bytes: u64,
     /// How long the calls of a group may take.
     pub most: Duration,
 }
@@ -60,12 +58,12 @@ pub async fn is_kept(kept: &mut Kept) -> Result<(), ClusterFault> {
 pub async fn lead(
     leading: &Leading<'_>,
     next: u64,
-    kept: Kept,
+    state: (Since, Kept),
     replica: &mut Replica,
     shared: &Shared,
 ) -> Result<(), ClusterFault> {
     let (to, made) = channel(1);
-    let making = make(leading, kept, replica, to, shared);
+    let making = make(leading, state, replica, to, shared);
     let working = async { tokio::try_join!(making, put(leading, next, made, shared)).map(drop) };
     tokio::select! {
         worked = working => worked,
@@ -77,12 +75,11 @@ pub async fn lead(
 /// Has calls made, until there are none any more or nobody takes them.
 async fn make(
     leading: &Leading<'_>,
-    mut under_way: Kept,
+    (mut since, mut under_way): (Since, Kept),
     replica: &mut Replica,
     to: Sender<Made>,
     shared: &Shared,
 ) -> Result<(), ClusterFault> {
-    let mut bytes_since = 0;
     while let Some(Batch { bytes, sent }) = shared.queue.next(MOST).await {
         count_sent(&sent, shared);
         let talking = timeout(leading.most, replica.talk(&bytes, sent.len())).await;
@@ -95,17 +92,16 @@ async fn make(
             // What is refused, and what looks, changes nothing.
             group.calls.extend(reply.answer().map(|answer| (body.to_vec(), answer.to_vec())));
         }
-        bytes_since += bytes.len() as u64;
+        since.add(bytes.len());
         let said = sent.into_iter().zip(replies).collect();
         if to.send(Made::Calls(group, said)).await.is_err() {
             break;
         }
-        if bytes_since >= leading.state_bytes {
-            bytes_since = 0;
+        if since.is_long() {
             is_kept(&mut under_way).await?;
             let (kept, next) = oneshot::channel();
             under_way = next;
-            if replica.copy_state(leading.bases).await? && to.send(Made::State(kept)).await.is_err() {
+            if replica.copy_state(leading.bases, &mut since).await? && to.send(Made::State(kept)).await.is_err() {
                 break;
             }
         }

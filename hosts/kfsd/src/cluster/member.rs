@@ -1,9 +1,10 @@
 //! A member of a volume: it makes the calls of all groups, and leads where nobody does.
 
-use super::base::{Base, Bases};
+use super::base::{Base, Bases, Since};
 use super::leading::{self, Kept, Leading};
 use super::origin::Origin;
 use super::peer::{self, Key};
+use super::portion::Portion;
 use super::relay::relay;
 use super::replica::{begin_anew, Replica};
 use super::volume::{Lead, Seen, Sign, Volume};
@@ -18,7 +19,7 @@ use crate::sockets::Sockets;
 use std::ffi::OsString;
 use std::fs;
 use std::io;
-use std::path::PathBuf;
+use std::path::{Path, PathBuf};
 use std::sync::Arc;
 use std::time::{Duration, Instant};
 use tokio::net::TcpListener;
@@ -48,6 +49,8 @@ pub struct Member {
     control: PathBuf,
     program: PathBuf,
     folder: Folder,
+    /// Where the files of `kfs_serve` are, where that is another folder. It is locked, too.
+    elsewhere: Option<Folder>,
     rows: u32,
 }
 
@@ -58,8 +61,8 @@ struct Follower {
     finder: Finder,
     /// The moment of the last group.
     moment: u64,
-    /// How many bytes of groups there were since a state was kept.
-    bytes: u64,
+    /// How much there was since a state was copied.
+    since: Since,
     /// How the last state that was copied is kept.
     kept: Kept,
 }
@@ -101,6 +104,7 @@ impl Member {
             socket: config.socket.clone(),
             control: config.control.clone(),
             program: config.program.clone(),
+            elsewhere: settings.replica_folder.as_deref().map(lock_other).transpose()?,
             folder,
             rows: config.rows,
         })
@@ -138,7 +142,8 @@ impl Member {
         self.have_state(leader).await?;
         let (mut replica, mut follower) = self.begin(shared).await?;
         info!("{} follows volume {} from group {} on", self.settings.member, self.settings.volume, follower.next);
-        let (mut watch, mut seen) = (Watch::new(), self.look(follower.next).await?);
+        let (mut watch, mut portion) = (Watch::new(), Portion::default());
+        let mut seen = self.look(follower.next, &mut portion).await?;
         loop {
             watch.see(&seen);
             if *leader.borrow() != seen.leader {
@@ -147,7 +152,7 @@ impl Member {
                 leader.send_replace(seen.leader.clone());
             }
             if !seen.groups.is_empty() {
-                seen = self.make(seen, &mut replica, &mut follower, shared).await?;
+                seen = self.make(seen, &mut portion, &mut replica, &mut follower, shared).await?;
                 continue;
             }
             let is_free = seen.leader.is_none() || watch.is_over(self.settings.lease());
@@ -157,31 +162,44 @@ impl Member {
                 }
             }
             sleep(POLL).await;
-            seen = self.look(follower.next).await?;
+            seen = self.look(follower.next, &mut portion).await?;
         }
     }
 
     /// Looks how the volume stands, once etcd answers.
-    async fn look(&self, from: u64) -> Result<Seen, ClusterFault> {
+    async fn look(&self, from: u64, portion: &mut Portion) -> Result<Seen, ClusterFault> {
         loop {
-            match self.volume.look(from).await {
+            match self.volume.look(from, portion.count()).await {
                 Err(ClusterFault::Etcd(fault)) => warn!("{fault}"),
-                other => return other,
+                other => {
+                    let seen = other?;
+                    portion.came(&seen.groups);
+                    return Ok(seen);
+                }
             }
+            portion.is_late();
             sleep(REST).await;
         }
     }
 
-    /// Makes the calls of groups, and looks for those behind them meanwhile.
+    /// Makes the calls of groups, and looks for those behind them meanwhile: at once where there are some, and else not before others
+    /// have come together, so that they take one read of etcd and one sync.
     async fn make(
         &self,
         seen: Seen,
+        portion: &mut Portion,
         replica: &mut Replica,
         follower: &mut Follower,
         shared: &Shared,
     ) -> Result<Seen, ClusterFault> {
         let behind = follower.next + seen.groups.len() as u64;
-        let (made, later) = tokio::join!(replica.feed(&seen.groups), self.look(behind));
+        let looking = async {
+            if !seen.has_more() {
+                sleep(POLL).await;
+            }
+            self.look(behind, portion).await
+        };
+        let (made, later) = tokio::join!(replica.feed(&seen.groups), looking);
         made?;
         seen.groups.iter().for_each(|(number, group)| follower.take(*number, group, shared));
         debug!("group {} is next", follower.next);
@@ -205,7 +223,7 @@ impl Member {
     async fn have_state(&self, leader: &watch::Sender<Option<String>>) -> Result<(), ClusterFault> {
         loop {
             let number = self.own_base()?.map_or(0, |base| base.number);
-            match self.volume.look(number).await {
+            match self.volume.look(number, 1).await {
                 Ok(seen) => {
                     leader.send_replace(seen.leader);
                     return Ok(());
@@ -264,11 +282,13 @@ impl Member {
     /// Starts `kfs_serve` with the state that is kept, or as at the first start. What its files were before goes.
     async fn begin(&self, shared: &Shared) -> Result<(Replica, Follower), ClusterFault> {
         let base = self.own_base()?;
-        let folder = begin_anew(self.folder.path()).map_err(ClusterFault::Folder)?;
+        let folder = self.elsewhere.as_ref().unwrap_or(&self.folder).path();
+        let folder = begin_anew(folder).map_err(ClusterFault::Folder)?;
         let clients = folder.join("clients");
         fs::write(&clients, &self.origin.clients).map_err(ClusterFault::Folder)?;
         let mut words: Vec<OsString> = vec!["new".into(), folder.clone().into(), self.rows.to_string().into()];
-        let mut follower = Follower { next: 0, finder: Finder::default(), moment: 0, bytes: 0, kept: oneshot::channel().1 };
+        let since = Since::new(self.settings.state_bytes, self.bases.length());
+        let mut follower = Follower { next: 0, finder: Finder::default(), moment: 0, since, kept: oneshot::channel().1 };
         if let Some(base) = base {
             let (bases, to) = (self.bases.clone(), folder.clone());
             blocking(move || bases.put(&to)).await?;
@@ -286,12 +306,11 @@ impl Member {
 
     /// Has a state kept, where there were many groups since the last one. Groups are made meanwhile.
     async fn keep_state(&self, replica: &mut Replica, follower: &mut Follower, shared: &Shared) -> Result<(), ClusterFault> {
-        if follower.bytes < self.settings.state_bytes {
+        if !follower.since.is_long() {
             return Ok(());
         }
-        follower.bytes = 0;
         leading::is_kept(&mut follower.kept).await?;
-        if replica.copy_state(&self.bases).await? {
+        if replica.copy_state(&self.bases, &mut follower.since).await? {
             let number = follower.next;
             let base = Base::now(self.origin.volume, number, follower.moment, &shared.following);
             let (bases, volume) = (self.bases.clone(), Arc::clone(&self.volume));
@@ -327,10 +346,10 @@ impl Member {
             lead: &lead,
             bases: &self.bases,
             id: self.origin.volume,
-            state_bytes: self.settings.state_bytes,
             most: Duration::from_secs(self.settings.hang_seconds),
         };
-        let led = leading::lead(&leading, follower.next, follower.kept, &mut replica, shared).await;
+        let Follower { next, since, kept, .. } = follower;
+        let led = leading::lead(&leading, next, (since, kept), &mut replica, shared).await;
         shared.figures.opened.set(0);
         // Its key goes at once. What it has sent before that it was told of, or it is refused.
         self.volume.end(&lead).await;
@@ -354,6 +373,13 @@ async fn begin(volume: &Volume, wanted: &str, folder: &Folder) -> Result<String,
     volume.begin(wanted, 0).await
 }
 
+/// Locks another folder than kfsd's own.
+fn lock_other(path: &Path) -> Result<Folder, ClusterFault> {
+    let failed = |fault| ClusterFault::Path(path.to_path_buf(), fault);
+    let taken = || failed(io::Error::new(io::ErrorKind::AlreadyExists, "another kfsd has it"));
+    Folder::lock(path).map_err(failed)?.ok_or_else(taken)
+}
+
 /// Takes the questions of `kfsctl`, which a member that doesn't lead has no answer to, until the queue is closed.
 async fn turned_away(queue: &Queue) {
     while let Some(batch) = queue.next(0).await {
@@ -367,14 +393,13 @@ impl Watch {
         Watch { sign: Sign::default(), since: now, term: 0, elected: now }
     }
 
-    /// Takes what was just seen.
+    /// Takes what was seen. It counts from when etcd told it: calls may have been made here since.
     fn see(&mut self, seen: &Seen) {
-        let now = Instant::now();
         if self.sign != seen.sign {
-            (self.sign, self.since) = (seen.sign, now);
+            (self.sign, self.since) = (seen.sign, seen.when);
         }
         if self.term < seen.term {
-            (self.term, self.elected) = (seen.term, now);
+            (self.term, self.elected) = (seen.term, seen.when);
             debug!("etcd has an own leader of term {}, or seeks one", seen.term);
         }
     }
@@ -395,12 +420,39 @@ impl Follower {
             if let Some(outcome) = self.finder.next(call, answer) {
                 following.outcomes.end(outcome.client, outcome.number, Some(answer));
             }
-            self.bytes += (call.len() + answer.len()) as u64;
         }
+        self.since.add(group.length());
         // All of it is in etcd.
         drop(following.take_unsaved());
         self.moment = group.moment;
         self.next = number + 1;
         shared.figures.group.set(self.next);
+    }
+}
+
+#[cfg(test)]
+mod tests {
+    use super::*;
+
+    #[test]
+    fn a_sign_counts_from_when_etcd_told_it() {
+        let (lease, mut watch) = (Duration::from_secs(2), Watch::new());
+        let told = |sign, millis| {
+            let when = Instant::now() - Duration::from_millis(millis);
+            Seen { when, leader: None, sign: Sign { leader: 1, sign }, term: 5, next: 0, groups: vec![] }
+        };
+        watch.see(&told(2, 1900));
+        assert!(!watch.is_over(lease));
+        watch.see(&told(3, 2100));
+        assert!(watch.is_over(lease));
+        // the same sign, told again
+        watch.see(&told(3, 0));
+        assert!(watch.is_over(lease));
+        watch.see(&told(4, 0));
+        assert!(!watch.is_over(lease));
+        // etcd has just found a leader of its own
+        watch.see(&Seen { term: 6, ..told(5, 2100) });
+        watch.see(&Seen { term: 7, ..told(5, 0) });
+        assert!(!watch.is_over(lease));
     }
 }

@@ -13,6 +13,7 @@ pub mod listing;
 pub mod member;
 pub mod origin;
 pub mod peer;
+pub mod portion;
 pub mod relay;
 pub mod replica;
 pub mod term;
@@ -115,7 +116,9 @@ pub struct Settings {
     pub peer: SocketAddr,
     /// The file with the key that all members know.
     pub key_file: PathBuf,
-    /// A state is kept behind groups of so many bytes.
+    /// Where the files of `kfs_serve` are; kfsd's own folder where it isn't there. They go at each start, so it may be in memory.
+    pub replica_folder: Option<PathBuf>,
+    /// A state is kept behind groups of so many bytes, or of half of the last one's where those are more.
     #[serde(default = "state_bytes")]
     pub state_bytes: u64,
     /// A leader gives up where `kfs_serve` takes longer than this for the calls of a group.
@@ -132,7 +135,7 @@ fn lease_seconds() -> u64 {
 }
 
 fn state_bytes() -> u64 {
-    16 << 20
+    4 << 20
 }
 
 impl Settings {
@@ -176,6 +179,7 @@ mod tests {
             lease_seconds: 2,
             peer: ([127, 0, 0, 1], 9470).into(),
             key_file: "/etc/key".into(),
+            replica_folder: None,
             state_bytes: 1,
             hang_seconds: 1,
         };

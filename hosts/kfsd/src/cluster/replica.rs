@@ -1,6 +1,6 @@
 //! A `kfs_serve` that is given the groups of a volume. What it answers has to be what the leader's has answered.
 
-use super::base::Bases;
+use super::base::{Bases, Since};
 use super::group::Group;
 use super::{blocking, ClusterFault};
 use crate::frames::{read_reply, Head, Reply, CHECKPOINT, HEAD};
@@ -16,7 +16,7 @@ use tokio::process::{Child, ChildStdin, ChildStdout, Command};
 use tokio::time::timeout;
 use tracing::warn;
 
-/// The folder of its files, in kfsd's own. What is in it goes at each start.
+/// The folder of its files, in kfsd's own or another one. What is in it goes at each start.
 pub const FOLDER: &str = "replica";
 
 /// How long it may take to end once its input has.
@@ -120,16 +120,17 @@ impl Replica {
         Ok(())
     }
 
-    /// Has it begin its journal anew, and copies the state that it begins with. False where it refuses that.
-    pub async fn copy_state(&mut self, bases: &Bases) -> Result<bool, ClusterFault> {
+    /// Has it begin its journal anew, and copies the state that it begins with. False where it refuses that. Groups count anew.
+    pub async fn copy_state(&mut self, bases: &Bases, since: &mut Since) -> Result<bool, ClusterFault> {
         let head = Head { length: 1, number: FRONT, from: FRONT };
         let replies = self.talk(&[&head.bytes()[..], &[CHECKPOINT]].concat(), 1).await?;
         if replies.iter().any(|reply| reply.found().is_none()) {
             warn!("no state is kept: kfs_serve refuses to begin its journal anew");
+            since.begin_anew(0);
             return Ok(false);
         }
         let (bases, folder) = (bases.clone(), self.folder.clone());
-        blocking(move || bases.copy(&folder)).await?;
+        since.begin_anew(blocking(move || bases.copy(&folder)).await?);
         Ok(true)
     }
 

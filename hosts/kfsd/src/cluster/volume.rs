@@ -21,9 +21,6 @@ const PUT: Duration = Duration::from_secs(30);
 /// How long an end that is told may take. Where it isn't told, others wait for the time of a lease.
 const LAST: Duration = Duration::from_millis(500);
 
-/// How many groups are read at once, each of which has at most `PART` bytes and one more.
-const AT_ONCE: usize = 16;
-
 /// How many members a volume has at most.
 pub(super) const MEMBERS: usize = 1000;
 
@@ -44,6 +41,8 @@ pub struct Volume {
 /// How a volume stands.
 #[derive(Debug)]
 pub struct Seen {
+    /// When etcd had answered that.
+    pub when: Instant,
     /// Where the member is that leads it.
     pub leader: Option<String>,
     pub sign: Sign,
@@ -59,8 +58,8 @@ pub struct Seen {
 #[derive(Clone, Copy, Debug, Default, PartialEq, Eq)]
 pub struct Sign {
     /// The revisions at which the leader's key, and its sign, were put last; 0 where they aren't there.
-    leader: i64,
-    sign: i64,
+    pub(super) leader: i64,
+    pub(super) sign: i64,
 }
 
 /// What a leader has.
@@ -70,6 +69,13 @@ pub struct Lead {
     revision: i64,
     /// How long others wait behind its last sign.
     pub time: Duration,
+}
+
+impl Seen {
+    /// Whether groups are in etcd behind those that were read.
+    pub fn has_more(&self) -> bool {
+        self.groups.last().map_or(false, |(number, _)| number + 1 < self.next)
+    }
 }
 
 impl Volume {
@@ -121,9 +127,9 @@ impl Volume {
         text_in(&found.value)
     }
 
-    /// Looks who leads, and for groups from a number on.
-    pub async fn look(&self, from: u64) -> Result<Seen, ClusterFault> {
-        let groups = Do::Range(self.group(from), self.key("group0"), AT_ONCE);
+    /// Looks who leads, and for so many groups from a number on at most.
+    pub async fn look(&self, from: u64, most: usize) -> Result<Seen, ClusterFault> {
+        let groups = Do::Range(self.group(from), self.key("group0"), most);
         let steps = [Do::Get(self.key("leader")), Do::Get(self.key("sign")), Do::Get(self.key("next")), groups];
         let done = self.etcd.look(&steps, Instant::now() + LOOK).await?;
         match self.seen(from, done).await {
@@ -137,6 +143,7 @@ impl Volume {
     }
 
     async fn seen(&self, from: u64, done: Done) -> Result<Seen, ClusterFault> {
+        let when = Instant::now();
         let next = number_in(&done, 2).ok_or(ClusterFault::Unread("the number of the next group"))?;
         if next < from {
             return Err(ClusterFault::Ahead { own: from, next });
@@ -154,7 +161,7 @@ impl Volume {
         if groups.is_empty() && from < next {
             return Err(ClusterFault::Gap(from));
         }
-        Ok(Seen { leader, sign, term: done.term, next, groups })
+        Ok(Seen { when, leader, sign, term: done.term, next, groups })
     }
 
     /// The group of a row, with its parts.
