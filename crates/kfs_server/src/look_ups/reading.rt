@@ -49,11 +49,7 @@ fn ends(body: &[u8], at: usize) -> Option<()>
     requires { at ≤ length body.now }
     ensures { result ≡ at_end (drop at body.now) }
 {
-    if at == body.len() {
-        Some(())
-    } else {
-        None
-    }
+    if at == body.len() { Some(()) } else { None }
 }
 
 fn read_node(body: &[u8], at: usize) -> Option<LookUp<'_>>
