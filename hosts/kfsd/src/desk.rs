@@ -9,7 +9,7 @@ use crate::folder::{Folder, Found};
 use crate::following::Following;
 use crate::frames::{read_reply, said_again, Head, Reply};
 use crate::queue::{Answer, Batch, Sent};
-use crate::store::Store;
+use crate::store::{Changes, Store};
 use crate::times;
 use crate::users::FRONT;
 use std::collections::{HashMap, HashSet, VecDeque};
@@ -23,7 +23,7 @@ use thiserror::Error;
 use tokio::io::{AsyncRead, AsyncWrite, AsyncWriteExt, BufReader};
 use tokio::process::{Child, ChildStdin, ChildStdout, Command};
 use tokio::sync::watch;
-use tokio::task::{block_in_place, spawn_blocking};
+use tokio::task::spawn_blocking;
 use tokio::time::{sleep, timeout};
 use tracing::{info, warn};
 
@@ -98,15 +98,15 @@ struct Ended {
 impl Desk {
     /// Has `kfs_serve` answer the calls of the queue, until the queue is closed and empty. `ready` becomes true when the
     /// files are open for the first time.
-    pub async fn run(&self, shared: &Shared, ready: &watch::Sender<bool>) -> Result<(), DeskFault> {
-        self.begin(shared)?;
+    pub async fn run(&self, shared: &Arc<Shared>, ready: &watch::Sender<bool>) -> Result<(), DeskFault> {
+        self.begin(shared).await?;
         let mut fruitless = 0;
         loop {
             let lines = self.new_clients()?;
             let ended = self.once(shared, ready, lines.as_deref()).await?;
-            self.keep(shared)?;
+            self.keep(shared).await?;
             match ended.done {
-                Some(Why::Closed) => return Ok(self.store().end()?),
+                Some(Why::Closed) => return Ok(locked(&self.store).end()?),
                 Some(Why::NewClients) => {
                     fruitless = 0;
                     continue;
@@ -119,7 +119,7 @@ impl Desk {
                 continue;
             }
             fault_of(ended.status)?;
-            self.settle(shared, ended.left)?;
+            self.settle(shared, ended.left).await?;
             fruitless = if ended.has_begun { 0 } else { fruitless + 1 };
             if fruitless == FRUITLESS {
                 return Err(DeskFault::Fruitless(ended.status));
@@ -153,32 +153,25 @@ impl Desk {
     }
 
     /// Reads what was kept, and how the desk stands.
-    fn begin(&self, shared: &Shared) -> Result<(), DeskFault> {
-        let following = &shared.following;
-        block_in_place(|| {
-            recall(self.folder.path(), &mut self.store(), following)?;
-            self.keep(shared)
-        })
-    }
-
-    fn store(&self) -> MutexGuard<'_, Store> {
-        self.store.lock().unwrap_or_else(PoisonError::into_inner)
+    async fn begin(&self, shared: &Arc<Shared>) -> Result<(), DeskFault> {
+        let (store, following, folder) = (Arc::clone(&self.store), Arc::clone(shared), self.folder.path().to_path_buf());
+        beside(move || recall(&folder, &mut locked(&store), &following.following)).await?;
+        self.keep(shared).await
     }
 
     /// Keeps what isn't kept yet.
-    fn keep(&self, shared: &Shared) -> Result<(), DeskFault> {
-        let changes = shared.following.take_unsaved();
-        block_in_place(|| self.store().keep(&changes))?;
-        Ok(())
+    async fn keep(&self, shared: &Shared) -> Result<(), DeskFault> {
+        keep(&self.store, shared.following.take_unsaved()).await
     }
 
     /// Finds out of the calls that a process has left without an answer whether they were made, as far as the journal tells.
     /// No process runs. Of calls without a number each asker hears that nobody knows.
-    fn settle(&self, shared: &Shared, left: VecDeque<Sent>) -> Result<(), DeskFault> {
+    async fn settle(&self, shared: &Arc<Shared>, left: VecDeque<Sent>) -> Result<(), DeskFault> {
         let following = &shared.following;
         let asked: HashSet<_> = left.iter().filter_map(|sent| Some((sent.client, sent.numbered?))).collect();
-        let is_asked = |client, number| asked.contains(&(client, number));
-        let found = block_in_place(|| following.read(self.folder.path(), is_asked)).map_err(DeskFault::Folder)?;
+        let (reading, folder) = (Arc::clone(shared), self.folder.path().to_path_buf());
+        let read = move || reading.following.read(&folder, |client, number| asked.contains(&(client, number)));
+        let found = beside(move || read().map_err(DeskFault::Folder)).await?;
         let outcomes = found.outcomes.into_values().flatten();
         let outcomes: HashMap<_, _> = outcomes.map(|one| ((one.client, one.number), one.answer)).collect();
         let answer_of = |sent: &Sent| sent.numbered.and_then(|number| outcomes.get(&(sent.client, number)));
@@ -192,7 +185,7 @@ impl Desk {
                 following.times().changed(&changes, times::now());
             }
         }
-        self.keep(shared)?;
+        self.keep(shared).await?;
         for sent in left {
             match (answer_of(&sent), sent.asker) {
                 (Some(answer), Some(asker)) => {
@@ -268,12 +261,8 @@ impl Desk {
             let count = flight.count_ended();
             let changes = shared.following.take_unsaved();
             if !changes.is_empty() {
-                let store = Arc::clone(&self.store);
-                let keeping = spawn_blocking(move || store.lock().unwrap_or_else(PoisonError::into_inner).keep(&changes));
-                match keeping.await {
-                    Ok(Ok(())) => {}
-                    Ok(Err(fault)) => return DeskFault::Store(fault),
-                    Err(fault) => return DeskFault::Keeping(fault),
+                if let Err(fault) = keep(&self.store, changes).await {
+                    return fault;
                 }
             }
             flight.kept(count);
@@ -315,6 +304,21 @@ impl Desk {
             }
         }
     }
+}
+
+/// Does what may take long with files on a thread of its own, beside all else.
+async fn beside<T: Send + 'static>(work: impl FnOnce() -> Result<T, DeskFault> + Send + 'static) -> Result<T, DeskFault> {
+    spawn_blocking(work).await.unwrap_or_else(|fault| Err(DeskFault::Keeping(fault)))
+}
+
+fn locked(store: &Mutex<Store>) -> MutexGuard<'_, Store> {
+    store.lock().unwrap_or_else(PoisonError::into_inner)
+}
+
+/// Keeps changes.
+async fn keep(store: &Arc<Mutex<Store>>, changes: Changes) -> Result<(), DeskFault> {
+    let store = Arc::clone(store);
+    beside(move || Ok(locked(&store).keep(&changes)?)).await
 }
 
 /// Reads what was kept, and how the desk in a folder stands. No `kfs_serve` may run.

@@ -22,7 +22,9 @@ struct Words {
     verbose: bool,
 }
 
-#[tokio::main]
+// One thread waits for sockets and pipes and uses them. With several, tokio 1.24 may miss that one has become ready: it numbers
+// its waits modulo 256, and where an event has the number of the one before, what a short write takes back is the new one.
+#[tokio::main(flavor = "current_thread")]
 async fn main() -> ExitCode {
     let words = Words::parse();
     let level = if words.verbose { Level::DEBUG } else { Level::INFO };

@@ -14,7 +14,7 @@ use std::path::{Path, PathBuf};
 use std::process::{Command, ExitStatus, Stdio};
 use std::thread::sleep;
 use std::time::{Duration, Instant};
-use tokio::runtime::Runtime;
+use tokio::runtime::Builder;
 
 /// How long an answer may take.
 const TIME: Duration = Duration::from_secs(60);
@@ -77,7 +77,9 @@ fn main() -> Result<()> {
         Asked::Free => "free",
         Asked::Checkpoint => "checkpoint",
         Asked::Fsck { folder, program } => return fsck(&folder, &program),
-        Asked::Volumes { etcd } => return print(&Runtime::new()?.block_on(volumes(&etcd))?),
+        Asked::Volumes { etcd } => {
+            return print(&Builder::new_current_thread().enable_all().build()?.block_on(volumes(&etcd))?)
+        }
         Asked::Watch { seconds, count } => return watch(&words.control, Duration::from_secs(seconds), count),
     };
     print(&ask(&words.control, question)?)

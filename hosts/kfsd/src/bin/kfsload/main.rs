@@ -293,7 +293,8 @@ fn shared_of(words: &Words) -> Result<Shared> {
     })
 }
 
-#[tokio::main(worker_threads = 2)]
+// With one thread, as kfsd (src/main.rs).
+#[tokio::main(flavor = "current_thread")]
 async fn main() -> Result<()> {
     let words = Words::parse();
     if let Some(folder) = &words.kernel {
