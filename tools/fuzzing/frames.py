@@ -89,7 +89,7 @@ def frames_of(seed, numbers, calls):
         planned = decoded(data) if chance.random() < PLANNED else None
         if isinstance(planned, Submit):
             yield from plan_asked(chance, numbers, planned)
-        if chance.random() < LONG_PLAN:
+        if chance.random() < LONG_PLAN and numbers:
             client = chance.choice(numbers)
             yield client, b"\x48" + long_log(chance, client)
         if chance.random() < LONG:
