@@ -93,7 +93,8 @@ def ends_alike(cluster, begun_with=None):
     """Stops all, and looks whether each has the state of the groups that it has seen, and all have one image. Returns all groups."""
     cluster.settle()
     groups = groups_of(cluster)
-    seen = {it: int(re.findall(r"group (\d+) is next", it.said())[-1]) for it in cluster.machines}
+    # One that has just begun to follow says how far it has come.
+    seen = {it: int(re.findall(r"group (\d+)(?: of \d+)? is next", it.said())[-1]) for it in cluster.machines}
     assert max(seen.values()) == cluster.next()
     due = states_by_etcd(cluster, groups, set(seen.values()), begun_with)
     with tempfile.TemporaryDirectory(prefix="kfsd-states-") as room:
