@@ -83,6 +83,8 @@ fn make(rt: &HostRuntime, keeper: &mut Keeper<RawDisk<Pair>>, step: &Step<'_>) -
             due(keeper.step_checkpoint(*most))?;
             println!(rt; "checkpoint")
         }
+        // None is asked for here.
+        Step::Admit(_) => Err(failed()),
         Step::Group(calls) => {
             let mut answers = Vec::new(rt.alloc());
             due(keeper.group(calls, &mut answers))?;
@@ -121,7 +123,7 @@ fn asked<I: Read>(rt: &HostRuntime, threads: &(impl Threads + Sync), name: &str,
     let mut bytes = Vec::new(rt.alloc());
     reader.read_to_end(&mut bytes)?;
     let steps = due(steps::all(rt.alloc(), &bytes))?;
-    let calls = due(steps::calls(rt.alloc(), &steps))?;
+    let calls = due(steps::events(rt.alloc(), &steps))?;
     let plain = due(plain::ask(threads, rt.alloc(), &state, &calls))?;
     for answer in &plain.answers {
         say(rt, "=", answer)?;

@@ -1,5 +1,6 @@
 """What the tools on kept desks share: calls from seeds, the steps in which they are made, and the parts of their programs."""
 import random
+from typing import NamedTuple
 
 from fuzzing.calls import CallMaker
 from fuzzing.codec import DIRECTORY, Header, RawImage, RawNode, encode_image, number_bytes
@@ -13,7 +14,7 @@ ghost use Rattle.std.specs.Prelude.{◌≡◌, IfSome, None};
 ghost use Rattle.kfs_desk.specs.Opening.{begin_fault};
 
 use kfs_call::{AnswerRow, ClientRow, decode_state, encode_answer};
-use kfs_call_desk::{CallFault, Called, encode_desk, told};
+use kfs_call_desk::{CallFault, Called, encode_desk, restore_alone, told};
 use kfs_desk::Desk;
 use kfs_fsck::fsck;
 use kfs_image::{Image, decode_image};
@@ -37,19 +38,32 @@ fn image_of<A: Allocator + Copy>(rt: &(impl Threads + Sync), alloc: A, bytes: &[
     }
 }
 
-/// A desk with the clients and the image of a state. It has no lease.
-pub fn begun<A: Allocator + Copy>(rt: &(impl Threads + Sync), alloc: A, state: &[u8]) -> Option<Desk<A>>
-    ensures { IfSome result (λ desk. begin_fault desk.state.clients ≡ None) }
-{
+/// The clients of a state.
+pub fn clients_of<A: Allocator + Copy>(alloc: A, state: &[u8]) -> Option<Vec<Client, A>> {
     let rows = decode_state(alloc, state).ok()?;
     let mut clients = Vec::new(alloc);
     for row in rows.clients.as_slice() {
         clients.push(client_of(row)?).ok()?;
     }
-    match Desk::begin(alloc, image_of(rt, alloc, rows.image)?, clients, LIMIT) {
+    Some(clients)
+}
+
+/// A desk with the clients and the image of a state. It has no lease.
+pub fn begun<A: Allocator + Copy>(rt: &(impl Threads + Sync), alloc: A, state: &[u8]) -> Option<Desk<A>>
+    ensures { IfSome result (λ desk. begin_fault desk.state.clients ≡ None) }
+{
+    let image = decode_state(alloc, state).ok()?.image;
+    match Desk::begin(alloc, image_of(rt, alloc, image)?, clients_of(alloc, state)?, LIMIT) {
         Ok(desk) => Some(desk),
         Err(_) => None,
     }
+}
+
+/// A desk that goes on from where this one stands, with the clients of a state.
+pub fn with_clients(alloc: Global, desk: &Desk<Global>, state: &[u8]) -> Option<Desk<Global>> {
+    let clients = clients_of(alloc, state)?;
+    let bytes = encode_desk(alloc, desk.image(), &clients, desk.leases()).ok()?;
+    restore_alone(alloc, &bytes, LIMIT).ok()
 }
 
 /// The desk's state as bytes.
@@ -79,7 +93,7 @@ ghost use Rattle.kfs_journal.specs.Disk.{Only};
 ghost use Rattle.kfs_journal.specs.Journal.{AreEmpty};
 ghost use Rattle.kfs_kept.specs.Keeping.{IsKept};
 
-use crate::desks::{LIMIT, answer, saved};
+use crate::desks::{LIMIT, answer, clients_of, saved};
 use kfs_desk::Desk;
 use kfs_journal::Disk;
 use kfs_kept::{Early, Kept, OpenFault};
@@ -156,6 +170,12 @@ impl<D: Disk + Drop> Keeper<D> {
         self.kept.checkpoint(self.alloc).ok()
     }
 
+    /// Goes on with the clients of a state, which are others than its own.
+    pub fn admit(&mut self, rt: &(impl Threads + Sync), state: &[u8]) -> Option<()> {
+        let clients = clients_of(self.alloc, state)?;
+        self.kept.admit(rt, self.alloc, &clients, LIMIT).ok()?.then_some(())
+    }
+
     /// Begins a checkpoint that is made in steps.
     pub fn begin_checkpoint(&mut self) -> Option<()> {
         self.kept.begin_checkpoint(self.alloc).ok()
@@ -179,7 +199,7 @@ impl<D: Disk + Drop> Keeper<D> {
 
 # The steps of a run, as `step_bytes` writes them.
 STEPS = r"""//! The steps of a run, read from bytes: 0 is a checkpoint, 1 a group with its count and each call behind its length, 2 begins a
-//! checkpoint in steps, and 3 makes a step of it of so many bytes.
+//! checkpoint in steps, 3 makes a step of it of so many bytes, and 4 goes on with the clients of a state, which stands behind its length.
 use std::alloc::Global;
 
 /// What is done next.
@@ -189,6 +209,14 @@ pub enum Step<'a> {
     Group(Vec<&'a [u8]>),
     Begin,
     Next(usize),
+    Admit(&'a [u8]),
+}
+
+/// A call, or a state with whose clients the desk goes on.
+#[derive(Clone, Copy)]
+pub enum Event<'a> {
+    Call(&'a [u8]),
+    Admit(&'a [u8]),
 }
 
 fn number(bytes: &[u8]) -> Option<(usize, &[u8])> {
@@ -227,6 +255,10 @@ fn first(alloc: Global, bytes: &[u8]) -> Option<(Step<'_>, &[u8])> {
             let (most, behind) = number(rest)?;
             Some((Step::Next(most), behind))
         }
+        [4, rest @ ..] => {
+            let (state, behind) = long(rest)?;
+            Some((Step::Admit(state), behind))
+        }
         _ => None,
     }
 }
@@ -246,40 +278,57 @@ pub fn all(alloc: Global, bytes: &[u8]) -> Option<Vec<Step<'_>>> {
     Some(steps)
 }
 
-/// The calls of all groups, one behind the other.
-pub fn calls<'a>(alloc: Global, steps: &[Step<'a>]) -> Option<Vec<&'a [u8]>> {
-    let mut calls = Vec::new(alloc);
+/// The calls of all groups, and the lists of clients, one behind the other.
+pub fn events<'a>(alloc: Global, steps: &[Step<'a>]) -> Option<Vec<Event<'a>>> {
+    let mut events = Vec::new(alloc);
     for step in steps {
-        if let Step::Group(group) = step {
-            calls.extend_from_slice(group).ok()?;
+        match step {
+            Step::Group(group) => {
+                for call in group {
+                    events.push(Event::Call(*call)).ok()?;
+                }
+            }
+            Step::Admit(state) => events.push(Event::Admit(*state)).ok()?,
+            _ => {}
         }
     }
-    Some(calls)
+    Some(events)
 }
 """
 
 # What a desk answers that isn't kept.
 PLAIN = r"""//! What a desk that isn't kept answers, and where it stands.
-use crate::desks::{answer, begun, saved};
+use crate::desks::{answer, begun, saved, with_clients};
+use crate::steps::Event;
 use kfs_call_desk::call;
+use kfs_desk::Desk;
 use std::alloc::Global;
 use std::thread::Threads;
 
-/// The answers, and the states as bytes before the first call and after each.
+/// The answers, none of bytes where clients are new, and the states as bytes before the first and after each.
 #[derive(Drop)]
 pub struct Plain {
     pub answers: Vec<Vec<u8>>,
     pub states: Vec<Vec<u8>>,
 }
 
-pub fn ask(rt: &(impl Threads + Sync), alloc: Global, state: &[u8], calls: &[&[u8]]) -> Option<Plain> {
+fn make(alloc: Global, desk: &mut Desk<Global>, event: Event<'_>) -> Option<Vec<u8>> {
+    match event {
+        Event::Call(bytes) => answer(alloc, &call(alloc, desk, bytes)),
+        Event::Admit(state) => {
+            *desk = with_clients(alloc, desk, state)?;
+            Some(Vec::new(alloc))
+        }
+    }
+}
+
+pub fn ask(rt: &(impl Threads + Sync), alloc: Global, state: &[u8], events: &[Event<'_>]) -> Option<Plain> {
     let mut desk = begun(rt, alloc, state)?;
     let mut answers = Vec::new(alloc);
     let mut states = Vec::new(alloc);
     states.push(saved(alloc, &desk)?).ok()?;
-    for bytes in calls {
-        let said = call(alloc, &mut desk, bytes);
-        answers.push(answer(alloc, &said)?).ok()?;
+    for event in events {
+        answers.push(make(alloc, &mut desk, *event)?).ok()?;
         states.push(saved(alloc, &desk)?).ok()?;
     }
     Some(Plain { answers, states })
@@ -315,27 +364,47 @@ def state_of(lines):
 
 
 def made(seed, count):
-    """Returns the bytes of a state, and calls as lines in hexadecimal, `-` for no bytes."""
+    """Returns the lines that open a session, and calls as lines in hexadecimal, `-` for no bytes."""
     lines = CallMaker(seed).script(count)
-    return state_of(lines), [line[5:] for line in lines if line.startswith(b"call ")]
+    return [line for line in lines if not line.startswith(b"call ")], [line[5:] for line in lines if line.startswith(b"call ")]
 
 
 def call_bytes(line):
     return b"" if line == b"-" else bytes.fromhex(line.decode())
 
 
-def exactly(seed, count):
-    """Returns the bytes of a state, and just so many calls as bytes."""
+def opening(seed, count):
+    """Returns the lines that open a session, and just so many calls as bytes."""
     asked = count + count // 2 + 10
     while True:
-        state, lines = made(seed, asked)
+        opening_lines, lines = made(seed, asked)
         if len(lines) >= count:
-            return state, [call_bytes(it) for it in lines[:count]]
+            return opening_lines, [call_bytes(it) for it in lines[:count]]
         asked *= 2
+
+
+def exactly(seed, count):
+    """Returns the bytes of a state, and just so many calls as bytes."""
+    lines, calls = opening(seed, count)
+    return state_of(lines), calls
+
+
+def with_new_clients(seed, count, checkpoints):
+    """Returns the bytes of a state, and the steps of so many calls, among them one that goes on with all clients of whom the state has
+    but the last one; their order may be another one. Calls of that client are refused before it."""
+    lines, calls = opening(seed, count)
+    chance = random.Random(f"clients {seed}")
+    clients = [line for line in lines if line.startswith(b"client ")]
+    others = [line for line in lines if not line.startswith(b"client ")]
+    steps = in_steps(seed, calls, checkpoints)
+    steps.insert(chance.randrange(len(steps) + 1), Admit(state_of(chance.sample(clients, len(clients)) + others)))
+    return state_of(clients[:-1] + others), steps
 
 
 # Steps of a run that are no group: a checkpoint, and the beginning of one in steps. A number is a step of it, of so many bytes.
 CHECKPOINT, BEGIN = None, "begin"
+# A step that goes on with the clients of a state.
+Admit = NamedTuple("Admit", [("state", bytes)])
 STEP_SIZES = (64, 256, 1_024, 4_096)
 ALL_BYTES = 1 << 24
 
@@ -377,4 +446,6 @@ def step_bytes(step):
         return b"\x02"
     if isinstance(step, int):
         return b"\x03" + number_bytes(step, 4)
+    if isinstance(step, Admit):
+        return b"\x04" + number_bytes(len(step.state), 4) + step.state
     return b"\x01" + number_bytes(len(step), 4) + b"".join(number_bytes(len(call), 4) + call for call in step)

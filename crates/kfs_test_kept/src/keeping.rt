@@ -7,7 +7,8 @@ ghost use Rattle.kfs_kept.specs.Keeping.{IsKept};
 use crate::journal::disk_of;
 use kfs_call_desk::encode_desk;
 use kfs_journal::{MemoryDisk, Tear};
-use kfs_kept::{CallsFault, Early, Kept, OpenFault, SaveFault};
+use kfs_kept::{AdmitFault, CallsFault, Early, Kept, OpenFault, SaveFault};
+use kfs_mode::Client;
 use kfs_test_support::refusing::Refusing;
 use std::alloc::Global;
 use std::thread::Threads;
@@ -56,6 +57,11 @@ pub const LETTERS: &[u8] = b"\x01\0\0\0\x07\
     \0\0\0\x26KLOG\x01\0\0\0\x07\0\x01\x02\0\0\0\x05\0\0\0\0\0\0\0\0\0\0\0\x0aABCDEFGHIJ\
     \0\0\0\x41KPLN\x01\0\0\0\x01\0\0\0\x01\0\0\0\x05\x01\x01\xa4\0\0\x03\xe8\0\0\x03\xe8\0\x01\
     \0\0\0\0\0\0\0\x0a\0\0\0\x05\0\0\0\0\0\0\0\0\0\0\0\0\0\0\0\x0a\x01\0\0\0\0\0\0";
+
+/// A client that may make files of these numbers. Client 7 of the file is the one with the numbers 2 to 99.
+pub fn client(number: u32, first: u32, last: u32) -> Option<Client> {
+    Client::new(number, 1_000, 1_000, &[], false, first, last).ok()
+}
 
 /// A kept desk. Each call says no more of it than that it is kept: the next one asks for that alone.
 #[derive(Drop)]
@@ -131,6 +137,18 @@ impl<'a> Keeper<'a> {
             }
         }
         Ok((answers.len(), made))
+    }
+
+    /// Goes on with these clients.
+    pub fn admit(
+        &mut self,
+        rt: &(impl Threads + Sync),
+        clients: &[Client],
+    ) -> Result<bool, AdmitFault>
+        requires { IsKept memory_seen memory_may_leave self.old.kept }
+        ensures { IsKept memory_seen memory_may_leave self.new.kept }
+    {
+        self.kept.admit(rt, self.heap, clients, LIMIT)
     }
 
     pub fn checkpoint(&mut self) -> Result<(), SaveFault>

@@ -6,7 +6,7 @@ use kfs_desk::{ActFault, BeginFault, Unanswered, Why};
 use kfs_entry::SpellFault;
 use kfs_image::{ImageFault, ReadFault};
 use kfs_judge::{AccessFault, EntryFault, Reason};
-use kfs_kept::{CallsFault, OpenFault, SaveFault};
+use kfs_kept::{AdmitFault, CallsFault, OpenFault, SaveFault};
 use kfs_lease::{LeaseFault, LeaseRowFault};
 use kfs_migrate::MoveFault;
 use kfs_mode::ClientFault;
@@ -120,6 +120,16 @@ fn faults_of_kept_desks(rt: HostRuntime) {
         (SaveFault::Full, "full"),
         (SaveFault::OutOfMemory, "memory"),
         (SaveFault::Failed, "failed"),
+    ];
+    assert!(rt; say(rt.alloc(), &faults));
+    let twice = AdmitFault::BadClients(BeginFault::ClientTwice(1));
+    let faults = [
+        (
+            AdmitFault::LeftOut(7),
+            "client 7 isn't in the list as it was",
+        ),
+        (twice, "ClientTwice(1)"),
+        (AdmitFault::Unsaved(SaveFault::Full), "full"),
     ];
     assert!(rt; say(rt.alloc(), &faults));
     let state = RestoreFault::BadState(StateFault::BadHeader);
