@@ -241,13 +241,13 @@ name_or false name others other words same = same
 pub command_by_name : (word : List ℕ) (name : Option Keyword) → name ≡ named_by word → (words : List (List ℕ)) → command_of word words ≡ command_named name words
 unfolding begin_of tick_of node_of listing_of docket_of land_of save_of
 command_by_name word name is words =
-    name_or (bytes_eq word (codes "new")) names.New _ _ words
+    name_or (bytes_eq word (codes "submit")) names.Submit _ _ words
+    (name_or (bytes_eq word (codes "lease")) names.Lease _ _ words
+    (name_or (bytes_eq word (codes "new")) names.New _ _ words
     (name_or (bytes_eq word (codes "client")) names.Client _ _ words
     (name_or (bytes_eq word (codes "begin")) names.Begin _ _ words
-    (name_or (bytes_eq word (codes "lease")) names.Lease _ _ words
     (name_or (bytes_eq word (codes "drop")) names.Drop _ _ words
     (name_or (bytes_eq word (codes "tick")) names.Tick _ _ words
-    (name_or (bytes_eq word (codes "submit")) names.Submit _ _ words
     (name_or (bytes_eq word (codes "node")) names.Node _ _ words
     (name_or (bytes_eq word (codes "list")) names.List _ _ words
     (name_or (bytes_eq word (codes "read")) names.Read _ _ words

@@ -181,13 +181,13 @@ with_number number command words = None
 
 abbrev pub command_of : (name : List ℕ) → (words : List (List ℕ)) → Option Command
 command_of name words =
-    if bytes_eq name (codes "new") then new_of words
+    if bytes_eq name (codes "submit") then submit_of words
+    else if bytes_eq name (codes "lease") then lease_of words
+    else if bytes_eq name (codes "new") then new_of words
     else if bytes_eq name (codes "client") then client_of words
     else if bytes_eq name (codes "begin") then with_number decimal32 (λ limit. Setup (Begin limit)) words
-    else if bytes_eq name (codes "lease") then lease_of words
     else if bytes_eq name (codes "drop") then drop_of words
     else if bytes_eq name (codes "tick") then with_number decimal64 (λ moment. Request (Tick moment)) words
-    else if bytes_eq name (codes "submit") then submit_of words
     else if bytes_eq name (codes "node") then with_number decimal32 (λ number. Request (Node number)) words
     else if bytes_eq name (codes "list") then with_number decimal32 (λ directory. Request (Listing directory)) words
     else if bytes_eq name (codes "read") then read_of words

@@ -34,13 +34,13 @@ save_of = alone (Request Save)
 -- the command that a word names
 abbrev pub named_by : (word : List ℕ) → Option Keyword
 named_by word =
-    if bytes_eq word (codes "new") then Some names.New
+    if bytes_eq word (codes "submit") then Some names.Submit
+    else if bytes_eq word (codes "lease") then Some names.Lease
+    else if bytes_eq word (codes "new") then Some names.New
     else if bytes_eq word (codes "client") then Some names.Client
     else if bytes_eq word (codes "begin") then Some names.Begin
-    else if bytes_eq word (codes "lease") then Some names.Lease
     else if bytes_eq word (codes "drop") then Some names.Drop
     else if bytes_eq word (codes "tick") then Some names.Tick
-    else if bytes_eq word (codes "submit") then Some names.Submit
     else if bytes_eq word (codes "node") then Some names.Node
     else if bytes_eq word (codes "list") then Some names.List
     else if bytes_eq word (codes "read") then Some names.Read

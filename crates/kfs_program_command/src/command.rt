@@ -170,20 +170,21 @@ enum Keyword {
 fn name_in(word: &[u8]) -> Option<Keyword>
     ensures { result ≡ named_by word.now }
 {
-    if word == b"new".as_slice() {
+    // What most lines are comes first.
+    if word == b"submit".as_slice() {
+        Some(Keyword::Submit)
+    } else if word == b"lease".as_slice() {
+        Some(Keyword::Lease)
+    } else if word == b"new".as_slice() {
         Some(Keyword::New)
     } else if word == b"client".as_slice() {
         Some(Keyword::Client)
     } else if word == b"begin".as_slice() {
         Some(Keyword::Begin)
-    } else if word == b"lease".as_slice() {
-        Some(Keyword::Lease)
     } else if word == b"drop".as_slice() {
         Some(Keyword::Drop)
     } else if word == b"tick".as_slice() {
         Some(Keyword::Tick)
-    } else if word == b"submit".as_slice() {
-        Some(Keyword::Submit)
     } else if word == b"node".as_slice() {
         Some(Keyword::Node)
     } else if word == b"list".as_slice() {

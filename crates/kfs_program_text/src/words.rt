@@ -1,8 +1,7 @@
 //! The words of a command line: names, decimal numbers, hexadecimal text. Where a byte stands.
-ghost use Rattle.std.specs.Prelude.{◌≡◌, ◌==◌, ◌≤◌, [], ◌∷◌, ◌++◌, Some, option_map, position, take, IfOk, ◌*◌, ℕ, length, Ok, IsErr, IsTrue, IsFalse, MatchOption};
-ghost use Rattle.std.specs.List.{list_all};
+ghost use Rattle.std.specs.Prelude.{◌≡◌, ◌==◌, ◌≤◌, [], ◌∷◌, ◌++◌, Some, option_map, position, take, IfOk};
 ghost use Rattle.kfs_program_text.specs.Cut.{cut, space};
-ghost use Rattle.kfs_program_text.specs.Decimals.{decimal32, decimal64, decimal_within, decimals32, hexadecimal, is_digit};
+ghost use Rattle.kfs_program_text.specs.Decimals.{decimal32, decimal64, decimal_within, decimals32, hexadecimal};
 ghost use Rattle.kfs_program_text.specs.Reading.{ReadsAs, ReadsExactly, ended, first_by, only, words_left};
 
 use crate::digits::decode_into;
@@ -62,7 +61,28 @@ impl<'a> Words<'a> {
         ensures { ReadsExactly (λ word. (word.now, words_left self.new)) (first_by (λ word. Some word) (words_left self.old)) result }
     {
         let rest = self.rest.ok_or(Refusal::BadLine)?;
-        let (word, behind) = first_part(rest);
+        let end = near_space(rest);
+        self.take_word(rest, end)
+    }
+
+    /// The next word, which is long.
+    #[tactic(auto, unfolding(crate::specs::Reading::first_by))]
+    fn long_word(&mut self) -> Result<&'a [u8], Refusal>
+        ensures { ReadsExactly (λ word. (word.now, words_left self.new)) (first_by (λ word. Some word) (words_left self.old)) result }
+    {
+        let rest = self.rest.ok_or(Refusal::BadLine)?;
+        let end = first_space(rest);
+        self.take_word(rest, end)
+    }
+
+    /// The word at the beginning of the bytes that are left. `end` is the place of their first space.
+    #[tactic(auto, unfolding(crate::specs::Reading::first_by))]
+    fn take_word(&mut self, rest: &'a [u8], end: Option<usize>) -> Result<&'a [u8], Refusal>
+        requires rest { words_left self.old ≡ cut space rest.now }
+        requires end { end ≡ position (λ byte. byte == space) rest.now }
+        ensures { ReadsExactly (λ word. (word.now, words_left self.new)) (first_by (λ word. Some word) (words_left self.old)) result }
+    {
+        let (word, behind) = parts_at(rest, end);
         self.rest = behind;
         if word.is_empty() {
             return Err(Refusal::BadLine);
@@ -127,7 +147,7 @@ impl<'a> Words<'a> {
     pub fn bytes<A: Allocator>(&mut self, alloc: A) -> Result<Vec<u8, A>, Refusal>
         ensures { ReadsAs (λ bytes. (bytes.items, words_left self.new)) (first_by hexadecimal (words_left self.old)) result }
     {
-        bytes_in(alloc, self.word()?)
+        bytes_in(alloc, self.long_word()?)
     }
 
     /// Refuses the line, if a word is left.
@@ -142,11 +162,12 @@ impl<'a> Words<'a> {
     }
 }
 
-/// The text before the first space, and the text after it, if there is a space.
-fn first_part(text: &[u8]) -> (&[u8], Option<&[u8]>)
+/// The text before its first space, which is at `end`, and the text after it, if there is a space.
+fn parts_at(text: &[u8], end: Option<usize>) -> (&[u8], Option<&[u8]>)
+    requires { end ≡ position (λ byte. byte == space) text.now }
     ensures { cut space text.now ≡ result.0.now ∷ words_left (record { rest = result.1 }) }
 {
-    match first_space(text) {
+    match end {
         Some(place) => (&text[..place], Some(&text[place + 1..])),
         None => (text, None),
     }
@@ -158,26 +179,43 @@ fn first_space(text: &[u8]) -> Option<usize>
     first_place(b' ', text)
 }
 
+/// So many bytes are looked at one by one: a word is mostly shorter than what many at once would take.
+const NEAR: usize = 8;
+
+/// The same as `first_space`, and faster where the space is near.
+fn near_space(text: &[u8]) -> Option<usize>
+    ensures { result ≡ position (λ byte. byte == space) text.now }
+{
+    let (near, far) = text.split_at(text.len().min(NEAR));
+    if let Some(place) = space_one_by_one(near) {
+        return Some(place);
+    }
+    let place = first_space(far)?;
+    Some(near.len() + place)
+}
+
+fn space_one_by_one(text: &[u8]) -> Option<usize>
+    ensures { result ≡ position (λ byte. byte == space) text.now }
+{
+    text.iter().position(|byte| *byte == b' ')
+}
+
 /// The word as a decimal number of at most `most`; none where it isn't one.
 fn number_in(word: &[u8], most: u64) -> Option<u64>
     ensures { result ≡ decimal_within most word.now }
 {
-    if !are_digits(word) {
+    if word.is_empty() {
         return None;
     }
-    let Ok(digits) = str::from_utf8(word) else {
-        return None;
-    };
-    let Ok(number) = digits.parse::<u64>() else {
-        return None;
-    };
+    let mut number: u64 = 0;
+    for byte in word {
+        if !byte.is_ascii_digit() {
+            return None;
+        }
+        let tens = number.checked_mul(10)?;
+        number = tens.checked_add(u64::from(*byte - b'0'))?;
+    }
     if number > most { None } else { Some(number) }
-}
-
-fn are_digits(word: &[u8]) -> bool
-    ensures { result ≡ list_all is_digit word.now }
-{
-    word.iter().all(|byte| byte.is_ascii_digit())
 }
 
 /// Appends the number, if there is room.
