@@ -1,4 +1,5 @@
 -- Lemmas on cuts, words and numbers.
+pub mod BothWords
 pub mod Cuts
 pub mod FirstPlace
 pub mod HeldBytes

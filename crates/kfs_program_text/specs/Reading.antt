@@ -3,6 +3,7 @@ use Rattle.std.specs.Prelude.{◌≡◌, ℕ, nat_lt, Bool, List, [], ◌∷◌,
 use Rattle.std.specs.List.{list_all}
 use Rattle.kfs_model.specs.Steps.{◌>>=◌}
 use Rattle.kfs_program_text.specs.Cut.{cut, space}
+use Rattle.kfs_program_text.specs.Decimals.{hexadecimal}
 use Rattle.kfs_program_text.specs.declared.words.Refusal.{Refusal}
 use Rattle.kfs_program_text.specs.declared.words.Refusal.TheVariants.{BadLine}
 use Rattle.kfs_program_text.specs.declared.words.Words.{Words}
@@ -29,6 +30,10 @@ ended (word ∷ words) = None
 -- what the reading makes of the only word
 abbrev pub only : {T : Type 0} → (List ℕ → Option T) → List (List ℕ) → Option T
 only read words = first_by read words >>= λ x. ended x.1 >>= λ done. Some x.0
+
+-- the bytes that the only two words encode
+abbrev pub both_hexadecimal : List (List ℕ) → Option (List ℕ × List ℕ)
+both_hexadecimal words = first_by hexadecimal words >>= λ front. first_by hexadecimal front.1 >>= λ back. ended back.1 >>= λ done. Some (front.0, back.0)
 
 -- what the reading makes of the words; none where one of them is empty
 unfoldable pub checked : {T : Type 0} → (List (List ℕ) → Option T) → List (List ℕ) → Option T

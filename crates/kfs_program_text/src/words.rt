@@ -1,8 +1,8 @@
 //! The words of a command line: names, decimal numbers, hexadecimal text. Where a byte stands.
-ghost use Rattle.std.specs.Prelude.{◌≡◌, ◌==◌, ◌≤◌, [], ◌∷◌, ◌++◌, Some, option_map, position, take, IfOk};
+ghost use Rattle.std.specs.Prelude.{◌≡◌, ◌==◌, ◌≤◌, [], ◌∷◌, ◌++◌, length, None, Some, option_map, position, take, IfOk, OnOk, IsTrue, IsFalse};
 ghost use Rattle.kfs_program_text.specs.Cut.{cut, space};
-ghost use Rattle.kfs_program_text.specs.Decimals.{decimal32, decimal64, decimal_within, decimals32, hexadecimal};
-ghost use Rattle.kfs_program_text.specs.Reading.{ReadsAs, ReadsExactly, ended, first_by, only, words_left};
+ghost use Rattle.kfs_program_text.specs.Decimals.{both_of, bytes_in_word, decimal32, decimal64, decimal_within, decimals32, hexadecimal};
+ghost use Rattle.kfs_program_text.specs.Reading.{ReadsAs, ReadsExactly, both_hexadecimal, ended, first_by, only, words_left};
 
 use crate::digits::decode_into;
 use arrayvec::ArrayVec;
@@ -150,6 +150,21 @@ impl<'a> Words<'a> {
         bytes_in(alloc, self.long_word()?)
     }
 
+    /// The only two words left, as bytes in hexadecimal, in either case; `-` is no bytes. They are put into `room`, which
+    /// takes memory only where it is too short: so a caller with many lines gives it again.
+    pub fn last_bytes<'r, A: Allocator>(
+        &mut self,
+        alloc: A,
+        room: &'r mut Vec<u8, A>,
+    ) -> Result<(&'r [u8], &'r [u8]), Refusal>
+        ensures { ReadsAs (λ pair. (pair.0.now, pair.1.now)) (both_hexadecimal (words_left self.old)) result }
+    {
+        let front = self.long_word()?;
+        let back = self.long_word()?;
+        self.end()?;
+        both_in(alloc, front, back, room)
+    }
+
     /// Refuses the line, if a word is left.
     #[tactic(auto, using(crate::proofs::WordsCut::cut_not_ended), unfolding(crate::specs::Reading::ended))]
     pub fn end(&self) -> Result<(), Refusal>
@@ -241,6 +256,64 @@ fn bytes_in<A: Allocator>(alloc: A, word: &[u8]) -> Result<Vec<u8, A>, Refusal>
         return Err(Refusal::BadLine);
     }
     Ok(bytes)
+}
+
+/// How long a list for words as bytes is at least, so that the next lines find room.
+const LEAST_ROOM: usize = 4_096;
+
+/// Two words as bytes, which are put into `room`.
+fn both_in<'r, A: Allocator>(
+    alloc: A,
+    front: &[u8],
+    back: &[u8],
+    room: &'r mut Vec<u8, A>,
+) -> Result<(&'r [u8], &'r [u8]), Refusal>
+    ensures { ReadsAs (λ pair. (pair.0.now, pair.1.now)) (both_of front.now back.now) result }
+{
+    let (front_len, back_len) = (bytes_of(front), bytes_of(back));
+    make_room(alloc, room, front_len + back_len)?;
+    let (front_room, others) = room.as_mut_slice().split_at_mut(front_len);
+    let back_room = &mut others[..back_len];
+    if !decode_word(front, front_room) || !decode_word(back, back_room) {
+        return Err(Refusal::BadLine);
+    }
+    Ok((front_room, back_room))
+}
+
+/// How many bytes a word of hexadecimal text is.
+fn bytes_of(word: &[u8]) -> usize
+    ensures { result ≡ bytes_in_word word.now }
+{
+    if word == b"-".as_slice() { 0 } else { word.len() / 2 }
+}
+
+/// Makes the list at least as long as `len`. What it holds doesn't matter.
+fn make_room<A: Allocator>(
+    alloc: A,
+    room: &mut Vec<u8, A>,
+    len: usize,
+) -> Result<(), AllocError>
+    ensures { OnOk result (len ≤ length room.new.items) }
+{
+    if room.len() < len {
+        *room = vec![in alloc; 0u8; len.max(LEAST_ROOM)]?;
+    }
+    Ok(())
+}
+
+/// Puts the bytes that the word stands for into the slice, which is as long. Answers whether the word is hexadecimal text.
+fn decode_word(word: &[u8], out: &mut [u8]) -> bool
+    requires { length out.old ≡ bytes_in_word word.now }
+    ensures yes { IsTrue result → hexadecimal word.now ≡ Some out.new }
+    ensures no { IsFalse result → hexadecimal word.now ≡ None }
+{
+    if word == b"-".as_slice() {
+        return true;
+    }
+    if word.len() % 2 != 0 {
+        return false;
+    }
+    decode_into(word, out)
 }
 
 /// The place of the first such byte, or none. Many bytes are compared at once.
