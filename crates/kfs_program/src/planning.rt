@@ -91,7 +91,8 @@ fn image_bytes<A: Allocator + Copy>(alloc: A, line: &[u8]) -> Result<Vec<u8, A>,
     ensures ok { IfOk result (λ bytes. asked_by line.now ≡ Some (Load bytes.items)) }
     ensures bad { IsErrOf result Refusal.BadLine → RefusesImage (asked_by line.now) bad_line }
 {
-    match Command::read(alloc, line)? {
+    let mut room = Vec::new(alloc);
+    match Command::read(alloc, &mut room, line)? {
         Command::Image(bytes) => Ok(bytes),
         Command::Opening(_) => Err(Refusal::BadLine),
         Command::Desk(_) => Err(Refusal::BadLine),
@@ -125,7 +126,8 @@ fn client_row<A: Allocator + Copy>(
     ensures ok { IfOk result (λ row. asked_by line.now ≡ Some (Setup (Row row))) }
     ensures bad { IsErrOf result Refusal.BadLine → RefusesClient (asked_by line.now) bad_line }
 {
-    match Command::read(alloc, line)? {
+    let mut room = Vec::new(alloc);
+    match Command::read(alloc, &mut room, line)? {
         Command::Opening(command) => row_of(command),
         Command::Image(_) => Err(Refusal::BadLine),
         Command::Desk(_) => Err(Refusal::BadLine),

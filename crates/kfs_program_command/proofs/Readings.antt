@@ -6,7 +6,7 @@ use Rattle.kfs_program_command.specs.Command.{Command, Setup, Request, Row, Begi
 use Rattle.kfs_program_command.specs.Reading.{begin_of, command_named, docket_of, land_of, listing_of, named_by, node_of, save_of, tick_of}
 use Rattle.kfs_program_text.specs.Cut.{cut, space}
 use Rattle.kfs_program_text.specs.Decimals.{decimal32, decimal64, decimal_within, decimals32, hexadecimal}
-use Rattle.kfs_program_text.specs.Reading.{are_words, checked, ended, first_by, only}
+use Rattle.kfs_program_text.specs.Reading.{are_words, both_hexadecimal, checked, ended, first_by, only}
 use Rattle.kfs_program_command.specs.declared.command.Keyword.{Keyword}
 use Rattle.kfs_program_command.specs.declared.command.Keyword.TheVariants as names
 use Rattle.std.specs.Prelude.{bytes_eq, codes}
@@ -171,8 +171,40 @@ checked_next : {X T : Type 0} (read : List (List ℕ) → Option X) (next : X �
 unfolding checked
 checked_next read next words = next_if (are_words words) (read words) next
 
-pub submit_steps : (words : List (List ℕ)) → checked submit_of words ≡ (checked submission_in words >>= λ submission. Some (Request (Submit submission)))
-submit_steps words = checked_next submission_in (λ submission. Some (Request (Submit submission))) words
+abbrev handed_in : ℕ → List ℕ → List ℕ → Command
+handed_in client log plan = Request (Submit (submission_with client log plan))
+
+-- a log and a plan that are read together
+both_then : (client : ℕ) (words : List (List ℕ))
+    → ((first_by hexadecimal words >>= λ y. first_by hexadecimal y.1 >>= λ z. ended z.1 >>= λ done. Some (submission_with client y.0 z.0)) >>= λ submission. Some (Request (Submit submission)))
+    ≡ (both_hexadecimal words >>= λ pair. Some (handed_in client pair.0 pair.1))
+both_then client words = by (first_by hexadecimal words)
+  where
+    at_end : (log plan : List ℕ) (done : Option (Unit {0})) → ((done >>= λ d. Some (submission_with client log plan)) >>= λ submission. Some (Request (Submit submission)))
+        ≡ ((done >>= λ d. Some (log, plan)) >>= λ (pair : List ℕ × List ℕ). Some (handed_in client pair.0 pair.1))
+    at_end log plan None = refl
+    at_end log plan (Some d) = refl
+
+    behind : (log : List ℕ) (read : Option (List ℕ × List (List ℕ))) → ((read >>= λ z. ended z.1 >>= λ done. Some (submission_with client log z.0)) >>= λ submission. Some (Request (Submit submission)))
+        ≡ ((read >>= λ z. ended z.1 >>= λ done. Some (log, z.0)) >>= λ (pair : List ℕ × List ℕ). Some (handed_in client pair.0 pair.1))
+    behind log None = refl
+    behind log (Some z) = at_end log z.0 (ended z.1)
+
+    by : (read : Option (List ℕ × List (List ℕ))) → ((read >>= λ y. first_by hexadecimal y.1 >>= λ z. ended z.1 >>= λ done. Some (submission_with client y.0 z.0)) >>= λ submission. Some (Request (Submit submission)))
+        ≡ ((read >>= λ y. first_by hexadecimal y.1 >>= λ z. ended z.1 >>= λ done. Some (y.0, z.0)) >>= λ (pair : List ℕ × List ℕ). Some (handed_in client pair.0 pair.1))
+    by None = refl
+    by (Some y) = behind y.0 (first_by hexadecimal y.1)
+
+bind_bind : {X Y T : Type 0} (o : Option X) (f : X → Option Y) (g : Y → Option T) → ((o >>= f) >>= g) ≡ (o >>= λ x. f x >>= g)
+bind_bind None f g = refl
+bind_bind (Some x) f g = refl
+
+pub submit_steps : (words : List (List ℕ)) → checked submit_of words ≡ (first_by decimal32 words >>= λ x. both_hexadecimal x.1 >>= λ pair. Some (Request (Submit (submission_with x.0 pair.0 pair.1))))
+submit_steps words =
+    checked_next submission_in (λ submission. Some (Request (Submit submission))) words
+    ∙ ap (λ read. read >>= λ submission. Some (Request (Submit submission))) (submission_steps words)
+    ∙ bind_bind (first_by decimal32 words) _ _
+    ∙ bind_all (first_by decimal32 words) _ _ (λ x. both_then x.0 x.1)
 
 pub judge_then : (words : List (List ℕ)) → judge_of words ≡ word_then (decimal_within last_worker) (λ worker left. submission_in left >>= λ submission. Some (Request (Judge worker submission))) words
 unfolding word_then

@@ -2,7 +2,7 @@
 use Rattle.kfs_lease.specs.Rows.Rows.{kind_of}
 use Rattle.kfs_lease.specs.declared.act.Act.{Act}
 use Rattle.kfs_lease.specs.declared.act.Act.TheVariants as acts
-use Rattle.kfs_plan.specs.Judging.{submission_of}
+use Rattle.kfs_plan.specs.Judging.{submission_of, submission_with}
 use Rattle.kfs_program_command.specs.Command as commands
 use Rattle.kfs_program_command.specs.declared.command.Command.{Command}
 use Rattle.kfs_program_command.specs.declared.command.Command.TheVariants as read
@@ -25,7 +25,7 @@ act_of (acts.Tick moment) = commands.Tick moment
 module _ {A : Type 0} where
   abbrev pub asked_of_desk : DeskCommand A → commands.DeskCommand
   asked_of_desk (desk.Act act) = act_of act
-  asked_of_desk (desk.Submit submission) = commands.Submit (submission_of submission)
+  asked_of_desk (desk.Submit client log plan) = commands.Submit (submission_with client log.now plan.now)
   asked_of_desk (desk.Node number) = commands.Node number
   asked_of_desk (desk.List number) = commands.Listing number
   asked_of_desk (desk.Read number start count) = commands.Bytes number start count

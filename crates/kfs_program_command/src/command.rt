@@ -2,7 +2,7 @@
 ghost use Rattle.std.specs.Prelude.{◌≡◌, ℕ, List, true, false, IfOk, IsErrOf, None, Some, option_map, ◌≤◌};
 ghost use Rattle.kfs_lease.specs.Rows.Rows.{kind_of};
 ghost use Rattle.kfs_plan.specs.Judging.{submission_of};
-ghost use Rattle.kfs_program_command.specs.Command.{Land as LandLine, Listing as ListingLine, Load, Node as NodeLine, Request, Setup, Submit as SubmitLine, asked_by, client_of, drop_of, judge_of, kind_named, landing_worker, last_worker, lease_of, load_of, move_of, moves_in, new_of, plan_of, read_of, submission_in, submit_of};
+ghost use Rattle.kfs_program_command.specs.Command.{Land as LandLine, Listing as ListingLine, Load, Node as NodeLine, Request, Setup, asked_by, client_of, drop_of, judge_of, kind_named, landing_worker, last_worker, lease_of, load_of, move_of, moves_in, new_of, plan_of, read_of, submission_in, submit_of};
 ghost use Rattle.kfs_program_command.specs.Reading.{begin_of, command_named, docket_of, first_move, land_of, listing_of, named_by, node_of, save_of, tick_of};
 ghost use Rattle.kfs_program_command.specs.Views.{act_of, asked_of, asked_of_desk, opening_of};
 ghost use Rattle.kfs_program_text.specs.Decimals.{decimal_within};
@@ -51,7 +51,11 @@ pub enum DeskCommand<'a, A: Allocator> {
     /// `lease N PATH K END`, `drop N NUMBER` or `tick M`: a call for leases.
     Act(Act<'a>),
     /// `submit N LOG PLAN`: a log and its plan.
-    Submit(Submission<A>),
+    Submit {
+        client: u32,
+        log: &'a [u8],
+        plan: &'a [u8],
+    },
     /// `node N`: the header of a node.
     Node(u32),
     /// `list N`: the names of a directory.
@@ -87,19 +91,27 @@ pub enum DeskCommand<'a, A: Allocator> {
 impl<'a, A: Allocator + Copy> Command<'a, A> {
     /// Reads a line without its end. Refused with `BadLine` where it isn't a command or has a number
     /// out of range, and with `OutOfMemory`.
-    pub fn read(alloc: A, line: &'a [u8]) -> Result<Command<'a, A>, Refusal>
+    ///
+    /// What a `submit` line hands in is put into `room`. A caller with many lines gives it again, so that most of them
+    /// take no memory.
+    pub fn read(
+        alloc: A,
+        room: &'a mut Vec<u8, A>,
+        line: &'a [u8],
+    ) -> Result<Command<'a, A>, Refusal>
         ensures ok { IfOk result (λ command. asked_by line.now ≡ Some (asked_of command)) }
         ensures bad { IsErrOf result Refusal.BadLine → asked_by line.now ≡ None }
     {
         let mut words = Words::new(line);
         let name = name_in(words.word()?);
-        Command::named(alloc, name, &mut words)
+        Command::named(alloc, room, name, &mut words)
     }
 
     /// The command with this name, and with the words after it.
     #[tactic(auto, using(crate::proofs::Readings::nameless))]
     fn named(
         alloc: A,
+        room: &'a mut Vec<u8, A>,
         name: Option<Keyword>,
         words: &mut Words<'a>,
     ) -> Result<Command<'a, A>, Refusal>
@@ -112,7 +124,7 @@ impl<'a, A: Allocator + Copy> Command<'a, A> {
             Keyword::Lease => Ok(Command::Desk(DeskCommand::Act(read_lease(words)?))),
             Keyword::Drop => Ok(Command::Desk(DeskCommand::Act(read_drop(words)?))),
             Keyword::Tick => Ok(Command::Desk(DeskCommand::Act(read_tick(words)?))),
-            Keyword::Submit => Ok(Command::Desk(DeskCommand::Submit(read_submit(alloc, words)?))),
+            Keyword::Submit => Ok(Command::Desk(read_submit(alloc, room, words)?)),
             Keyword::Node => Ok(Command::Desk(DeskCommand::Node(read_node(words)?))),
             Keyword::List => Ok(Command::Desk(DeskCommand::List(read_list(words)?))),
             Keyword::Read => Ok(Command::Desk(read_bytes(words)?)),
@@ -346,13 +358,16 @@ fn read_image<A: Allocator + Copy>(alloc: A, words: &mut Words<'_>) -> Result<Ve
 }
 
 #[tactic(auto, using(crate::proofs::Readings::submit_steps))]
-fn read_submit<A: Allocator + Copy>(
+fn read_submit<'a, A: Allocator + Copy>(
     alloc: A,
+    room: &'a mut Vec<u8, A>,
     words: &mut Words<'_>,
-) -> Result<Submission<A>, Refusal>
-    ensures { ReadsAs (λ submission. Request (SubmitLine (submission_of submission))) (checked submit_of (words_left words.old)) result }
+) -> Result<DeskCommand<'a, A>, Refusal>
+    ensures { ReadsAs (λ command. Request (asked_of_desk command)) (checked submit_of (words_left words.old)) result }
 {
-    read_submission(alloc, words)
+    let client = words.number32()?;
+    let (log, plan) = words.last_bytes(alloc, room)?;
+    Ok(DeskCommand::Submit { client, log, plan })
 }
 
 /// A client's number, a log and a plan.

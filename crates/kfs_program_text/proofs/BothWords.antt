@@ -1,21 +1,21 @@
 -- Two words as bytes.
 use Rattle.std.proofs.Common.{◌≡◌, ℕ, nat_lt, Bool, true, false, List, [], ◌∷◌, length, Option, Some, None, option_map, refl, ap, ◌∙◌, if◌then◌else◌}
 use Rattle.kfs_model.specs.Steps.{◌>>=◌}
-use Rattle.kfs_program_text.specs.Decimals.{both_of, hexadecimal}
+use Rattle.kfs_program_text.specs.Decimals.{hexadecimal}
 use Rattle.kfs_program_text.specs.Reading.{both_hexadecimal, ended, first_by}
 
-abbrev word_in : List (List ℕ) → Option (List ℕ × List (List ℕ))
+abbrev pub word_in : List (List ℕ) → Option (List ℕ × List (List ℕ))
 word_in words = first_by (λ word. Some word) words
 
 -- what was read, and the words behind it
-abbrev with_left : {T : Type 0} → Option T → List (List ℕ) → Option (T × List (List ℕ))
+abbrev pub with_left : {T : Type 0} → Option T → List (List ℕ) → Option (T × List (List ℕ))
 with_left read left = option_map (λ x. (x, left)) read
 
-abbrev with_left_if : {T : Type 0} → Bool → Option T → List (List ℕ) → Option (T × List (List ℕ))
+abbrev pub with_left_if : {T : Type 0} → Bool → Option T → List (List ℕ) → Option (T × List (List ℕ))
 with_left_if some read left = if some then with_left read left else None
 
 -- what the reading makes of the first word, which is known
-first_read : {T : Type 0} (read : List ℕ → Option T) (words : List (List ℕ)) (word : List ℕ) (left : List (List ℕ)) → word_in words ≡ Some (word, left)
+pub first_read : {T : Type 0} (read : List ℕ → Option T) (words : List (List ℕ)) (word : List ℕ) (left : List (List ℕ)) → word_in words ≡ Some (word, left)
     → first_by read words ≡ with_left (read word) left
 unfolding first_by
 first_read read [] word left is = cc
@@ -38,14 +38,11 @@ first_none read (first ∷ words) is = by (nat_lt 0 (length first)) is
 
 -- ---- the second word, and no other
 
-abbrev behind_back : List ℕ → Option (List ℕ × List (List ℕ)) → Option (List ℕ × List ℕ)
+abbrev pub behind_back : List ℕ → Option (List ℕ × List (List ℕ)) → Option (List ℕ × List ℕ)
 behind_back front read = read >>= λ back. ended back.1 >>= λ done. Some (front, back.0)
 
-abbrev behind_front : Option (List ℕ × List (List ℕ)) → Option (List ℕ × List ℕ)
+abbrev pub behind_front : Option (List ℕ × List (List ℕ)) → Option (List ℕ × List ℕ)
 behind_front read = read >>= λ front. behind_back front.0 (first_by hexadecimal front.1)
-
-abbrev both_if : (front back : Option (List ℕ)) (last : Option (Unit {0})) → Option (List ℕ × List ℕ)
-both_if front back last = front >>= λ x. back >>= λ y. last >>= λ done. Some (x, y)
 
 pub no_front : (words : List (List ℕ)) → word_in words ≡ None → both_hexadecimal words ≡ None
 no_front words is = ap behind_front (first_none hexadecimal words is)
@@ -57,26 +54,3 @@ module _ (words : List (List ℕ)) (front : List ℕ) (rest : List (List ℕ)) (
       by : (read : Option (List ℕ)) → behind_front (with_left read rest) ≡ None
       by None = refl
       by (Some x) = ap (behind_back x) (first_none hexadecimal rest is)
-
-  module _ (back : List ℕ) (last : List (List ℕ)) (second : word_in rest ≡ Some (back, last)) where
-    are : both_hexadecimal words ≡ both_if (hexadecimal front) (hexadecimal back) (ended last)
-    are = ap behind_front (first_read hexadecimal words front rest first) ∙ by (hexadecimal front)
-      where
-        next : (x : List ℕ) (read : Option (List ℕ)) → behind_back x (with_left read last) ≡ both_if (Some x) read (ended last)
-        next x None = refl
-        next x (Some y) = refl
-
-        by : (read : Option (List ℕ)) → behind_front (with_left read rest) ≡ both_if read (hexadecimal back) (ended last)
-        by None = refl
-        by (Some x) = ap (behind_back x) (first_read hexadecimal rest back last second) ∙ next x (hexadecimal back)
-
-    pub more_words : ended last ≡ None → both_hexadecimal words ≡ None
-    more_words is = are ∙ ap (both_if (hexadecimal front) (hexadecimal back)) is ∙ by (hexadecimal front) (hexadecimal back)
-      where
-        by : (o p : Option (List ℕ)) → both_if o p None ≡ None
-        by None p = refl
-        by (Some x) None = refl
-        by (Some x) (Some y) = refl
-
-    pub two_words : ended last ≡ Some tt → both_hexadecimal words ≡ both_of front back
-    two_words is = are ∙ ap (both_if (hexadecimal front) (hexadecimal back)) is

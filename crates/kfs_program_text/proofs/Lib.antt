@@ -4,6 +4,7 @@ pub mod Cuts
 pub mod FirstPlace
 pub mod HeldBytes
 pub mod Hexadecimals
+pub mod LastWord
 pub mod NumbersRead
 pub mod Numerals
 pub mod WordByWord

@@ -1,5 +1,5 @@
 //! The words of a command line: names, decimal numbers, hexadecimal text. Where a byte stands.
-ghost use Rattle.std.specs.Prelude.{◌≡◌, ◌==◌, ◌≤◌, [], ◌∷◌, ◌++◌, length, None, Some, option_map, position, take, IfOk, OnOk, IsTrue, IsFalse};
+ghost use Rattle.std.specs.Prelude.{◌≡◌, ◌==◌, ◌<◌, ◌≤◌, [], ◌∷◌, ◌++◌, length, None, Some, option_map, position, take, IfErr, IfOk, OnOk, IsTrue, IsFalse};
 ghost use Rattle.kfs_program_text.specs.Cut.{cut, space};
 ghost use Rattle.kfs_program_text.specs.Decimals.{both_of, bytes_in_word, decimal32, decimal64, decimal_within, decimals32, hexadecimal};
 ghost use Rattle.kfs_program_text.specs.Reading.{ReadsAs, ReadsExactly, both_hexadecimal, ended, first_by, only, words_left};
@@ -153,16 +153,28 @@ impl<'a> Words<'a> {
     /// The only two words left, as bytes in hexadecimal, in either case; `-` is no bytes. They are put into `room`, which
     /// takes memory only where it is too short: so a caller with many lines gives it again.
     pub fn last_bytes<'r, A: Allocator>(
-        &mut self,
+        mut self,
         alloc: A,
         room: &'r mut Vec<u8, A>,
     ) -> Result<(&'r [u8], &'r [u8]), Refusal>
-        ensures { ReadsAs (λ pair. (pair.0.now, pair.1.now)) (both_hexadecimal (words_left self.old)) result }
+        ensures { ReadsAs (λ pair. (pair.0.now, pair.1.now)) (both_hexadecimal (words_left self.entry)) result }
     {
         let front = self.long_word()?;
-        let back = self.long_word()?;
-        self.end()?;
+        let back = self.all_left()?;
         both_in(alloc, front, back, room)
+    }
+
+    /// All that is left of the line. It is the last word, unless it has a space.
+    #[tactic(auto, unfolding(crate::specs::Reading::first_by, crate::specs::Cut::cut))]
+    fn all_left(&self) -> Result<&'a [u8], Refusal>
+        ensures ok { IfOk result (λ text. (words_left self.now ≡ cut space text.now) × (0 < length text.now)) }
+        ensures bad { IfErr result (λ refusal. (refusal ≡ Refusal.BadLine) × (first_by (λ word. Some word) (words_left self.now) ≡ None)) }
+    {
+        let rest = self.rest.ok_or(Refusal::BadLine)?;
+        if rest.is_empty() {
+            return Err(Refusal::BadLine);
+        }
+        Ok(rest)
     }
 
     /// Refuses the line, if a word is left.
@@ -245,14 +257,8 @@ fn keep<const N: usize>(numbers: &mut ArrayVec<u32, N>, number: u32)
 fn bytes_in<A: Allocator>(alloc: A, word: &[u8]) -> Result<Vec<u8, A>, Refusal>
     ensures { ReadsAs (λ bytes. bytes.items) (hexadecimal word.now) result }
 {
-    if word == b"-".as_slice() {
-        return Ok(Vec::new(alloc));
-    }
-    if word.len() % 2 != 0 {
-        return Err(Refusal::BadLine);
-    }
-    let mut bytes = vec![in alloc; 0u8; word.len() / 2]?;
-    if !decode_into(word, bytes.as_mut_slice()) {
+    let mut bytes = vec![in alloc; 0u8; bytes_of(word)]?;
+    if !decode_word(word, bytes.as_mut_slice()) {
         return Err(Refusal::BadLine);
     }
     Ok(bytes)

@@ -49,7 +49,8 @@ fn client_in(alloc: Global, line: &[u8], index: usize) -> Result<Client, Program
 fn client_row(alloc: Global, line: &[u8]) -> Result<Result<Client, ClientFault>, Refusal>
     ensures { IfOk result (λ row. asked_by line.now ≡ Some (Setup (Row row))) }
 {
-    match Command::read(alloc, line)? {
+    let mut room = Vec::new(alloc);
+    match Command::read(alloc, &mut room, line)? {
         Command::Opening(command) => row_of(command),
         Command::Image(_) => Err(Refusal::BadLine),
         Command::Desk(_) => Err(Refusal::BadLine),

@@ -1,7 +1,7 @@
 //! A session: what each command does, and its reply.
 ghost use Rattle.std.specs.Prelude.{◌≡◌, ◌≤◌, ◌++◌, codes, Some, IfErr, OnErr, OnOk, IsErrOf};
 ghost use Rattle.kfs_model.specs.Machine as machine;
-ghost use Rattle.kfs_plan.specs.Judging.{submission_of};
+ghost use Rattle.kfs_plan.specs.Judging.{submission_with};
 ghost use Rattle.kfs_desk.specs.declared.history.answers.Done.TheVariants.{Moved};
 ghost use Rattle.kfs_desk.specs.Machine.{call_of, done_by};
 ghost use Rattle.kfs_program_command.specs.Command as commands;
@@ -22,7 +22,7 @@ use crate::verdicts::HeldVerdicts;
 use kfs_desk::history::answers::{Act, Unanswered};
 use kfs_desk::{Desk, Move};
 use kfs_image_nodes::Kind;
-use kfs_plan::{Submission, Why};
+use kfs_plan::Why;
 use kfs_program_command::{Command, DeskCommand, OpeningCommand, worker_to_land};
 use kfs_program_text::Refusal;
 use kfs_program_text::parts::{number, text};
@@ -54,7 +54,7 @@ impl<A: Allocator + Copy> Session<A> {
         }
     }
 
-    /// Answers a line: appends its reply. Condition: the reply has room for 128 bytes.
+    /// Answers a line: appends its reply. Condition: the reply has room for 128 bytes. `room` is what `Command::read` takes.
     ///
     /// A refusal leaves the state as it was, with one exception: where memory runs out for a landing,
     /// the verdict may be given up already. `give_up` makes that sure.
@@ -62,6 +62,7 @@ impl<A: Allocator + Copy> Session<A> {
         &mut self,
         rt: &(impl Threads + Sync),
         line: &[u8],
+        room: &mut Vec<u8, A>,
         reply: &mut Vec<u8, A>,
     ) -> Result<(), Refusal>
         requires { 128 ≤ spare_of reply.old }
@@ -69,7 +70,7 @@ impl<A: Allocator + Copy> Session<A> {
         ensures bad { IsErrOf result Refusal.BadLine → AnswersLine (stage_of self.old) line.now (line_of (codes "bad line"), stage_of self.new) }
         ensures memory { IsErrOf result Refusal.OutOfMemory → IsUndone (commands.asked_by line.now) (stage_of self.old) (stage_of self.new) }
     {
-        match Command::read(self.alloc, line)? {
+        match Command::read(self.alloc, room, line)? {
             Command::Opening(command) => self.answer_before(command, reply),
             Command::Image(bytes) => self.load(rt, bytes.as_slice(), reply),
             Command::Desk(command) => self.answer_after(command, reply),
@@ -162,7 +163,7 @@ fn answer_due<A: Allocator + Copy>(
 {
     match command {
         DeskCommand::Act(act) => make_call(desk, act, reply),
-        DeskCommand::Submit(submission) => hand_in(desk, submission, reply),
+        DeskCommand::Submit { client, log, plan } => hand_in(desk, client, log, plan, reply),
         DeskCommand::Node(number) => show_node(desk, number, reply),
         DeskCommand::List(number) => show_names(alloc, desk, number, reply),
         DeskCommand::Read {
@@ -223,19 +224,19 @@ fn make_call<A: Allocator + Copy>(
 /// Hands in a log and its plan.
 fn hand_in<A: Allocator + Copy>(
     desk: &mut Desk<A>,
-    submission: Submission<A>,
+    client: u32,
+    log: &[u8],
+    plan: &[u8],
     reply: &mut Vec<u8, A>,
 ) -> Result<(), Refusal>
     requires { 128 ≤ spare_of reply.old }
-    ensures ok { OnOk result (IsReplied (IsSubmissionAnswered desk.old (submission_of submission)) reply.old.items reply.new.items desk.new) }
+    ensures ok { OnOk result (IsReplied (IsSubmissionAnswered desk.old (submission_with client log.now plan.now)) reply.old.items reply.new.items desk.new) }
     ensures err { IfErr result (λ why. (why ≡ Refusal.OutOfMemory) × (desk.new ≡ desk.old)) }
 {
-    match desk.submit(submission) {
+    match desk.submit_bytes(client, log, plan) {
         Ok(answer) => Ok(reply_line(reply, &answer)?),
-        Err(back) => match back.why {
-            Why::DocketFull => Ok(text(reply, b"full\n")),
-            Why::OutOfMemory => Err(Refusal::OutOfMemory),
-        },
+        Err(Why::DocketFull) => Ok(text(reply, b"full\n")),
+        Err(Why::OutOfMemory) => Err(Refusal::OutOfMemory),
     }
 }
 

@@ -24,6 +24,8 @@ pub const LINE_LIMIT: usize = 16_777_216;
 pub struct SessionLoop<A: Allocator> {
     session: Session<A>,
     line: Vec<u8, A>,
+    /// What `Command::read` puts bytes into. It lasts, as `reply` does, so that a short line takes no memory for them.
+    room: Vec<u8, A>,
     reply: Vec<u8, A>,
 }
 
@@ -35,6 +37,7 @@ impl<A: Allocator + Copy> SessionLoop<A> {
         SessionLoop {
             session: Session::new(alloc),
             line: Vec::new(alloc),
+            room: Vec::new(alloc),
             reply: Vec::new(alloc),
         }
     }
@@ -85,7 +88,8 @@ impl<A: Allocator + Copy> SessionLoop<A> {
         ensures cleared { OnOk result (self.new.line.items ≡ []) }
     {
         if self.line.is_empty() && part.len() <= LINE_LIMIT {
-            return answer_line(&mut self.session, &mut self.reply, rt, part, writer);
+            let (room, reply) = (&mut self.room, &mut self.reply);
+            return answer_line(&mut self.session, room, reply, rt, part, writer);
         }
         self.keep(part)?;
         self.answer(rt, writer)
@@ -112,7 +116,8 @@ impl<A: Allocator + Copy> SessionLoop<A> {
         ensures first { writer.new.first ≡ writer.old.first }
         ensures cleared { self.new.line.items ≡ [] }
     {
-        let answered = answer_line(&mut self.session, &mut self.reply, rt, &self.line, writer);
+        let (room, reply) = (&mut self.room, &mut self.reply);
+        let answered = answer_line(&mut self.session, room, reply, rt, &self.line, writer);
         self.line.clear();
         answered
     }
@@ -121,6 +126,7 @@ impl<A: Allocator + Copy> SessionLoop<A> {
 /// Answers a line, and writes the reply, which is made in `reply`.
 fn answer_line<W: Write, A: Allocator + Copy>(
     session: &mut Session<A>,
+    room: &mut Vec<u8, A>,
     reply: &mut Vec<u8, A>,
     rt: &(impl Threads + Sync),
     line: &[u8],
@@ -129,7 +135,7 @@ fn answer_line<W: Write, A: Allocator + Copy>(
     ensures session { Writes (contents_with W.contents writer.old) (contents_with W.contents writer.new) (IsAnsweredIfShort result (stage_of session.old) line.now (stage_of session.new)) }
     ensures first { writer.new.first ≡ writer.old.first }
 {
-    let replied = reply_to(session, reply, rt, line);
+    let replied = reply_to(session, room, reply, rt, line);
     writer.write(text_of(replied, reply))?;
     Ok(())
 }
@@ -137,13 +143,14 @@ fn answer_line<W: Write, A: Allocator + Copy>(
 /// Answers a line. Where memory runs out, the verdict that it asks to land is given up.
 fn reply_to<A: Allocator + Copy>(
     session: &mut Session<A>,
+    room: &mut Vec<u8, A>,
     reply: &mut Vec<u8, A>,
     rt: &(impl Threads + Sync),
     line: &[u8],
 ) -> Result<(), Refusal>
     ensures { AnswersLine (stage_of session.old) line.now (reply_written result reply.new.items, stage_of session.new) }
 {
-    match reply_in_room(session, reply, rt, line) {
+    match reply_in_room(session, room, reply, rt, line) {
         Ok(()) => Ok(()),
         Err(Refusal::BadLine) => Err(Refusal::BadLine),
         Err(Refusal::OutOfMemory) => {
@@ -156,6 +163,7 @@ fn reply_to<A: Allocator + Copy>(
 /// Answers a line, with room for the reply made before anything changes.
 fn reply_in_room<A: Allocator + Copy>(
     session: &mut Session<A>,
+    room: &mut Vec<u8, A>,
     reply: &mut Vec<u8, A>,
     rt: &(impl Threads + Sync),
     line: &[u8],
@@ -166,7 +174,7 @@ fn reply_in_room<A: Allocator + Copy>(
 {
     reply.clear();
     reply.try_reserve(LONGEST_LINE)?;
-    session.answer(rt, line, reply)
+    session.answer(rt, line, room, reply)
 }
 
 /// What is written for a reply: the reply itself, or a refusal's line.

@@ -1,9 +1,6 @@
-use Rattle.std.proofs.Common.{rules, ◌≡◌, ◌^◌, ◌+◌, ◌*◌, ◌-◌, ◌<◌, ◌≤◌, true, length, take, get_or, subst, sym, ◌∙◌, arith, take_all, refl}
-use Rattle.std.proofs.lemmas.Bool.Decides.{nat_tests}
+use Rattle.std.proofs.Common.{rules, ◌≡◌, true, get_or, ◌∙◌, arith, take_all, refl}
 use Rattle.std.proofs.lemmas.List.Folds.{list_all_more}
-use Rattle.std.specs.List.{list_all}
-use Rattle.std.specs.Str.Parse.{digits_value}
-use Rattle.kfs_program_text.specs.Decimals.{decimal_within, is_digit}
+use Rattle.kfs_program_text.specs.Decimals.{is_digit}
 use Rattle.kfs_program_text.proofs.Numerals.{one_more, over, unfit, within}
 use Rattle.kfs_program_text.proofs.words.number_in.Goals as goal
 

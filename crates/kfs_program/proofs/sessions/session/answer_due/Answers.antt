@@ -4,7 +4,7 @@ use Rattle.std.specs.Prelude.{OnOk}
 use Rattle.std.proofs.lemmas.Result.{on_ok_weaker}
 use Rattle.kfs_model.specs.Lease.{row_of}
 use Rattle.kfs_model.specs.Machine.{Migrate}
-use Rattle.kfs_plan.specs.Judging.{submission_of}
+use Rattle.kfs_plan.specs.Judging.{submission_with}
 use Rattle.kfs_desk.specs.declared.history.answers.Done.TheVariants.{Moved}
 use Rattle.kfs_program.specs.Engine.Bytes.{read_text}
 use Rattle.kfs_program.specs.Engine.Session.{After, IsCallAnswered, IsNodeShown, IsPlanAnswered, IsReplied, IsSubmissionAnswered, docket_line, names_line}
@@ -26,7 +26,7 @@ returns-in-Submit-clause-ok g c =
     let desk = c.args.desk.now in
     let hands = c.args.hands.now in
     on_ok_weaker c.hand_in.result (replied_as desk hands c.args.command _ c.args.reply.now.items c.hand_in.new.reply.items (After c.hand_in.new.desk hands) c.in-Submit.is)
-    (with_hands c.hand_in.result hands (IsSubmissionAnswered desk (submission_of c.in-Submit.submission)) c.args.reply.now.items c.hand_in.new.reply.items c.hand_in.new.desk c.hand_in.ensures.ok)
+    (with_hands c.hand_in.result hands (IsSubmissionAnswered desk (submission_with c.in-Submit.client c.in-Submit.log.now c.in-Submit.plan.now)) c.args.reply.now.items c.hand_in.new.reply.items c.hand_in.new.desk c.hand_in.ensures.ok)
 
 pub returns-in-Node-clause-ok : goal.returns-in-Node-clause-ok
 returns-in-Node-clause-ok g c =

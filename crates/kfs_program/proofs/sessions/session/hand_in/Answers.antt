@@ -10,7 +10,7 @@ returns-in-Ok-clause-ok g c =
       c.in_ok-reply_line-in-Ok.ensures.ok,
       inr (record {
         answer = c.in-Ok.answer;
-        next = c.submit.new.self;
+        next = c.submit_bytes.new.self;
         below = λ full. answered.full.1 full;
         answered = answered.answered;
         is = refl;
