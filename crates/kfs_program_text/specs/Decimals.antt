@@ -1,5 +1,5 @@
 -- Words as numbers and as bytes.
-use Rattle.std.specs.Prelude.{ℕ, ◌-◌, ◌^◌, ◌/◌, ◌&&◌, nat_le, nat_lt, Bool, List, [], ◌∷◌, length, codes, bytes_eq, Option, Some, None, option_map, Ok, Err, if◌then◌else◌}
+use Rattle.std.specs.Prelude.{ℕ, ◌-◌, ◌^◌, ◌&&◌, nat_le, nat_lt, Bool, List, [], ◌∷◌, length, codes, bytes_eq, Option, Some, None, option_map, Ok, Err, if◌then◌else◌}
 use Rattle.std.specs.List.{list_all}
 use Rattle.std.specs.Str.Parse.{digits_value}
 use Rattle.hex.specs.Hex.{decode_of}
@@ -32,10 +32,6 @@ decimals32 (word ∷ words) = elim (decimal32 word) [
 -- the bytes that the word encodes, two hexadecimal digits for each; a minus alone encodes no bytes
 abbrev pub hexadecimal : List ℕ → Option (List ℕ)
 hexadecimal word = if bytes_eq word (codes "-") then Some [] else elim (decode_of word) [ Ok bytes ↦ Some bytes | Err fault ↦ None ]
-
--- how many bytes the word encodes, if it is hexadecimal text
-abbrev pub bytes_in_word : List ℕ → ℕ
-bytes_in_word word = if bytes_eq word (codes "-") then 0 else length word / 2
 
 -- the bytes that two words encode
 abbrev pub both_of : (front back : List ℕ) → Option (List ℕ × List ℕ)

@@ -1,7 +1,7 @@
 //! The words of a command line: names, decimal numbers, hexadecimal text. Where a byte stands.
-ghost use Rattle.std.specs.Prelude.{◌≡◌, ◌==◌, ◌<◌, ◌≤◌, [], ◌∷◌, ◌++◌, length, None, Some, option_map, position, take, IfErr, IfOk, OnOk, IsTrue, IsFalse};
+ghost use Rattle.std.specs.Prelude.{◌≡◌, ◌==◌, ◌<◌, ◌≤◌, [], ◌∷◌, ◌++◌, ◌/◌, length, None, Some, option_map, position, take, IfErr, IfOk, OnOk, IsTrue, IsFalse};
 ghost use Rattle.kfs_program_text.specs.Cut.{cut, space};
-ghost use Rattle.kfs_program_text.specs.Decimals.{both_of, bytes_in_word, decimal32, decimal64, decimal_within, decimals32, hexadecimal};
+ghost use Rattle.kfs_program_text.specs.Decimals.{both_of, decimal32, decimal64, decimal_within, decimals32, hexadecimal};
 ghost use Rattle.kfs_program_text.specs.Reading.{ReadsAs, ReadsExactly, both_hexadecimal, ended, first_by, only, words_left};
 
 use crate::digits::decode_into;
@@ -257,7 +257,7 @@ fn keep<const N: usize>(numbers: &mut ArrayVec<u32, N>, number: u32)
 fn bytes_in<A: Allocator>(alloc: A, word: &[u8]) -> Result<Vec<u8, A>, Refusal>
     ensures { ReadsAs (λ bytes. bytes.items) (hexadecimal word.now) result }
 {
-    let mut bytes = vec![in alloc; 0u8; bytes_of(word)]?;
+    let mut bytes = vec![in alloc; 0u8; word.len() / 2]?;
     if !decode_word(word, bytes.as_mut_slice()) {
         return Err(Refusal::BadLine);
     }
@@ -276,7 +276,7 @@ fn both_in<'r, A: Allocator>(
 ) -> Result<(&'r [u8], &'r [u8]), Refusal>
     ensures { ReadsAs (λ pair. (pair.0.now, pair.1.now)) (both_of front.now back.now) result }
 {
-    let (front_len, back_len) = (bytes_of(front), bytes_of(back));
+    let (front_len, back_len) = (front.len() / 2, back.len() / 2);
     make_room(alloc, room, front_len + back_len)?;
     let (front_room, others) = room.as_mut_slice().split_at_mut(front_len);
     let back_room = &mut others[..back_len];
@@ -284,13 +284,6 @@ fn both_in<'r, A: Allocator>(
         return Err(Refusal::BadLine);
     }
     Ok((front_room, back_room))
-}
-
-/// How many bytes a word of hexadecimal text is.
-fn bytes_of(word: &[u8]) -> usize
-    ensures { result ≡ bytes_in_word word.now }
-{
-    if word == b"-".as_slice() { 0 } else { word.len() / 2 }
 }
 
 /// Makes the list at least as long as `len`. What it holds doesn't matter.
@@ -307,9 +300,10 @@ fn make_room<A: Allocator>(
     Ok(())
 }
 
-/// Puts the bytes that the word stands for into the slice, which is as long. Answers whether the word is hexadecimal text.
+/// Puts the bytes that the word stands for into the slice, which has one for two digits. Answers whether the word is
+/// hexadecimal text.
 fn decode_word(word: &[u8], out: &mut [u8]) -> bool
-    requires { length out.old ≡ bytes_in_word word.now }
+    requires { length out.old ≡ length word.now / 2 }
     ensures yes { IsTrue result → hexadecimal word.now ≡ Some out.new }
     ensures no { IsFalse result → hexadecimal word.now ≡ None }
 {
