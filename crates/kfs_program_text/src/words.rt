@@ -287,11 +287,7 @@ fn both_in<'r, A: Allocator>(
 }
 
 /// Makes the list at least as long as `len`. What it holds doesn't matter.
-fn make_room<A: Allocator>(
-    alloc: A,
-    room: &mut Vec<u8, A>,
-    len: usize,
-) -> Result<(), AllocError>
+fn make_room<A: Allocator>(alloc: A, room: &mut Vec<u8, A>, len: usize) -> Result<(), AllocError>
     ensures { OnOk result (len ≤ length room.new.items) }
 {
     if room.len() < len {
