@@ -3,12 +3,14 @@
 //! What kfsd tells besides is asked for at the connection: the moment, calls that are numbered, so that none is made twice, and
 //! which leases others want. An older one tells none of it, and an older server has no look-ups.
 
-use crate::desk::{Answer, Blocks, Desk, LeaseRefusal, RowPart, Unanswered, Wanted, Wish, Wrong};
-use crate::entry::Kind;
-use crate::fault::Reason;
+use crate::desk::{Answer, Blocks, Desk, LeaseRefusal, Unanswered, Wanted, Wish};
 use crate::line::Line;
 use crate::name::Name;
 use crate::node::Header;
+use crate::replies::{
+    answer_in, found_ahead, found_header, found_in, found_name, found_names, found_places, is_unwelcome, nonsense, reply_of,
+    told_of, Reply, Told, FOUND_BYTES, HELLO, MOMENT,
+};
 use crate::shown::{Ahead, FoundAhead, Shown, Unshown};
 use crate::wants::Wants;
 use std::collections::hash_map::RandomState;
@@ -21,10 +23,6 @@ use std::thread::sleep;
 use std::time::{Duration, Instant};
 use thiserror::Error;
 
-/// The body that asks kfsd who the client is, and the tag of its answer.
-const HELLO: u8 = 0xf0;
-/// The same of the moment.
-const MOMENT: u8 = 0xf1;
 /// The tag before a number and a call that is made once under it.
 const NUMBERED: u8 = 0xf2;
 /// How long what isn't answered is asked again, where nothing else is said, and after which pause.
@@ -36,13 +34,6 @@ const FIND: u8 = 0x43;
 const NAMES: u8 = 0x44;
 const READ: u8 = 0x45;
 const PLACES: u8 = 0x46;
-/// The first bytes of what they find: of a header, of why the client may not ask, of a name, of names, of bytes, and of places.
-const FOUND_NODE: u8 = 1;
-const FOUND_FAULT: u8 = 4;
-const FOUND_NAME: u8 = 5;
-const FOUND_NAMES: u8 = 6;
-const FOUND_BYTES: u8 = 7;
-const FOUND_PLACES: u8 = 8;
 /// The most bytes that a look-up finds, and how many a name takes at most.
 const FOUND_LIMIT: usize = 65_536;
 const NAME_ROOM: usize = 260;
@@ -58,11 +49,6 @@ const SHORT_FRAME: usize = 4096;
 /// The tags of calls for a lease.
 const LEASE_BY_PATH: u8 = 2;
 const LEASE_BY_NUMBER: u8 = 6;
-/// The tags of replies.
-const ANSWERED: u8 = 1;
-const REFUSED: u8 = 2;
-const FOUND: u8 = 3;
-
 /// Why there is no connection.
 #[derive(Debug, Error)]
 pub enum Unconnected {
@@ -84,62 +70,6 @@ pub enum Unconnected {
     /// What came is no answer.
     #[error("no answer to a hello")]
     Nonsense,
-}
-
-/// What a reply tells.
-#[derive(Clone, Debug, PartialEq, Eq)]
-enum Reply {
-    /// The bytes of an answer.
-    Answered(Vec<u8>),
-    /// What a look-up has found.
-    Found(Vec<u8>),
-    /// The code of a refusal.
-    Refused(u8),
-    /// The client, and its grant.
-    Welcome(u32, [u32; 2]),
-    /// The moment, and for how many moments a lease may live at most; 0 for ever.
-    Moment(u64, u64),
-}
-
-/// Fields of a reply, read one after another. None where they end early.
-struct Fields<'a>(&'a [u8]);
-
-impl Fields<'_> {
-    fn array<const N: usize>(&mut self) -> Option<[u8; N]> {
-        let taken = self.0.get(..N)?.try_into().ok()?;
-        self.0 = &self.0[N..];
-        Some(taken)
-    }
-
-    fn byte(&mut self) -> Option<u8> {
-        self.array::<1>().map(|[byte]| byte)
-    }
-
-    fn short(&mut self) -> Option<u16> {
-        self.array().map(u16::from_be_bytes)
-    }
-
-    fn word(&mut self) -> Option<u32> {
-        self.array().map(u32::from_be_bytes)
-    }
-
-    fn long(&mut self) -> Option<u64> {
-        self.array().map(u64::from_be_bytes)
-    }
-}
-
-fn reply_of(said: &[u8]) -> Option<Reply> {
-    let (tag, rest) = said.split_first()?;
-    let mut fields = Fields(rest);
-    let reply = match *tag {
-        ANSWERED => Reply::Answered(rest.to_vec()),
-        FOUND => Reply::Found(rest.to_vec()),
-        REFUSED => Reply::Refused(fields.byte()?),
-        HELLO => Reply::Welcome(fields.word()?, [fields.word()?, fields.word()?]),
-        MOMENT => Reply::Moment(fields.long()?, fields.long()?),
-        _ => return None,
-    };
-    Some(reply)
 }
 
 /// The moment that kfsd has told. It is a second of its clock.
@@ -387,10 +317,6 @@ impl Connection {
     }
 }
 
-fn nonsense(body: &[u8]) -> Unshown {
-    Unshown::Nonsense(format!("frame with tag {}", body.first().copied().unwrap_or(0)))
-}
-
 /// Puts the bytes of a frame behind others.
 fn put_frame(out: &mut Vec<u8>, number: u32, client: u32, body: &[u8]) {
     out.reserve(12 + body.len());
@@ -419,151 +345,9 @@ fn exchange(line: &mut Line, number: u32, client: u32, body: &[u8]) -> io::Resul
     Ok(reply)
 }
 
-/// Whether kfsd refuses the connection, whatever was asked.
-fn is_unwelcome(said: &[u8]) -> bool {
-    matches!(said, [REFUSED, 130 | 131 | 136, ..])
-}
-
 /// Whether the answer is due soon: nothing has to be kept before.
 fn is_soon(body: &[u8]) -> bool {
     matches!(body.first(), Some(NODE..=PLACES))
-}
-
-/// What a look-up has found that was asked for ahead. What is refused is asked for again by who wants it.
-fn found_ahead(said: &[u8]) -> FoundAhead {
-    let found = match said.split_first() {
-        Some((&FOUND, found)) => found,
-        _ => return FoundAhead::Nothing,
-    };
-    match found.first() {
-        Some(&FOUND_BYTES) => FoundAhead::Bytes(found[1..].to_vec()),
-        Some(&FOUND_NODE) => found_header(found).map_or(FoundAhead::Nothing, FoundAhead::Header),
-        _ => FoundAhead::Nothing,
-    }
-}
-
-/// What the reply to a call tells.
-fn answer_in(reply: Reply, body: &[u8]) -> Result<Told, Unanswered> {
-    match reply {
-        Reply::Answered(bytes) => told_of(&bytes).ok_or_else(|| nonsense(body).into()),
-        Reply::Refused(1) => Err(Unanswered::TooLong),
-        Reply::Refused(5) => Err(Unanswered::NotYours),
-        Reply::Refused(6 | 7) => Err(Unanswered::NoMemory),
-        Reply::Refused(128) => Err(Unanswered::Unknown),
-        Reply::Refused(129) => Err(Unanswered::Stopping),
-        Reply::Refused(132) => Ok(Told::TooFar),
-        Reply::Refused(133) => Err(Unanswered::Unknown),
-        Reply::Refused(135) => Ok(Told::Wanted),
-        _ => Err(nonsense(body).into()),
-    }
-}
-
-/// What an answer tells.
-#[derive(Clone, Copy, Debug, PartialEq, Eq)]
-enum Told {
-    /// Of a submission.
-    Of(Answer),
-    /// A lease is granted, or given up.
-    Leased(u32),
-    /// It isn't.
-    Unleased(LeaseRefusal),
-    /// Nor is it here: kfsd refuses an end that is too far away, and one that another client has wanted for long.
-    TooFar,
-    Wanted,
-}
-
-/// The bytes of an answer (docs/FORMATS.md, "Answers of a desk").
-fn told_of(bytes: &[u8]) -> Option<Told> {
-    let mut fields = Fields(bytes);
-    let _position = fields.word()?;
-    let told = match fields.byte()? {
-        1 => Told::Of(Answer::Yes),
-        2 => {
-            let _rejudged = fields.byte()?;
-            Told::Of(submission_fault(&mut fields)?)
-        }
-        3 => {
-            let _rejudged = fields.byte()?;
-            Told::Of(Answer::NoRoom { need: fields.long()?, free: fields.word()? })
-        }
-        4 | 5 => Told::Leased(fields.word()?),
-        8 => Told::Unleased(lease_fault(&mut fields)?),
-        _ => return None,
-    };
-    Some(told)
-}
-
-/// The numbers of a fault are those of include/kfs.h.
-fn submission_fault(fields: &mut Fields<'_>) -> Option<Answer> {
-    let (code, reason, index, detail) = (fields.byte()?, fields.byte()?, fields.long()? as usize, fields.word()?);
-    let answer = match (code, reason) {
-        (1, _) => Answer::Wrong(Wrong::UnknownClient),
-        (2, _) => Answer::Wrong(Wrong::Log),
-        (3, _) => Answer::Wrong(Wrong::Client),
-        (4, _) => Answer::Wrong(Wrong::Plan),
-        (5, _) => Answer::Entry(index, Reason::of_code(reason, detail)?),
-        (6, 1) => Answer::Row(RowPart::Names, index),
-        (6, 2) => Answer::Row(RowPart::Nodes, index),
-        (6, 3) => Answer::Row(RowPart::Pieces, index),
-        _ => return None,
-    };
-    Some(answer)
-}
-
-fn lease_fault(fields: &mut Fields<'_>) -> Option<LeaseRefusal> {
-    let (code, _reason, _index, detail) = (fields.byte()?, fields.byte()?, fields.long()?, fields.word()?);
-    let refusal = match code {
-        1 => LeaseRefusal::UnknownClient,
-        2 | 3 | 4 | 10 => LeaseRefusal::NoSuchNode,
-        5 | 11 => LeaseRefusal::NotAllowed,
-        6 => LeaseRefusal::Past,
-        7 => LeaseRefusal::Held(detail),
-        8 => LeaseRefusal::NoneHeld,
-        _ => return None,
-    };
-    Some(refusal)
-}
-
-/// The header that a look-up has found, or none where there is no such node. None at all where the bytes are no such answer.
-fn found_header(bytes: &[u8]) -> Option<Option<Header>> {
-    let mut fields = Fields(bytes);
-    let (found, state) = (fields.byte()?, fields.byte()?);
-    let kind = match (found, state) {
-        (FOUND_NODE, 0) => return Some(None),
-        (FOUND_NODE, 1) => Kind::File,
-        (FOUND_NODE, 2) => Kind::Directory,
-        _ => return None,
-    };
-    let (mode, uid, gid) = (fields.short()?, fields.word()?, fields.word()?);
-    Some(Some(Header { kind, mode, uid, gid, links: fields.short()?, size: fields.long()? }))
-}
-
-/// Where a name leads that was looked up.
-fn found_name(bytes: &[u8]) -> Option<Option<u32>> {
-    let mut fields = Fields(bytes);
-    match (fields.byte()?, fields.byte()?) {
-        (FOUND_NAME, 0) => Some(None),
-        (FOUND_NAME, 1) => Some(Some(fields.word()?)),
-        _ => None,
-    }
-}
-
-/// Names that were looked up, and whether there are more behind them.
-fn found_names(bytes: &[u8]) -> Option<(Vec<(Name, u32)>, bool)> {
-    let mut fields = Fields(bytes);
-    let (found, has_more) = (fields.byte()?, fields.byte()?);
-    if found != FOUND_NAMES || has_more > 1 {
-        return None;
-    }
-    let mut names = Vec::new();
-    while !fields.0.is_empty() {
-        let (number, length) = (fields.word()?, usize::from(fields.byte()?));
-        let name = Name::new(fields.0.get(..length)?).ok()?;
-        fields.0 = &fields.0[length..];
-        names.push((name, number));
-    }
-    // Who has more to tell has told something.
-    (has_more == 0 || !names.is_empty()).then_some((names, has_more == 1))
 }
 
 impl Connection {
@@ -575,18 +359,6 @@ impl Connection {
             Reply::Refused(1 | 5) => Err(Unshown::NotAllowed),
             _ => Err(nonsense(body)),
         }
-    }
-}
-
-/// What a look-up has found; none where there is no such node, or it is one of the other kind.
-fn found_in(reply: Reply) -> Result<Option<Vec<u8>>, Unshown> {
-    match reply {
-        Reply::Found(found) => match found[..] {
-            [FOUND_FAULT, 2..=4] => Ok(None),
-            [FOUND_FAULT, _] => Err(Unshown::NotAllowed),
-            _ => Ok(Some(found)),
-        },
-        _ => Ok(None),
     }
 }
 
@@ -842,12 +614,7 @@ impl Desk for Connection {
             Err(Unshown::NoSuchLookUp) => return Ok(None),
             Err(fault) => return Err(fault.into()),
         };
-        let mut fields = Fields(&found);
-        let told = (fields.byte(), fields.word(), fields.word());
-        match told {
-            (Some(FOUND_PLACES), Some(all), Some(free)) => Ok(Some(Blocks { all, free })),
-            _ => Err(nonsense(&[PLACES]).into()),
-        }
+        found_places(&found).map(Some).ok_or_else(|| nonsense(&[PLACES]).into())
     }
 
     fn longest_term(&self) -> u64 {
@@ -867,44 +634,5 @@ impl Desk for Connection {
             let _no_kfsd = wants.ask_again(path);
             told
         }))
-    }
-}
-
-#[cfg(test)]
-mod tests {
-    use super::*;
-
-    #[test]
-    fn answers_are_those_of_the_formats() {
-        assert_eq!(told_of(&[0, 0, 0, 0, 4, 0, 0, 0, 1]), Some(Told::Leased(1)));
-        assert_eq!(told_of(&[0, 0, 0, 9, 1, 0, 0, 0, 0, 0, 0, 0, 0, 1]), Some(Told::Of(Answer::Yes)));
-        let no_lease = [0, 0, 0, 9, 2, 0, 5, 15, 0, 0, 0, 0, 0, 0, 0, 3, 0, 0, 0, 8];
-        assert_eq!(told_of(&no_lease), Some(Told::Of(Answer::Entry(3, Reason::NoLease(8)))));
-        assert_eq!(told_of(&no_lease[..19]), None);
-        let held = [0, 0, 0, 9, 8, 7, 0, 0, 0, 0, 0, 0, 0, 0, 0, 0, 0, 0, 8];
-        assert_eq!(told_of(&held), Some(Told::Unleased(LeaseRefusal::Held(8))));
-        assert_eq!(told_of(&[0, 0, 0, 1, 6, 0]), None);
-    }
-
-    #[test]
-    fn names_are_those_of_the_protocol() {
-        let name = |text: &str| Name::new(text.as_bytes()).unwrap();
-        assert_eq!(found_name(&[5, 0]), Some(None));
-        assert_eq!(found_name(&[5, 1, 0, 0, 1, 0]), Some(Some(256)));
-        assert_eq!(found_name(&[5, 1, 0]), None);
-        let two = [6, 1, 0, 0, 0, 5, 1, b'a', 0, 0, 0, 6, 2, b'b', b'c'];
-        assert_eq!(found_names(&two), Some((vec![(name("a"), 5), (name("bc"), 6)], true)));
-        assert_eq!(found_names(&[6, 0]), Some((vec![], false)));
-        assert_eq!(found_names(&[6, 1]), None);
-        assert_eq!(found_names(&two[..14]), None);
-    }
-
-    #[test]
-    fn headers_are_those_of_plans() {
-        let bytes = [1, 1, 1, 0xa4, 0, 0, 3, 0xe8, 0, 0, 3, 0xe9, 0, 2, 0, 0, 0, 1, 0, 0, 0, 0];
-        let header = Header { kind: Kind::File, mode: 0o644, uid: 1000, gid: 1001, links: 2, size: 1 << 32 };
-        assert_eq!(found_header(&bytes), Some(Some(header)));
-        assert_eq!(found_header(&[1, 0]), Some(None));
-        assert_eq!(found_header(&bytes[..21]), None);
     }
 }

@@ -31,6 +31,7 @@ pub mod node;
 pub mod paths;
 pub mod plan;
 pub mod program;
+mod replies;
 pub mod session;
 pub mod shown;
 mod wants;
