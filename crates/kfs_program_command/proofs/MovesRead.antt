@@ -8,13 +8,9 @@ use Rattle.kfs_program_command.specs.Reading.{first_move}
 use Rattle.kfs_program_text.specs.Decimals.{decimal32, decimal_within}
 use Rattle.kfs_program_text.specs.Reading.{ReadsExactly, are_words, checked, ended, first_by}
 use Rattle.kfs_program_text.specs.declared.words.Refusal.{Refusal}
-use Rattle.kfs_program_text.proofs.WordByWord.{bind_all, bind_none, checked_then, word_then}
+use Rattle.kfs_program_text.proofs.WordByWord.{bind_all, bind_bind, bind_none, checked_then, word_then}
 
 -- ---- a move and the moves behind it
-
-bind_bind : {X Y Z : Type 0} (o : Option X) (f : X → Option Y) (g : Y → Option Z) → ((o >>= f) >>= g) ≡ (o >>= λ x. f x >>= g)
-bind_bind None f g = refl
-bind_bind (Some x) f g = refl
 
 checked_here : {T : Type 0} (f g : List (List ℕ) → Option T) (words : List (List ℕ)) → f words ≡ g words → checked f words ≡ checked g words
 unfolding checked

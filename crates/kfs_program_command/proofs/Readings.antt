@@ -10,7 +10,7 @@ use Rattle.kfs_program_text.specs.Reading.{are_words, both_hexadecimal, checked,
 use Rattle.kfs_program_command.specs.declared.command.Keyword.{Keyword}
 use Rattle.kfs_program_command.specs.declared.command.Keyword.TheVariants as names
 use Rattle.std.specs.Prelude.{bytes_eq, codes}
-use Rattle.kfs_program_text.proofs.WordByWord.{bind_all, bind_none, checked_decimals, checked_nothing, checked_same, checked_then, decimals_then, first_if, if_none, map_bind, nothing_if, nothing_then, word_then}
+use Rattle.kfs_program_text.proofs.WordByWord.{bind_all, bind_bind, bind_none, checked_decimals, checked_nothing, checked_same, checked_then, decimals_then, first_if, if_none, map_bind, nothing_if, nothing_then, word_then}
 use Rattle.kfs_program_command.proofs.Rows.{sizes_by, new_by_sizes, kept_groups}
 
 -- ---- one number
@@ -194,10 +194,6 @@ both_then client words = by (first_by hexadecimal words)
         ≡ ((read >>= λ y. first_by hexadecimal y.1 >>= λ z. ended z.1 >>= λ done. Some (y.0, z.0)) >>= λ (pair : List ℕ × List ℕ). Some (handed_in client pair.0 pair.1))
     by None = refl
     by (Some y) = behind y.0 (first_by hexadecimal y.1)
-
-bind_bind : {X Y T : Type 0} (o : Option X) (f : X → Option Y) (g : Y → Option T) → ((o >>= f) >>= g) ≡ (o >>= λ x. f x >>= g)
-bind_bind None f g = refl
-bind_bind (Some x) f g = refl
 
 pub submit_steps : (words : List (List ℕ)) → checked submit_of words ≡ (first_by decimal32 words >>= λ x. both_hexadecimal x.1 >>= λ pair. Some (Request (Submit (submission_with x.0 pair.0 pair.1))))
 submit_steps words =

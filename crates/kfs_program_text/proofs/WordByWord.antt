@@ -40,6 +40,10 @@ module _ {X T : Type 0} where
   map_bind None f g = refl
   map_bind (Some x) f g = refl
 
+  pub bind_bind : {U : Type 0} (o : Option X) (f : X → Option T) (g : T → Option U) → ((o >>= f) >>= g) ≡ (o >>= λ x. f x >>= g)
+  bind_bind None f g = refl
+  bind_bind (Some x) f g = refl
+
 module _ {T : Type 0} where
   -- nothing more is read
   unfoldable pub nothing_then : Option T → List (List ℕ) → Option T

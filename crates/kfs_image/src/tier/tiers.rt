@@ -158,8 +158,8 @@ impl<A: Allocator> Tiers<A> {
     }
 }
 
-/// Of how many blocks that were written over the memory is kept, at most: 256 KiB.
-const SPARES: usize = 64;
+/// Of how many blocks that were written over the memory is kept, at most: 16 MiB. A log has as many entries at most.
+const SPARES: usize = 4_096;
 
 /// A block to be written: its place, and its 4,096 bytes.
 #[derive(Debug, Drop)]

@@ -85,8 +85,20 @@ impl<K: Ord, V: Copy, A: Allocator> Few<K, V, A> {
                 }
                 None
             }
-            None => self.tree.get(key).copied(),
+            None => self.in_tree(key),
         }
+    }
+
+    /// The value at the key in the tree, or none. Most long logs write in the order of the keys: so a key behind the last
+    /// one, which isn't there, is no search.
+    fn in_tree(&self, key: &K) -> Option<V>
+        ensures { result ≡ get K.cmp self.now.tree key.now }
+    {
+        let (last, _) = self.tree.last_key_value()?;
+        if key.cmp(last).is_gt() {
+            return None;
+        }
+        self.tree.get(key).copied()
     }
 
     /// The only entry, if it stands alone.
