@@ -1,5 +1,6 @@
 -- Lemmas on rows and their tests.
 pub mod Tests
+pub mod NameTests
 pub mod OneLeast
 pub mod Neighbours
 pub mod NameCounts

@@ -7,8 +7,6 @@ use Rattle.std.specs.Map.{lookup}
 use Rattle.std.specs.List.{AllByRecursion}
 use Rattle.std.proofs.lemmas.List.{drop_more, drop_all, get_or-replicate, length-replicate}
 use Rattle.std.proofs.lemmas.Option.{slice_get-get_or}
-use Rattle.kfs_types.specs.declared.plan.NameRow.{NameRow as CodeNameRow}
-use Rattle.kfs_types.specs.Views.{name_row_of}
 use Rattle.kfs_model.specs.Header.{Header}
 use Rattle.kfs_model.specs.PlanRow.{NameRow}
 use Rattle.kfs_model.specs.Table.{Table, numbers}
@@ -21,7 +19,9 @@ use Rattle.kfs_model.specs.Device.Rules.{Test, with_previous, directory_test, ru
 use Rattle.kfs_model.specs.Device.Finding.{least_of, least_failed}
 use Rattle.kfs_model.proofs.DeviceLemmas.RowTables.{AreAbove, sorted_entries, sorted_rows}
 use Rattle.kfs_model.proofs.DeviceLemmas.RulesHold.{AllHold}
+use Rattle.kfs_shape.specs.declared.links.Link.{Link}
 use Rattle.kfs_shape.specs.Counts.{count_at}
+use Rattle.kfs_shape.specs.Links.{link_of, AreLinks}
 use Rattle.kfs_shape.specs.NameCounts.{leads_to, count_in, CountsLeads, CountsNames}
 
 -- ---- one row after another
@@ -69,25 +69,29 @@ names_listed raw ascend =
     let above = names_above (heads_of raw) (with_previous None raw.names) (all_hold (rule_4 raw) ascend) in
     sorted_entries name_order (map keyed_name raw.names) (sorted_rows name_order keyed_name raw.names above)
 
--- a node has as many names as rows lead to it
-pub rows_counted : (raw : RawImage) (rows : List CodeNameRow) → raw.names ≡ map name_row_of rows → least_failed (rule_4 raw) ≡ None → (number : ℕ) → name_count (names_of raw) number ≡ count_by (leads_to number) rows
-rows_counted raw rows are ascend number =
+-- what stands past the end of a list of links
+abbrev pub no_link : Link
+no_link = record { dir = 0; number = 0 }
+
+-- a node has as many names as links lead to it
+pub links_counted : (raw : RawImage) (links : List Link) → AreLinks links raw → least_failed (rule_4 raw) ≡ None → (number : ℕ) → name_count (names_of raw) number ≡ count_by (leads_to number) links
+links_counted raw links linked ascend number =
     ap (count_by (λ e. e.1 == number)) (names_listed raw ascend)
     ∙ is_tally (λ e. e.1 == number) (map keyed_name raw.names)
     ∙ tally_map (λ e. e.1 == number) keyed_name raw.names
-    ∙ ap (tally (λ row. row.number == number)) are
-    ∙ tally_map (λ row. row.number == number) name_row_of rows
-    ∙ sym (is_tally (leads_to number) rows)
+    ∙ sym (tally_map (leads_to number) link_of raw.names)
+    ∙ ap (tally (leads_to number)) (sym linked)
+    ∙ sym (is_tally (leads_to number) links)
 
--- counts of the rows are the counts of the names of each node whose number is below the bound
-pub all_counted : {E A : Type 0} (raw : RawImage) (many : ℕ) (rows : List CodeNameRow) → raw.names ≡ map name_row_of rows → least_failed (rule_4 raw) ≡ None → AllByRecursion (λ row. row.number < many) raw.nodes
-    → (result : Result (Vec ℕ A) E) → IfOk result (λ counts. CountsLeads many counts.items rows) → IfOk result (λ counts. CountsNames counts.items raw)
-all_counted raw many rows are ascend below (Ok counts) counted = each raw.nodes below
+-- counts of the links are the counts of the names of each node whose number is below the bound
+pub all_counted : {E A : Type 0} (raw : RawImage) (many : ℕ) (links : List Link) → AreLinks links raw → least_failed (rule_4 raw) ≡ None → AllByRecursion (λ row. row.number < many) raw.nodes
+    → (result : Result (Vec ℕ A) E) → IfOk result (λ counts. CountsLeads many counts.items links) → IfOk result (λ counts. CountsNames counts.items raw)
+all_counted raw many links linked ascend below (Ok counts) counted = each raw.nodes below
   where
     each : (nodes : List RawNode) → AllByRecursion (λ row. row.number < many) nodes → AllByRecursion (λ row. count_in counts.items row.number ≡ name_count (names_of raw) row.number) nodes
     each [] all = tt
-    each (row ∷ nodes) all = (counted row.number all.0 ∙ sym (rows_counted raw rows are ascend row.number), each nodes all.1)
-all_counted raw many rows are ascend below (Err refused) counted = tt
+    each (row ∷ nodes) all = (counted row.number all.0 ∙ sym (links_counted raw links linked ascend row.number), each nodes all.1)
+all_counted raw many links linked ascend below (Err refused) counted = tt
 
 abbrev never : ℕ
 never = 0

@@ -5,8 +5,6 @@ use Rattle.std.proofs.lemmas.Bool.{and_right, ne_eqb}
 use Rattle.std.proofs.lemmas.List.{append-nil, drop_more, drop_all, get_or-replicate, length-replicate, take_all}
 use Rattle.std.proofs.lemmas.List.Elements.{recursion_from_All, All-map}
 use Rattle.std.proofs.lemmas.Option.{slice_get-get_or, slice_get_past}
-use Rattle.kfs_types.specs.declared.plan.NameRow.{NameRow as CodeNameRow}
-use Rattle.kfs_types.specs.Views.{name_row_of}
 use Rattle.kfs_model.specs.Table.{get, option_or}
 use Rattle.kfs_model.specs.Sight.{is_directory, holder}
 use Rattle.kfs_model.proofs.CleanIsAllowed.{right}
@@ -20,7 +18,9 @@ use Rattle.kfs_model.proofs.DeviceLemmas.SoundImage.{some_directory, each_head}
 use Rattle.kfs_image.specs.declared.codec.raw.RawNode.{RawNode as CodeRawNode}
 use Rattle.kfs_image.specs.declared.codec.raw.RawImage.{RawImage as CodeRawImage}
 use Rattle.kfs_image.specs.Codec.RawImages.{raw_node_of, raw_of}
+use Rattle.kfs_shape.specs.declared.links.Link.{Link}
 use Rattle.kfs_shape.specs.Climbs.{ancestor_at}
+use Rattle.kfs_shape.specs.Links.{link_of, AreLinks}
 use Rattle.kfs_shape.proofs.NameCounts.{all_hold, names_listed}
 
 -- all of a list that was written through a slice
@@ -58,13 +58,13 @@ found_mapped test f g (x ∷ xs) = at (test (f x)) (found_mapped test f g xs)
     at true rest = refl
     at false rest = rest
 
-abbrev pub holder_in : List CodeNameRow → (number : ℕ) → Option ℕ
-holder_in rows number = option_map (λ row. row.dir) (find (λ row. row.number == number) rows)
+abbrev pub holder_in : List Link → (number : ℕ) → Option ℕ
+holder_in links number = option_map (λ link. link.dir) (find (λ link. link.number == number) links)
 
-holder_next : (row : CodeNameRow) (rows : List CodeNameRow) (number : ℕ) → holder_in (row ∷ rows) number ≡ cond (row.number == number) (Some row.dir) (holder_in rows number)
-holder_next row rows number = at (row.number == number)
+holder_next : (link : Link) (links : List Link) (number : ℕ) → holder_in (link ∷ links) number ≡ cond (link.number == number) (Some link.dir) (holder_in links number)
+holder_next link links number = at (link.number == number)
   where
-    at : (here : Bool) → option_map (λ (row : CodeNameRow). row.dir) (cond here (Some row) (find (λ row. row.number == number) rows)) ≡ cond here (Some row.dir) (holder_in rows number)
+    at : (here : Bool) → option_map (λ (link : Link). link.dir) (cond here (Some link) (find (λ link. link.number == number) links)) ≡ cond here (Some link.dir) (holder_in links number)
     at true = refl
     at false = refl
 
@@ -76,68 +76,68 @@ or_again : {X : Type 0} (a b c : Option X) → option_or (option_or a b) c ≡ o
 or_again None b c = refl
 or_again (Some x) b c = refl
 
-row_taken : (taken here directory : Bool) (up : ℕ) (later : Option ℕ) → (here ≡ true → taken ≡ directory) → option_or (cond (taken && here) (Some up) None) (cond directory later None) ≡ cond directory (cond here (Some up) later) None
-row_taken taken false directory up later same = ap (λ b. option_or (cond b (Some up) None) (cond directory later None)) (and_right taken false refl)
-row_taken true true true up later same = refl
-row_taken false true false up later same = refl
-row_taken true true false up later same = let both = same refl in cc
-row_taken false true true up later same = let both = same refl in cc
+link_taken : (taken here directory : Bool) (up : ℕ) (later : Option ℕ) → (here ≡ true → taken ≡ directory) → option_or (cond (taken && here) (Some up) None) (cond directory later None) ≡ cond directory (cond here (Some up) later) None
+link_taken taken false directory up later same = ap (λ b. option_or (cond b (Some up) None) (cond directory later None)) (and_right taken false refl)
+link_taken true true true up later same = refl
+link_taken false true false up later same = refl
+link_taken true true false up later same = let both = same refl in cc
+link_taken false true true up later same = let both = same refl in cc
 
 module _ (raw : RawImage) where
-  -- where a number is still to lead by the rows from an index on
-  abbrev pub left_to : List CodeNameRow → (index number : ℕ) → Option ℕ
-  left_to rows index number = cond (is_directory (get (heads_of raw) number)) (holder_in (drop index rows) number) None
+  -- where a number is still to lead by the links from an index on
+  abbrev pub left_to : List Link → (index number : ℕ) → Option ℕ
+  left_to links index number = cond (is_directory (get (heads_of raw) number)) (holder_in (drop index links) number) None
 
   abbrev pub wanted : (number : ℕ) → Option ℕ
   wanted number = cond (number == 1) (Some 1) (parent_of raw number)
 
-  holder_is : (rows : List CodeNameRow) → raw.names ≡ map name_row_of rows → least_failed (rule_4 raw) ≡ None → (number : ℕ) → holder (names_of raw) number ≡ holder_in rows number
-  holder_is rows are ascend number =
+  holder_is : (links : List Link) → AreLinks links raw → least_failed (rule_4 raw) ≡ None → (number : ℕ) → holder (names_of raw) number ≡ holder_in links number
+  holder_is links linked ascend number =
       ap (λ es. option_map (λ e. e.0.0) (find (λ e. e.1 == number) es)) (names_listed raw ascend)
       ∙ found_mapped (λ e. e.1 == number) keyed_name (λ e. e.0.0) raw.names
-      ∙ ap (λ rows. option_map (λ row. row.directory) (find (λ row. row.number == number) rows)) are
-      ∙ found_mapped (λ row. row.number == number) name_row_of (λ row. row.directory) rows
+      ∙ sym (found_mapped (λ link. link.number == number) link_of (λ link. link.dir) raw.names)
+      ∙ ap (λ links. holder_in links number) (sym linked)
 
-  pub first_left : (rows : List CodeNameRow) → raw.names ≡ map name_row_of rows → least_failed (rule_4 raw) ≡ None → (number : ℕ) (empty first : Option ℕ) → empty ≡ None → first ≡ option_or empty (cond (1 == number) (Some 1) None)
-      → option_or first (left_to rows 0 number) ≡ wanted number
-  first_left rows are ascend number empty first nowhere is =
-      ap (λ o. option_or o (left_to rows 0 number)) (is ∙ ap (λ o. option_or o (cond (1 == number) (Some 1) None)) nowhere)
+  pub first_left : (links : List Link) → AreLinks links raw → least_failed (rule_4 raw) ≡ None → (number : ℕ) (empty first : Option ℕ) → empty ≡ None → first ≡ option_or empty (cond (1 == number) (Some 1) None)
+      → option_or first (left_to links 0 number) ≡ wanted number
+  first_left links linked ascend number empty first nowhere is =
+      ap (λ o. option_or o (left_to links 0 number)) (is ∙ ap (λ o. option_or o (cond (1 == number) (Some 1) None)) nowhere)
       ∙ at (number == 1) refl
     where
-      by_holder : (directory : Bool) → cond directory (holder_in rows number) None ≡ cond (directory && true) (holder (names_of raw) number) None
-      by_holder true = sym (holder_is rows are ascend number)
+      by_holder : (directory : Bool) → cond directory (holder_in links number) None ≡ cond (directory && true) (holder (names_of raw) number) None
+      by_holder true = sym (holder_is links linked ascend number)
       by_holder false = refl
 
-      at : (root : Bool) → (number == 1) ≡ root → option_or (cond (1 == number) (Some 1) None) (left_to rows 0 number) ≡ cond root (Some 1) (cond (is_directory (get (heads_of raw) number) && not root) (holder (names_of raw) number) None)
-      at true root = ap (λ b. option_or (cond b (Some 1) None) (left_to rows 0 number)) (eq-eqb 1 number (sym (eqb-true number 1 root)))
+      at : (root : Bool) → (number == 1) ≡ root → option_or (cond (1 == number) (Some 1) None) (left_to links 0 number) ≡ cond root (Some 1) (cond (is_directory (get (heads_of raw) number) && not root) (holder (names_of raw) number) None)
+      at true root = ap (λ b. option_or (cond b (Some 1) None) (left_to links 0 number)) (eq-eqb 1 number (sym (eqb-true number 1 root)))
       at false root =
-          ap (λ b. option_or (cond b (Some 1) None) (left_to rows 0 number)) (ne_eqb 1 number (λ same. let is = eq-eqb number 1 (sym same) in cc))
+          ap (λ b. option_or (cond b (Some 1) None) (left_to links 0 number)) (ne_eqb 1 number (λ same. let is = eq-eqb number 1 (sym same) in cc))
           ∙ by_holder (is_directory (get (heads_of raw) number))
 
-  pub next_left : (rows : List CodeNameRow) (index : ℕ) (row : CodeNameRow) → index < length rows → row ≡ get_or rows index row → (number : ℕ) (old new : Option ℕ) (taken : Bool)
-      → taken ≡ is_directory (get (heads_of raw) row.number) → new ≡ option_or old (cond (taken && (row.number == number)) (Some row.dir) None)
-      → option_or new (left_to rows (index + 1) number) ≡ option_or old (left_to rows index number)
-  next_left rows index row within is number old new taken as_head more =
+  pub next_left : (links : List Link) (index : ℕ) (link : Link) → index < length links → link ≡ get_or links index link → (number : ℕ) (old new : Option ℕ) (taken : Bool)
+      → taken ≡ is_directory (get (heads_of raw) link.number) → new ≡ option_or old (cond (taken && (link.number == number)) (Some link.dir) None)
+      → option_or new (left_to links (index + 1) number) ≡ option_or old (left_to links index number)
+  next_left links index link within is number old new taken as_head more =
       let directory = is_directory (get (heads_of raw) number) in
-      let rest : left_to rows index number ≡ cond directory (cond (row.number == number) (Some row.dir) (holder_in (drop (index + 1) rows) number)) None =
-      ap (λ xs. cond directory (holder_in xs number) None) (drop_more rows index row within)
-      ∙ ap (λ r. cond directory (holder_in (r ∷ drop (index + 1) rows) number) None) (sym is)
-      ∙ ap (λ o. cond directory o None) (holder_next row (drop (index + 1) rows) number)
+      let rest : left_to links index number ≡ cond directory (cond (link.number == number) (Some link.dir) (holder_in (drop (index + 1) links) number)) None =
+      ap (λ xs. cond directory (holder_in xs number) None) (drop_more links index link within)
+      ∙ ap (λ r. cond directory (holder_in (r ∷ drop (index + 1) links) number) None) (sym is)
+      ∙ ap (λ o. cond directory o None) (holder_next link (drop (index + 1) links) number)
       in
-      ap (λ o. option_or o (left_to rows (index + 1) number)) more
+      ap (λ o. option_or o (left_to links (index + 1) number)) more
       ∙ or_again old _ _
-      ∙ ap (option_or old) (row_taken taken (row.number == number) directory row.dir (holder_in (drop (index + 1) rows) number)
-      (λ here. as_head ∙ ap (λ n. is_directory (get (heads_of raw) n)) (eqb-true row.number number here)))
+      ∙ ap (option_or old) (link_taken taken (link.number == number) directory link.dir (holder_in (drop (index + 1) links) number)
+      (λ here. as_head ∙ ap (λ n. is_directory (get (heads_of raw) n)) (eqb-true link.number number here)))
       ∙ ap (option_or old) (sym rest)
 
-  pub none_left : (rows : List CodeNameRow) (index number : ℕ) → length rows ≤ index → (up : Option ℕ) → option_or up (left_to rows index number) ≡ wanted number → up ≡ wanted number
-  none_left rows index number past up is =
+  pub none_left : (links : List Link) (index number : ℕ) → length links ≤ index → (up : Option ℕ) → option_or up (left_to links index number) ≡ wanted number → up ≡ wanted number
+  none_left links index number past up is =
       sym (or_none up)
       ∙ ap (option_or up) (sym (at (is_directory (get (heads_of raw) number))))
       ∙ is
     where
-      at : (directory : Bool) → cond directory (holder_in (drop index rows) number) None ≡ None
-      at true = ap (λ xs. holder_in xs number) (drop_all index rows past)
+      at : (directory : Bool) → cond directory (holder_in (drop index links) number) None ≡ None
+      at true = ap (λ xs. holder_in xs number) (drop_all index links past)
       at false = refl
 
   -- ---- numbers that are no node's

@@ -1,6 +1,7 @@
 pub mod Least
 pub mod Heads
 pub mod Names
+pub mod Links
 pub mod Counts
 pub mod NameCounts
 pub mod Extents

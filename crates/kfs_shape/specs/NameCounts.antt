@@ -1,13 +1,13 @@
 -- How many names lead to each number, as a list by number.
 use Rattle.std.specs.Prelude.{◌≡◌, ℕ, ◌+◌, ◌<◌, ◌==◌, Bool, List, length, count_by, slice_get, Some, None, if◌then◌else◌}
 use Rattle.std.specs.List.{AllByRecursion}
-use Rattle.kfs_types.specs.declared.plan.NameRow.{NameRow}
 use Rattle.kfs_model.specs.Tree.{name_count}
 use Rattle.kfs_model.specs.Device.RawImage.{RawNode, RawImage, names_of}
 use Rattle.kfs_model.specs.Device.Rules.{Test, test, names_fit}
+use Rattle.kfs_shape.specs.declared.links.Link.{Link}
 
-abbrev pub leads_to : (number : ℕ) → NameRow → Bool
-leads_to number row = row.number == number
+abbrev pub leads_to : (number : ℕ) → Link → Bool
+leads_to number link = link.number == number
 
 -- how often the list has counted a number; 0 for a number past its end
 abbrev pub count_in : List ℕ → (number : ℕ) → ℕ
@@ -18,9 +18,9 @@ pub record CountsOne (old new : List ℕ) (number : ℕ) : Type 0 where
   pub len : length new ≡ length old
   pub each : (n : ℕ) → n < length old → count_in new n ≡ count_in old n + (if number == n then 1 else 0)
 
--- the list counts the rows by the numbers below `many` that they lead to
-abbrev pub CountsLeads : (many : ℕ) → List ℕ → List NameRow → Type 0
-CountsLeads many counts rows = (number : ℕ) → number < many → count_in counts number ≡ count_by (leads_to number) rows
+-- the list counts the links by the numbers below `many` that they lead to
+abbrev pub CountsLeads : (many : ℕ) → List ℕ → List Link → Type 0
+CountsLeads many counts links = (number : ℕ) → number < many → count_in counts number ≡ count_by (leads_to number) links
 
 -- the list counts the names of each node of the image
 abbrev pub CountsNames : List ℕ → RawImage → Type 0

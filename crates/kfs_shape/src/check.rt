@@ -10,6 +10,7 @@ use crate::climbs::least_unrooted;
 use crate::extents::{least_misplaced, least_past_tier};
 use crate::fault::{Finding, ShapeFault};
 use crate::heads::{headers, least_missing_root};
+use crate::links::links_of;
 use crate::names::{least_lost_target, least_miscounted};
 use crate::node_test::{AskRows, InTurn};
 use crate::places::least_shared;
@@ -58,10 +59,12 @@ fn check_names<A: Allocator + Copy, T: AskRows>(
     requires in_range { least_failed (rule_1 (raw_of raw.now)) ≡ None }
     ensures { FindsNoneWhere result (finding_from (raw_of raw.now) name_rules) }
 {
-    no_failure(4, names::least_out_of_order(raw, headers))?;
-    no_failure(5, least_lost_target(raw, headers))?;
-    no_failure(6, least_miscounted(alloc, raw, ask)?)?;
-    no_failure(7, least_unrooted(alloc, raw, headers, ask)?)
+    let made = links_of(alloc, raw)?;
+    let links = made.as_slice();
+    no_failure(4, names::least_out_of_order(raw, links, headers, ask))?;
+    no_failure(5, least_lost_target(raw, links, headers))?;
+    no_failure(6, least_miscounted(alloc, raw, links, ask)?)?;
+    no_failure(7, least_unrooted(alloc, raw, links, headers, ask)?)
 }
 
 /// Checks rules 8 to 10. The image isn't changed.
@@ -78,7 +81,7 @@ fn check_extents<A: Allocator + Copy>(
     no_failure(10, least_shared(alloc, raw)?)
 }
 
-/// `check_shape`, where the tests of single nodes are asked by `ask`.
+/// `check_shape`, where the tests of many rows are asked by `ask`.
 #[doc(hidden)]
 pub fn check_asking<A: Allocator + Copy, T: AskRows>(
     alloc: A,

@@ -5,14 +5,16 @@ ghost use Rattle.kfs_model.specs.Device.Rules.{rule_1, rule_4, rule_7, reaches_r
 ghost use Rattle.kfs_model.specs.Device.Finding.{least_failed};
 ghost use Rattle.kfs_shape.specs.Climbs.{ancestor_at, ancestor_from, is_root, not_elsewhere, top_test, EndAtRoot, LeadsFirst, ParentsOf};
 ghost use Rattle.kfs_shape.specs.Heads.{head_at, ShowsHeads};
+ghost use Rattle.kfs_shape.specs.Links.{AreLinks};
 ghost use Rattle.kfs_image.specs.Codec.RawImages.{raw_node_of, raw_of};
 
 use crate::counts::span;
 use crate::heads::has_directory;
+use crate::links::Link;
 use crate::node_test::{AskRows, NodeTest};
 use kfs_image::{RawImage, RawNode};
 use kfs_maps::Pages;
-use kfs_types::{Header, Kind, NameRow, ROOT};
+use kfs_types::{Header, Kind, ROOT};
 use std::alloc::{AllocError, Allocator};
 
 /// 2 to the power of this is more steps than any climb without a circle takes.
@@ -37,17 +39,13 @@ fn lead_first(ancestors: &mut [Option<u32>], number: u32, up: u32)
     }
 }
 
-/// Makes the number in a name row lead to the row's directory, if it is a directory's number and leads
-/// nowhere yet.
-fn lead_by_name<A: Allocator>(
-    ancestors: &mut [Option<u32>],
-    headers: &Pages<Header, A>,
-    row: &NameRow,
-)
-    ensures { LeadsFirst ancestors.old ancestors.new (is_directory (head_at headers.now row.now.number)) row.now.number row.now.dir }
+/// Makes the number that a name leads to lead to the name's directory, if it is a directory's number and
+/// leads nowhere yet.
+fn lead_by_name<A: Allocator>(ancestors: &mut [Option<u32>], headers: &Pages<Header, A>, link: Link)
+    ensures { LeadsFirst ancestors.old ancestors.new (is_directory (head_at headers.now link.number)) link.number link.dir }
 {
-    if has_directory(headers, row.number) {
-        lead_first(ancestors, row.number, row.dir);
+    if has_directory(headers, link.number) {
+        lead_first(ancestors, link.number, link.dir);
     }
 }
 
@@ -56,19 +54,20 @@ fn lead_by_name<A: Allocator>(
 fn parents<A: Allocator + Copy>(
     alloc: A,
     raw: &RawImage<A>,
+    links: &[Link],
     headers: &Pages<Header, A>,
 ) -> Result<Vec<Option<u32>, A>, AllocError>
     requires shown { ShowsHeads headers.now raw.now }
+    requires links { AreLinks links.now (raw_of raw.now) }
     requires in_range { least_failed (rule_1 (raw_of raw.now)) ≡ None }
     requires ascend { least_failed (rule_4 (raw_of raw.now)) ≡ None }
     ensures { IfOk result (λ ancestors. ParentsOf ancestors.items (raw_of raw.now)) }
 {
-    let rows = raw.names.as_slice();
     let many = span(raw.nodes.as_slice());
     let mut ancestors = vec![in alloc; None; many]?;
     lead_first(&mut ancestors, ROOT, ROOT);
-    for row in rows.iter() {
-        lead_by_name(&mut ancestors, headers, row);
+    for link in links.iter() {
+        lead_by_name(&mut ancestors, headers, *link);
     }
     Ok(ancestors)
 }
@@ -102,14 +101,16 @@ fn doubled<A: Allocator>(
 fn tops<A: Allocator + Copy>(
     alloc: A,
     raw: &RawImage<A>,
+    links: &[Link],
     headers: &Pages<Header, A>,
 ) -> Result<Vec<Option<u32>, A>, AllocError>
     requires shown { ShowsHeads headers.now raw.now }
+    requires links { AreLinks links.now (raw_of raw.now) }
     requires in_range { least_failed (rule_1 (raw_of raw.now)) ≡ None }
     requires ascend { least_failed (rule_4 (raw_of raw.now)) ≡ None }
     ensures { IfOk result (λ tops. (number : ℕ) → is_root (ancestor_at tops.items number) ≡ reaches_root (raw_of raw.now) number) }
 {
-    let mut ancestors = parents(alloc, raw, headers)?;
+    let mut ancestors = parents(alloc, raw, links, headers)?;
     for _ in 0..DOUBLINGS {
         if end_at_root(&ancestors) {
             return Ok(ancestors);
@@ -153,15 +154,17 @@ pub(crate) fn is_below_root(tops: &[Option<u32>], row: &RawNode) -> bool
 pub(crate) fn least_unrooted<A: Allocator + Copy, T: AskRows>(
     alloc: A,
     raw: &RawImage<A>,
+    links: &[Link],
     headers: &Pages<Header, A>,
     ask: &T,
 ) -> Result<Option<u32>, AllocError>
     requires can_ask { T.can_ask ask.now }
     requires shown { ShowsHeads headers.now raw.now }
+    requires links { AreLinks links.now (raw_of raw.now) }
     requires in_range { least_failed (rule_1 (raw_of raw.now)) ≡ None }
     requires ascend { least_failed (rule_4 (raw_of raw.now)) ≡ None }
     ensures { IfOk result (λ least. least ≡ least_failed (rule_7 (raw_of raw.now))) }
 {
-    let tops = tops(alloc, raw, headers)?;
+    let tops = tops(alloc, raw, links, headers)?;
     Ok(ask.least_failed(NodeTest::Climb(tops.as_slice()), raw.nodes.as_slice()))
 }

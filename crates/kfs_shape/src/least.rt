@@ -17,6 +17,19 @@ pub(crate) fn noted(least: Option<u32>, holds: bool, number: u32) -> Option<u32>
     }
 }
 
+/// The lesser of two numbers, each of which may be missing.
+pub fn lesser(one: Option<u32>, other: Option<u32>) -> Option<u32>
+    ensures { result ≡ merged one other }
+{
+    match one {
+        None => other,
+        Some(first) => match other {
+            None => one,
+            Some(second) => Some(first.min(second)),
+        },
+    }
+}
+
 /// The row before the one with this index, if there is one.
 pub(crate) fn previous<T>(rows: &[T], index: usize) -> Option<&T>
     ensures { option_copied result ≡ before rows.now index }

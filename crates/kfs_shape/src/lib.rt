@@ -12,6 +12,7 @@ mod extents;
 mod fault;
 mod heads;
 mod least;
+mod links;
 mod names;
 mod node_test;
 mod nodes;
@@ -25,5 +26,9 @@ pub use kfs_image::{
     BlockRow, BlockRun, Extent, ExtentRow, Fill, Net, Place, RawImage, RawNode, net_apply,
 };
 pub use kfs_types::{Header, Kind, Name, NameRow, TierSizes};
+#[doc(hidden)]
+pub use least::lesser;
+#[doc(hidden)]
+pub use names::least_unordered;
 #[doc(hidden)]
 pub use node_test::{AskRows, InTurn, NodeTest};

@@ -5,14 +5,16 @@ ghost use Rattle.kfs_model.specs.Tree.{name_order};
 ghost use Rattle.kfs_types.specs.Views.{kind_of, name_row_of};
 ghost use Rattle.kfs_model.specs.Device.Rules.{is_above, names_fit, rule_4, rule_5, rule_6};
 ghost use Rattle.kfs_model.specs.Device.Finding.{least_failed};
-ghost use Rattle.kfs_shape.specs.Names.{is_in_place};
+ghost use Rattle.kfs_shape.specs.Links.{aim_test, inside_test, AreLinks};
+ghost use Rattle.kfs_shape.specs.Names.{least_unordered};
 ghost use Rattle.kfs_image.specs.Codec.RawImages.{raw_node_of, raw_of};
 ghost use Rattle.kfs_shape.specs.NameCounts.{CountsLeads, CountsNames, CountsOne, count_in, counted_test};
 ghost use Rattle.kfs_shape.specs.Heads.{head_at, ShowsHeads};
 
 use crate::counts::span;
 use crate::heads::{has_directory, has_node};
-use crate::least::{noted, previous};
+use crate::least::{lesser, noted, previous};
+use crate::links::Link;
 use crate::node_test::{AskRows, NodeTest};
 use kfs_image::{RawImage, RawNode};
 use kfs_maps::Pages;
@@ -32,64 +34,83 @@ fn is_in_order(before: Option<&NameRow>, row: &NameRow) -> bool
     }
 }
 
-/// Whether the row is above the row before, and its directory is one.
-fn is_in_place<A: Allocator>(
-    headers: &Pages<Header, A>,
-    before: Option<&NameRow>,
-    row: &NameRow,
-) -> bool
-    ensures { result ≡ is_in_place (head_at headers.now row.now.dir) (option_map name_row_of (option_copied before.entry), name_row_of row.now) }
+/// The least directory number of a row that isn't above the row before. None if there is no such row. Takes
+/// no memory.
+pub fn least_unordered(rows: &[NameRow]) -> Option<u32>
+    ensures { result ≡ least_unordered (map name_row_of rows.now) }
 {
-    is_in_order(before, row) && has_directory(headers, row.dir)
+    let mut least = None;
+    for (index, row) in rows.iter().enumerate() {
+        least = noted(least, is_in_order(previous(rows, index), row), row.dir);
+    }
+    least
+}
+
+/// The least number that a name has as its directory's though it is none's. None if there is no such name.
+fn least_outside<A: Allocator>(links: &[Link], headers: &Pages<Header, A>) -> Option<u32>
+    ensures { result ≡ least_failed (map (inside_test (head_at headers.now)) links.now) }
+{
+    let mut least = None;
+    for link in links.iter() {
+        least = noted(least, has_directory(headers, link.dir), link.dir);
+    }
+    least
+}
+
+/// The least number that a name leads to though it is no node's, or is 1. None if there is no such name.
+fn least_lost<A: Allocator>(links: &[Link], headers: &Pages<Header, A>) -> Option<u32>
+    ensures { result ≡ least_failed (map (aim_test (head_at headers.now)) links.now) }
+{
+    let mut least = None;
+    for link in links.iter() {
+        let holds = has_node(headers, link.number) && link.number != ROOT;
+        least = noted(least, holds, link.number);
+    }
+    least
 }
 
 /// Rule 4: the least directory number of a name row that isn't above the row before, or whose directory
 /// isn't one. None if there is no such row. Takes no memory.
-pub(crate) fn least_out_of_order<A: Allocator>(
+pub(crate) fn least_out_of_order<A: Allocator, T: AskRows>(
     raw: &RawImage<A>,
+    links: &[Link],
     headers: &Pages<Header, A>,
+    ask: &T,
 ) -> Option<u32>
-    requires { ShowsHeads headers.now raw.now }
+    requires can_ask { T.can_ask ask.now }
+    requires shown { ShowsHeads headers.now raw.now }
+    requires links { AreLinks links.now (raw_of raw.now) }
     ensures { result ≡ least_failed (rule_4 (raw_of raw.now)) }
 {
-    let rows = raw.names.as_slice();
-    let mut least = None;
-    for (index, row) in rows.iter().enumerate() {
-        let holds = is_in_place(headers, previous(rows, index), row);
-        least = noted(least, holds, row.dir);
-    }
-    least
+    let unordered = ask.least_unordered(raw.names.as_slice());
+    lesser(unordered, least_outside(links, headers))
 }
 
 /// Rule 5: the least number that a name leads to though it is no node's, or is 1. None if there is no
 /// such name. Takes no memory.
 pub(crate) fn least_lost_target<A: Allocator>(
     raw: &RawImage<A>,
+    links: &[Link],
     headers: &Pages<Header, A>,
 ) -> Option<u32>
-    requires { ShowsHeads headers.now raw.now }
+    requires shown { ShowsHeads headers.now raw.now }
+    requires links { AreLinks links.now (raw_of raw.now) }
     ensures { result ≡ least_failed (rule_5 (raw_of raw.now)) }
 {
-    let rows = raw.names.as_slice();
-    let mut least = None;
-    for row in rows.iter() {
-        let holds = has_node(headers, row.number) && row.number != ROOT;
-        least = noted(least, holds, row.number);
-    }
-    least
+    least_lost(links, headers)
 }
 
 /// How many names lead to each number below `many`. `Err` where memory runs out.
 fn name_counts<A: Allocator + Copy>(
     alloc: A,
     many: usize,
-    rows: &[NameRow],
+    links: &[Link],
 ) -> Result<Vec<u64, A>, AllocError>
-    ensures { IfOk result (λ counts. CountsLeads many counts.items rows.now) }
+    ensures { IfOk result (λ counts. CountsLeads many counts.items links.now) }
 {
     let mut counts = vec![in alloc; 0u64; many]?;
-    for row in rows.iter() {
-        count_one(&mut counts, row.number);
+    for link in links.iter() {
+        count_one(&mut counts, link.number);
     }
     Ok(counts)
 }
@@ -141,22 +162,29 @@ pub(crate) fn has_right_names(counts: &[u64], row: &RawNode) -> bool
 pub(crate) fn least_miscounted<A: Allocator + Copy, T: AskRows>(
     alloc: A,
     raw: &RawImage<A>,
+    links: &[Link],
     ask: &T,
 ) -> Result<Option<u32>, AllocError>
     requires can_ask { T.can_ask ask.now }
+    requires links { AreLinks links.now (raw_of raw.now) }
     requires ascend { least_failed (rule_4 (raw_of raw.now)) ≡ None }
     ensures { IfOk result (λ least. least ≡ least_failed (rule_6 (raw_of raw.now))) }
 {
-    let counts = count_names(alloc, raw)?;
+    let counts = count_names(alloc, raw, links)?;
     Ok(ask.least_failed(NodeTest::Names(counts.as_slice()), raw.nodes.as_slice()))
 }
 
 /// How many names lead to each node, by its number, in an image whose name rows ascend. `Err` where memory
 /// is refused.
-fn count_names<A: Allocator + Copy>(alloc: A, raw: &RawImage<A>) -> Result<Vec<u64, A>, AllocError>
-    requires { least_failed (rule_4 (raw_of raw.now)) ≡ None }
+fn count_names<A: Allocator + Copy>(
+    alloc: A,
+    raw: &RawImage<A>,
+    links: &[Link],
+) -> Result<Vec<u64, A>, AllocError>
+    requires links { AreLinks links.now (raw_of raw.now) }
+    requires ascend { least_failed (rule_4 (raw_of raw.now)) ≡ None }
     ensures { IfOk result (λ counts. CountsNames counts.items (raw_of raw.now)) }
 {
     let many = span(raw.nodes.as_slice());
-    name_counts(alloc, many, raw.names.as_slice())
+    name_counts(alloc, many, links)
 }

@@ -1,14 +1,17 @@
-//! The tests of single node rows, and how one of them is asked of many rows.
+//! The tests of single node rows, and how one of them, or the order of name rows, is asked of many rows.
 ghost use Rattle.std.specs.Prelude.{◌≡◌, map};
 ghost use Rattle.kfs_model.specs.Device.Finding.{least_failed};
 ghost use Rattle.kfs_shape.specs.NodeTests.{test_of};
 ghost use Rattle.kfs_image.specs.Codec.RawImages.{raw_node_of};
+ghost use Rattle.kfs_types.specs.Views.{name_row_of};
+ghost use Rattle.kfs_shape.specs.Names.{least_unordered};
 
 use crate::climbs::is_below_root;
 use crate::least::noted;
-use crate::names::has_right_names;
+use crate::names::{has_right_names, least_unordered};
 use crate::nodes::is_header_in_range;
 use kfs_image::RawNode;
+use kfs_types::NameRow;
 
 /// A test of a node row by itself.
 #[derive(Clone, Copy)]
@@ -45,7 +48,7 @@ impl<'a> NodeTest<'a> {
     }
 }
 
-/// Who asks tests of node rows.
+/// Who asks tests of many rows.
 pub trait AskRows {
     /// What must hold before a call.
     ghost can_ask: { Self → Type 0 };
@@ -54,6 +57,11 @@ pub trait AskRows {
     fn least_failed(&self, test: NodeTest, rows: &[RawNode]) -> Option<u32>
         requires { can_ask self.now }
         ensures { result ≡ least_failed (map (test_of test.entry) (map raw_node_of rows.now)) };
+
+    /// The least directory number of a name row that isn't above the row before. None if there is no such row.
+    fn least_unordered(&self, rows: &[NameRow]) -> Option<u32>
+        requires { can_ask self.now }
+        ensures { result ≡ least_unordered (map name_row_of rows.now) };
 }
 
 /// Asks one row after another.
@@ -67,5 +75,9 @@ impl AskRows for InTurn {
 
     fn least_failed(&self, test: NodeTest, rows: &[RawNode]) -> Option<u32> {
         test.least_failed(rows)
+    }
+
+    fn least_unordered(&self, rows: &[NameRow]) -> Option<u32> {
+        least_unordered(rows)
     }
 }

@@ -5,8 +5,8 @@ use Rattle.kfs_image.specs.Codec.RawImages.{raw_of}
 use Rattle.kfs_shape.proofs.Parents.{left_to, wanted}
 use Rattle.kfs_shape.proofs.climbs.parents.Given as goal
 
-abbrev pub invariant-loop-row : goal.invariant-loop-row
-invariant-loop-row g l = record {
+abbrev pub invariant-loop-link : goal.invariant-loop-link
+invariant-loop-link g l = record {
   many : length l.ancestors.items ≡ l.many;
-  leads : (n : ℕ) → n < l.many → option_or (ancestor_at l.ancestors.items n) (left_to (raw_of l.raw) l.rows l.row-index n) ≡ wanted (raw_of l.raw) n;
+  leads : (n : ℕ) → n < l.many → option_or (ancestor_at l.ancestors.items n) (left_to (raw_of l.raw) l.links l.link-index n) ≡ wanted (raw_of l.raw) n;
 }

@@ -1,5 +1,3 @@
-use Rattle.std.proofs.Common.{map, sym, ap}
-use Rattle.kfs_types.specs.Views.{name_row_of}
 use Rattle.kfs_image.specs.Codec.RawImages.{raw_of}
 use Rattle.kfs_shape.proofs.NameCounts.{all_counted}
 use Rattle.kfs_shape.proofs.Parents.{all_below}
@@ -7,5 +5,5 @@ use Rattle.kfs_shape.proofs.names.count_names.Goals as goal
 
 pub returns : goal.returns
 returns g c =
-    all_counted (raw_of c.args.raw.now) c.span-many.result c.as_slice-2.result.now (ap (map name_row_of) (sym c.as_slice-2.ensures.value)) c.requires
+    all_counted (raw_of c.args.raw.now) c.span-many.result c.args.links.now c.requires.links c.requires.ascend
     (all_below c.args.raw.now c.span-many.result c.as_slice.result.now c.as_slice.ensures.value c.span-many.ensures.rows) c.name_counts.result c.name_counts.ensures

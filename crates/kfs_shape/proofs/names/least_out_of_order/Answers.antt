@@ -1,24 +1,19 @@
-use Rattle.std.proofs.Common.{◌+◌, ap, ◌∙◌}
-use Rattle.std.specs.Option.{option_map}
+use Rattle.std.proofs.Common.{map, ap, ◌∙◌}
 use Rattle.kfs_types.specs.Views.{name_row_of}
-use Rattle.kfs_model.specs.Device.RawImage.{heads_of}
-use Rattle.kfs_model.specs.Device.Rules.{directory_test}
+use Rattle.kfs_model.specs.Device.Finding.{least_failed}
 use Rattle.kfs_shape.specs.Heads.{head_at}
-use Rattle.kfs_shape.specs.Least.{before}
-use Rattle.kfs_shape.specs.Names.{is_in_place}
+use Rattle.kfs_shape.specs.Least.{merged}
+use Rattle.kfs_shape.specs.Links.{inside_test}
+use Rattle.kfs_shape.specs.Names.{least_unordered}
 use Rattle.kfs_image.specs.Codec.RawImages.{raw_of}
-use Rattle.kfs_shape.proofs.Tests.{ordered_at, taken_in, rest_ordered}
+use Rattle.kfs_shape.proofs.NameTests.{rule_4_in_two}
 use Rattle.kfs_shape.proofs.names.least_out_of_order.Goals as goal
 
-pub loop-index-preserved : goal.loop-index-preserved
-loop-index-preserved g c =
-    let rows = c.as_slice-rows.result.now in
-    let heads = heads_of (raw_of c.args.raw.now) in
-    let row = c.index-rows-index.result in
-    let holds =
-    c.is_in_place-holds.ensures
-    ∙ ap (λ o. is_in_place (head_at c.args.headers.now row.dir) (option_map name_row_of o, name_row_of row)) c.previous.ensures
-    ∙ ap (λ h. is_in_place h (option_map name_row_of (before rows c.loop-index.index), name_row_of row)) (c.requires row.dir)
-    in
-    taken_in _ _ c.loop-index.least c.noted-least.result _ (rest_ordered name_row_of (directory_test heads) rows (c.loop-index.index + 1)) _ c.noted-least.ensures holds
-    (ordered_at name_row_of (directory_test heads) rows c.loop-index.index row c.loop-index-test.true c.index-rows-index.is) c.loop-index.invariant
+pub returns : goal.returns
+returns g c =
+    let outside = least_failed (map (inside_test (head_at c.args.headers.now)) c.args.links.now) in
+    c.lesser.ensures
+    ∙ ap (λ least. merged least c.least_outside.result) c.least_unordered-unordered.ensures
+    ∙ ap (merged (least_unordered (map name_row_of c.as_slice.result.now))) c.least_outside.ensures
+    ∙ ap (λ rows. merged (least_unordered (map name_row_of rows)) outside) c.as_slice.ensures.value
+    ∙ rule_4_in_two (raw_of c.args.raw.now) c.args.links.now (head_at c.args.headers.now) c.requires.links c.requires.shown
