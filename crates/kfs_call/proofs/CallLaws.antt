@@ -111,10 +111,10 @@ run_again bytes rest =
 
 -- the laws of bytes behind a count, whatever the count's field is
 module _ (limit : ℕ) (spelling : ℕ → List ℕ) (read : List ℕ → Option (ℕ × List ℕ)) (count : IsField (λ n. n < limit) spelling read) where
-  abbrev counted_bytes : List ℕ → List ℕ
+  abbrev pub counted_bytes : List ℕ → List ℕ
   counted_bytes bytes = spelling (length bytes) ++ bytes
 
-  abbrev counted_read : List ℕ → Option (List ℕ × List ℕ)
+  abbrev pub counted_read : List ℕ → Option (List ℕ × List ℕ)
   counted_read bytes = read bytes >>= λ len. bytes_read len.0 len.1
 
   counted_takes : (bytes : List ℕ) (x : List ℕ × List ℕ) → IsBytes bytes → counted_read bytes ≡ Some x → Stands (λ b. length b < limit) counted_bytes bytes x.0 x.1
@@ -134,10 +134,10 @@ module _ (limit : ℕ) (spelling : ℕ → List ℕ) (read : List ℕ → Option
       ap (λ (l : List ℕ). read l >>= λ len. bytes_read len.0 len.1) (append_assoc (spelling (length value)) value rest)
       ∙ rw (count.again (length value) (value ++ rest) fits) (run_again value rest)
 
-  counted_field : IsField (λ b. length b < limit) counted_bytes counted_read
+  pub counted_field : IsField (λ b. length b < limit) counted_bytes counted_read
   counted_field = record { takes = counted_takes; again = counted_again }
 
-long_field : IsField IsLong long_bytes long_read
+pub long_field : IsField IsLong long_bytes long_read
 unfolding long_read
 long_field = counted_field (2 ^ 32) number32 number32_read number32_field
 
