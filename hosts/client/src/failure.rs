@@ -14,7 +14,7 @@ use thiserror::Error;
 #[derive(Debug, Error)]
 #[error("call {} at {path}: {fault}", calls.start())]
 pub struct Lost {
-    /// Which calls of the session it were, counted from 0: several where writes were put together.
+    /// Which calls of the session it were, counted from 1: several where writes were put together.
     pub calls: RangeInclusive<u64>,
     /// What they asked for.
     pub entry: Entry,

@@ -113,7 +113,7 @@ pub enum Refusal {
     Stopping = 129,
     /// No such user is listed. The connection ends.
     Unlisted = 130,
-    /// The user, or all users, have as many connections as they may. The connection ends.
+    /// The user has as many connections as it may. The connection ends.
     TooMany = 131,
     /// The lease would live for longer than any may. Nothing was done.
     TooFar = 132,
