@@ -5,7 +5,7 @@ use kfs_image::{Image, Place, TierSizes};
 use std::alloc::Global;
 
 /// Of how many blocks the memory is kept at most.
-const MOST: usize = 64;
+const MOST: usize = 4_096;
 
 fn new_image(alloc: Global) -> Option<Image<Global>> {
     Image::fresh(alloc, TierSizes::new(8, 8, 8)?).ok()
