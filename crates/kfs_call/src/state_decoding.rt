@@ -8,14 +8,14 @@ ghost use Rattle.kfs_call.specs.StateViews.{OnStateAnswer, RowsMissing, state_sh
 use crate::codec::state_header;
 use crate::state::{ClientRow, LeaseRow, StateRows};
 use crate::state_fault::StateFault;
-use kfs_entry::{RowsFault, SpelledRow, read_rows};
+use kfs_entry::{ReadRow, RowsFault, read_rows};
 use kfs_types::RowList;
 use std::alloc::Allocator;
 
 /// Reads the rows of one part.
-fn part<R: SpelledRow, A: Allocator>(
+fn part<'s, R: ReadRow<'s>, A: Allocator>(
     alloc: A,
-    source: &[u8],
+    source: &'s [u8],
     at: usize,
     count: u32,
     number: u8,

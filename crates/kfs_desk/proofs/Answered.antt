@@ -1,5 +1,5 @@
 -- What a verdict comes to at the desk is the machine's step, whatever the verdict and its answer.
-use Rattle.std.proofs.Common.{◌≡◌, Bool, ℕ, ◌≤◌, ◌<◌, [], ◌∷◌, ◌++◌, length, refl, sym, ap, subst, ◌∙◌, arith}
+use Rattle.std.proofs.Common.{◌≡◌, Bool, ℕ, ◌≤◌, ◌<◌, List, [], ◌∷◌, ◌++◌, length, refl, sym, ap, subst, ◌∙◌, arith}
 use Rattle.std.specs.Option.{option_map}
 use Rattle.kfs_model.specs.Lease.{Leases}
 use Rattle.kfs_model.specs.Judgement.{IsJudgement, No, NoRoom, Refused, State, Submission, Verdict, Yes, reply_to}
@@ -43,7 +43,7 @@ module _ (desk : Parts) (is_desk : IsDesk desk) (lawful : IsLawful desk.image) (
       (subst (λ image. IsAnswer s submission again position answer (at image desk.leases)) (sym same) is)
 
   module _ {A : Type 0} where
-    pub can_land : (outcome : Outcome A) → IsVerdict s submission outcome → CanLand desk.image submission.log outcome
+    pub can_land : (outcome : Outcome A (List ℕ)) → IsVerdict s submission outcome → CanLand desk.image submission.log outcome
     can_land (outcomes.No fault) is = tt
     can_land (outcomes.Yes log plan net told) is = by is.verdict is.told
       where
@@ -84,7 +84,7 @@ module _ (desk : Parts) (is_desk : IsDesk desk) (lawful : IsLawful desk.image) (
             position = refl;
           }
 
-      module _ (log : Log A) (plan : Plan A) (net : Net A) (told : ℕ) (is : IsVerdict s submission (outcomes.Yes log plan net told)) where
+      module _ (log : Log A (List ℕ)) (plan : Plan A (List ℕ)) (net : Net A) (told : ℕ) (is : IsVerdict s submission (outcomes.Yes log plan net told)) where
         without_room : free_in desk.image < told → IsAnswer s submission again position (replies.NoRoom position again told (free_in desk.image)) s
         without_room full = by is.verdict is.judgement is.told
           where
@@ -125,7 +125,7 @@ module _ (desk : Parts) (is_desk : IsDesk desk) (lawful : IsLawful desk.image) (
             }
             by (No refusal) judgement none = absurd none
 
-      answers : (outcome : Outcome A) (reply : Reply) (new : DeviceImage) → IsVerdict s submission outcome → AnswersOutcome desk.image submission.log position again outcome reply new
+      answers : (outcome : Outcome A (List ℕ)) (reply : Reply) (new : DeviceImage) → IsVerdict s submission outcome → AnswersOutcome desk.image submission.log position again outcome reply new
           → IsAnswer s submission again position reply (at new (leases_left desk.leases outcome reply))
       answers (outcomes.No fault) reply new is told =
           let (said, same) = told in
@@ -139,7 +139,7 @@ module _ (desk : Parts) (is_desk : IsDesk desk) (lawful : IsLawful desk.image) (
           subst (λ r. IsAnswer s submission again position r (at new (ended_by desk.leases net.nodes.items))) (sym said) (landed log plan net need is room new has)
 
       -- The answer is the machine's step, and says what it means.
-      pub answered : (outcome : Outcome A) (reply : Reply) (new : DeviceImage) (left : Leases) → IsVerdict s submission outcome → AnswersOutcome desk.image submission.log position again outcome reply new
+      pub answered : (outcome : Outcome A (List ℕ)) (reply : Reply) (new : DeviceImage) (left : Leases) → IsVerdict s submission outcome → AnswersOutcome desk.image submission.log position again outcome reply new
           → left ≡ leases_left desk.leases outcome reply → IsAnswer s submission again position reply (at new left)
       answered outcome reply new left is told ended =
           subst (λ leases. IsAnswer s submission again position reply (at new leases)) (sym ended) (answers outcome reply new is told)

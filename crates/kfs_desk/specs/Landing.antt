@@ -45,20 +45,20 @@ free_in image = length (unused_places image.sizes image.placement 0)
 
 module _ {A : Type 0} where
   -- the log decodes from these bytes, and the pieces are the plan's
-  pub record AreReadFrom (source : List ℕ) (log : Log A) (plan : Plan A) (bytes : LogBytes) : Type 0 where
+  pub record AreReadFrom (source : List ℕ) (log : Log A (List ℕ)) (plan : Plan A (List ℕ)) (bytes : LogBytes) : Type 0 where
     pub entries : entries_of bytes ≡ (log_of source log).entries
     pub pieces : pieces_of bytes ≡ (plan_of plan).pieces
 
   -- payloads lie in the bytes; the pieces are in order and can be cut into blocks; and where there is
   -- room, the net can be applied
-  pub record CanLandYes (image : DeviceImage) (source : List ℕ) (log : Log A) (plan : Plan A) (net : Net A) (need : ℕ) : Type 0 where
+  pub record CanLandYes (image : DeviceImage) (source : List ℕ) (log : Log A (List ℕ)) (plan : Plan A (List ℕ)) (net : Net A) (need : ℕ) : Type 0 where
     pub within : SpansAreWithin (length source) log
     pub ascend : PiecesAscend (plan_of plan).pieces
     pub whole : AllByRecursion PieceIsInRange plan.pieces
     pub filled : AllByRecursion IsFilled plan.pieces
     pub fits : need ≤ free_in image → (bytes : LogBytes) → AreReadFrom source log plan bytes → CanLandWith image bytes net
 
-  abbrev pub CanLand : DeviceImage → (source : List ℕ) → Outcome A → Type 0
+  abbrev pub CanLand : DeviceImage → (source : List ℕ) → Outcome A (List ℕ) → Type 0
   CanLand image source (outcomes.No fault) = Unit {0}
   CanLand image source (outcomes.Yes log plan net need) = CanLandYes image source log plan net need
 
@@ -75,14 +75,14 @@ module _ {A : Type 0} where
   IsLandedWith old bytes net new = HasLandedWith old bytes net new
 
   -- the net was applied, with a fill of its log
-  pub record HasLanded (old : DeviceImage) (source : List ℕ) (log : Log A) (plan : Plan A) (net : Net A) (new : DeviceImage) : Type 0 where
+  pub record HasLanded (old : DeviceImage) (source : List ℕ) (log : Log A (List ℕ)) (plan : Plan A (List ℕ)) (net : Net A) (new : DeviceImage) : Type 0 where
     pub bytes : LogBytes
     pub are : AreReadFrom source log plan bytes
     pub landed : HasLandedWith old bytes net new
 
   -- the answer to an outcome is right: a No passes on its fault; a Yes needs more places than there
   -- are, or its log was landed
-  abbrev pub AnswersOutcome : (old : DeviceImage) → (source : List ℕ) → (position : ℕ) → (again : Bool) → Outcome A → Reply → (new : DeviceImage) → Type 0
+  abbrev pub AnswersOutcome : (old : DeviceImage) → (source : List ℕ) → (position : ℕ) → (again : Bool) → Outcome A (List ℕ) → Reply → (new : DeviceImage) → Type 0
   AnswersOutcome old source position again (outcomes.No fault) reply new = (reply ≡ replies.No position again fault) × (new ≡ old)
   AnswersOutcome old source position again (outcomes.Yes log plan net need) (replies.No p rejudged fault) new = ⊥
   AnswersOutcome old source position again (outcomes.Yes log plan net need) (replies.NoRoom p rejudged n free) new =
@@ -96,6 +96,6 @@ module _ {A : Type 0} where
   left_by leases net (replies.No position rejudged fault) = leases
   left_by leases net (replies.NoRoom position rejudged need free) = leases
 
-  abbrev pub leases_left : Leases → Outcome A → Reply → Leases
+  abbrev pub leases_left : Leases → Outcome A (List ℕ) → Reply → Leases
   leases_left leases (outcomes.No fault) reply = leases
   leases_left leases (outcomes.Yes log plan net need) reply = left_by leases net reply

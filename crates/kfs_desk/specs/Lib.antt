@@ -2,6 +2,7 @@ pub mod Again
 pub mod Beginning
 pub mod Docket
 pub mod Grants
+pub mod Found
 pub mod Landing
 pub mod Machine
 pub mod Opening

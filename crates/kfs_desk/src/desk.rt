@@ -18,6 +18,7 @@ ghost use Rattle.kfs_image.specs.Image as images;
 ghost use Rattle.kfs_judge.specs.Check.View.{clients_of, contents_of, leases_of};
 ghost use Rattle.kfs_plan.specs.Judging.{IsVerdict, submission_of, submission_with};
 ghost use Rattle.kfs_desk.specs.Again.{latest};
+ghost use Rattle.kfs_desk.specs.Found.{found_in};
 ghost use Rattle.kfs_desk.specs.Landing.{AnswersOutcome, CanLand, leases_left};
 ghost use Rattle.kfs_desk.specs.Machine.{AreShown, IsAnswered, IsBackFor, IsCallOf, IsChangeOf, IsCurrent, IsImageOf, IsMigrated, IsViewOf, RunsThrough, SeeTheSame, call_of, done_by, number_of, opened_at, outcome_at, state_at};
 ghost use Rattle.kfs_desk.specs.Docket.{is_rejudged};
@@ -28,6 +29,7 @@ use crate::back::{BeginBack, ResumeBack};
 use crate::docket::{HandedIn, add_act, add_answer, add_moves};
 use crate::fill::LogBytes;
 use crate::first_fault::first_fault;
+use crate::found::Found;
 use crate::history::Docket;
 use crate::history::answers::{
     Act, ActFault, ActReply, BeginFault, Done, Reply, SubmissionsBack, Unanswered,
@@ -38,7 +40,8 @@ use kfs_judge::View;
 use kfs_lease::{LeaseFault, LeaseKind, Leases};
 use kfs_migrate::{Move, MoveFault, apply_moves, check_moves};
 use kfs_mode::Client;
-use kfs_plan::{Back, Judged, Outcome, Submission, Why, judge_bytes};
+use kfs_plan::{Back, Judged, Outcome, Submission, Why, judge_bytes, owned_outcome};
+use kfs_types::BorrowedName;
 use std::alloc::{AllocError, Allocator};
 use std::marker::Model;
 use std::sync::Arc;
@@ -320,7 +323,12 @@ impl<A: Allocator + Copy> Desk<A> {
     /// The same for a log and a plan that the caller keeps: their bytes are read where they lie. The
     /// blocks that a landing writes have copies of theirs. `Err` where the docket is full or memory is
     /// refused; nothing has changed then.
-    pub fn submit_bytes(&mut self, client: u32, log: &[u8], plan: &[u8]) -> Result<Reply, Why>
+    pub fn submit_bytes<'b>(
+        &mut self,
+        client: u32,
+        log: &'b [u8],
+        plan: &'b [u8],
+    ) -> Result<Reply, Why>
         ensures full { IsErrOf result Why.DocketFull ↔ (length self.old.docket ≡ self.old.limit) }
         ensures answered { IfOk result (λ reply. IsAnswered self.old (submission_with client log.now plan.now) false reply self.new) }
         ensures err { OnErr result (self.new ≡ self.old) }
@@ -341,7 +349,7 @@ impl<A: Allocator + Copy> Desk<A> {
             plan,
         )?;
         let handed_in = HandedIn { client, log, plan };
-        self.answer(&handed_in, false, &outcome)
+        self.answer(&handed_in, false, Found::Borrowed(&outcome))
     }
 
     /// The same for a submission that was judged before, against whatever view. The verdict serves where it is up to
@@ -362,7 +370,7 @@ impl<A: Allocator + Copy> Desk<A> {
         }
         let again = found_again(self.alloc, &self.image, &self.leases, &self.clients, judged)?;
         let submitted = HandedIn::of(judged.submission());
-        self.answer(&submitted, false, latest(judged, &again))
+        self.answer(&submitted, false, Found::Owned(latest(judged, &again)))
     }
 
     /// The allocator that the desk takes its memory from.
@@ -423,7 +431,8 @@ impl<A: Allocator + Copy> Desk<A> {
         let again = found_again(self.alloc, &self.image, &self.leases, &self.clients, judged)?;
         let rejudged = again.is_some();
         let handed_in = HandedIn::of(judged.submission());
-        let reply = self.answer(&handed_in, rejudged, latest(judged, &again))?;
+        let found = Found::Owned(latest(judged, &again));
+        let reply = self.answer(&handed_in, rejudged, found)?;
         Ok(Landed { reply, again })
     }
 
@@ -433,10 +442,10 @@ impl<A: Allocator + Copy> Desk<A> {
         &mut self,
         submitted: &HandedIn<'_>,
         rejudged: bool,
-        outcome: &Outcome<A>,
+        found: Found<'_, '_, A>,
     ) -> Result<Reply, Why>
         requires room { length self.old.docket < self.old.limit }
-        requires verdict { IsVerdict self.old.state (handed_in submitted.now) outcome.now }
+        requires verdict { IsVerdict self.old.state (handed_in submitted.now) (found_in found) }
         ensures answered { IfOk result (λ reply. IsAnswered self.old (handed_in submitted.now) rejudged reply self.new) }
         ensures memory { IfErr result (λ why. why ≡ Why.OutOfMemory) }
         ensures err { OnErr result (self.new ≡ self.old) }
@@ -453,7 +462,7 @@ impl<A: Allocator + Copy> Desk<A> {
             position,
             rejudged,
             submitted.log,
-            outcome,
+            found,
         )?;
         let after = ShownState::of(&self.image, &self.clients, &self.leases);
         add_answer(&mut self.docket, &before, submitted, &reply, &after);
@@ -521,15 +530,15 @@ fn shared_copy<A: Allocator + Copy>(
 
 /// What is found of a log and a plan in the state now. The view is dropped here, so that landing finds
 /// nothing shared.
-fn outcome<A: Allocator + Copy>(
+fn outcome<'b, A: Allocator + Copy>(
     alloc: A,
     image: &Image<A>,
     leases: &Arc<Leases<A>, A>,
     clients: &Arc<Vec<Client, A>, A>,
     client: u32,
-    log: &[u8],
-    plan: &[u8],
-) -> Result<Outcome<A>, Why>
+    log: &'b [u8],
+    plan: &'b [u8],
+) -> Result<Outcome<A, BorrowedName<'b>>, Why>
     requires distinct { ClientsAreDistinct clients.now.value.items }
     ensures verdict { IfOk result (λ outcome. IsVerdict (state_at image.now clients.now.value.items leases.now.value) (submission_with client log.now plan.now) outcome) }
     ensures memory { IfErr result (λ why. why ≡ Why.OutOfMemory) }
@@ -568,7 +577,8 @@ fn found_again<A: Allocator + Copy>(
         submission.log.as_slice(),
         submission.plan.as_slice(),
     )?;
-    Ok(Some(outcome))
+    let owned = owned_outcome(alloc, outcome)?;
+    Ok(Some(owned))
 }
 
 /// The outcome that was found again, or else that of the verdict.
@@ -691,29 +701,25 @@ fn land<A: Allocator + Copy>(
     position: u32,
     rejudged: bool,
     source: &[u8],
-    outcome: &Outcome<A>,
+    found: Found<'_, '_, A>,
 ) -> Result<Reply, Why>
-    requires { CanLand image.old source.now outcome.now }
-    ensures answer { IfOk result (λ reply. AnswersOutcome image.old source.now position rejudged outcome.now reply image.new) }
-    ensures leases { IfOk result (λ reply. leases.new.value ≡ leases_left leases.old.value outcome.now reply) }
+    requires { CanLand image.old source.now (found_in found) }
+    ensures answer { IfOk result (λ reply. AnswersOutcome image.old source.now position rejudged (found_in found.entry) reply image.new) }
+    ensures leases { IfOk result (λ reply. leases.new.value ≡ leases_left leases.old.value (found_in found.entry) reply) }
     ensures memory { IfErr result (λ why. why ≡ Why.OutOfMemory) }
     ensures err { OnErr result ((image.new ≡ image.old) × (leases.new.value ≡ leases.old.value)) }
 {
-    let (log, plan, net, need) = match outcome {
-        Outcome::Yes {
-            log,
-            plan,
-            net,
-            need,
-        } => (log, plan, net, *need),
-        Outcome::No(fault) => {
+    let parts = match found.parts() {
+        Ok(parts) => parts,
+        Err(fault) => {
             return Ok(Reply::No {
                 position,
                 rejudged,
-                fault: *fault,
+                fault,
             });
         }
     };
+    let need = parts.need;
     let free = image.free(0);
     if u64::from(free) < need {
         return Ok(Reply::NoRoom {
@@ -725,10 +731,10 @@ fn land<A: Allocator + Copy>(
     }
     let bytes = LogBytes {
         source,
-        entries: &log.entries,
-        pieces: &plan.pieces,
+        entries: parts.entries,
+        pieces: parts.pieces,
     };
-    change_state(alloc, image, leases, &bytes, net)?;
+    change_state(alloc, image, leases, &bytes, parts.net)?;
     Ok(Reply::Yes {
         position,
         rejudged,

@@ -4,5 +4,5 @@ mod bytes;
 mod fill;
 mod rows;
 
-pub use self::bytes::LogBytes;
+pub use self::bytes::{Entries, LogBytes};
 pub use self::fill::land_bytes;

@@ -10,6 +10,7 @@ mod desk;
 mod docket;
 mod fill;
 mod first_fault;
+mod found;
 #[doc(hidden)]
 pub mod history;
 #[doc(hidden)]

@@ -23,20 +23,20 @@ use std::sync::Arc;
 
 /// The change that a log makes of the image, with its bytes.
 #[derive(Drop)]
-struct ImageChange<'a, 'b, A: Allocator> {
+struct ImageChange<'a, 'b, 's, A: Allocator> {
     image: &'a mut Image<A>,
-    bytes: LogBytes<'b>,
+    bytes: &'b LogBytes<'b, 's>,
     net: &'b Net<A>,
 }
 
-impl<'a, 'b, A: Allocator + Copy> Change for ImageChange<'a, 'b, A> {
+impl<'a, 'b, 's, A: Allocator + Copy> Change for ImageChange<'a, 'b, 's, A> {
     ghost use Rattle.std.specs.Prelude.{◌≡◌, refl};
     ghost use Rattle.kfs_types.specs.Nested.{Becomes};
     ghost use Rattle.kfs_desk.specs.Landing.{CanLandBytes, IsLandedWith};
 
-    ghost can_make = { λ before. CanLandBytes before.image.now before.bytes before.net.now };
+    ghost can_make = { λ before. CanLandBytes before.image.now before.bytes.now before.net.now };
 
-    ghost made = { λ before after. IsLandedWith before.image.now before.bytes before.net.now after.image.now × (after.image.ghost_name ≡ before.image.ghost_name) };
+    ghost made = { λ before after. IsLandedWith before.image.now before.bytes.now before.net.now after.image.now × (after.image.ghost_name ≡ before.image.ghost_name) };
 
     ghost kept = { λ before after. Becomes before.image after.image before.image.now };
 
@@ -45,7 +45,7 @@ impl<'a, 'b, A: Allocator + Copy> Change for ImageChange<'a, 'b, A> {
     #[tactic(auto, unfolding(crate::specs::Landing::IsLandedWith))]
     fn make(&mut self) -> Result<(), AllocError> {
         let alloc = *self.net.nodes.allocator();
-        land_bytes(alloc, self.image, &self.bytes, self.net)
+        land_bytes(alloc, self.image, self.bytes, self.net)
     }
 }
 
@@ -56,7 +56,7 @@ pub(crate) fn change_state<A: Allocator + Copy>(
     alloc: A,
     image: &mut Image<A>,
     leases: &mut Arc<Leases<A>, A>,
-    bytes: &LogBytes<'_>,
+    bytes: &LogBytes<'_, '_>,
     net: &Net<A>,
 ) -> Result<(), AllocError>
     requires payloads { HasPayloads bytes.now }
@@ -76,7 +76,7 @@ pub(crate) fn change_state<A: Allocator + Copy>(
 fn change_both<A: Allocator + Copy>(
     image: &mut Image<A>,
     leases: &mut Arc<Leases<A>, A>,
-    bytes: &LogBytes<'_>,
+    bytes: &LogBytes<'_, '_>,
     net: &Net<A>,
     removed: &[u32],
 ) -> Result<(), AllocError>
@@ -85,11 +85,7 @@ fn change_both<A: Allocator + Copy>(
     ensures leases { OnOk result (leases.new.value ≡ without_nodes_in leases.old.value removed.now) }
     ensures err { OnErr result ((image.new ≡ image.old) × (leases.new.value ≡ leases.old.value)) }
 {
-    let mut change = ImageChange {
-        image,
-        bytes: *bytes,
-        net,
-    };
+    let mut change = ImageChange { image, bytes, net };
     end_leases(leases, removed, &mut change)?;
     Ok(())
 }

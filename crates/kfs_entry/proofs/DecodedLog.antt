@@ -20,24 +20,24 @@ use Rattle.kfs_entry.proofs.Spans.{is_spanned}
 use Rattle.kfs_entry.proofs.RowLaws.{both_hold, AllByRecursion-weaker, stand_from, stop_from}
 
 -- what is known of the entries that were read from a log of this version
-abbrev pub Fit : (version : ℕ) → List ℕ → CodeEntry Span → Type 0
+abbrev pub Fit : (version : ℕ) → List ℕ → CodeEntry Span (List ℕ) → Type 0
 Fit version source e = IsWithin (length source) e × IsEntry version (entry_of source e)
 
-abbrev pub spelled : List ℕ → CodeEntry Span → List ℕ
+abbrev pub spelled : List ℕ → CodeEntry Span (List ℕ) → List ℕ
 spelled source e = entry_bytes (entry_of source e)
 
 -- the log of a header and the entries behind it
-abbrev pub log_from : LogHeader → List ℕ → List (CodeEntry Span) → Log
+abbrev pub log_from : LogHeader → List ℕ → List (CodeEntry Span (List ℕ)) → Log
 log_from h source entries = record { version = h.version; client = h.client; entries = map (entry_of source) entries }
 
-pub log_is_spelled : (source : List ℕ) (h : LogHeader) (at end : ℕ) (entries : List (CodeEntry Span)) → IsLogHeader h → source ≡ log_header h ++ drop at source
+pub log_is_spelled : (source : List ℕ) (h : LogHeader) (at end : ℕ) (entries : List (CodeEntry Span (List ℕ))) → IsLogHeader h → source ≡ log_header h ++ drop at source
     → length entries ≡ h.count → AreRows (Fit h.version source) (spelled source) entries (drop at source) (drop end source)
     → IsLog (log_from h source entries) × (source ≡ log_bytes (log_from h source entries) ++ drop end source)
 log_is_spelled source h at end entries fits front number are =
     spelled_log source (drop at source) (drop end source) h fits front
     (stand_from (entry_of source) (Fit h.version source) (IsEntry h.version) entry_bytes (λ e f. f.1) entries h.count (drop at source) (drop end source) number are)
 
-module _ (version : ℕ) (source : List ℕ) (entries : List (CodeEntry Span)) (bytes rest : List ℕ) (are : AreRows (Fit version source) (spelled source) entries bytes rest) where
+module _ (version : ℕ) (source : List ℕ) (entries : List (CodeEntry Span (List ℕ))) (bytes rest : List ℕ) (are : AreRows (Fit version source) (spelled source) entries bytes rest) where
   pub spans_are_within : AllByRecursion (IsWithin (length source)) entries
   spans_are_within = AllByRecursion-weaker (Fit version source) (IsWithin (length source)) (λ e f. f.0) entries are.fit
 
@@ -61,7 +61,7 @@ entry_is_missing source h at faults.Trailing fits front stops = absurd stops
 entry_is_missing source h at (faults.BadRow part k) fits front stops = absurd stops
 
 -- entries in the range of some version, whose spans lie in the source, can be written
-pub entries_can_be_written : (version : ℕ) (source : List ℕ) (entries : List (CodeEntry Span)) → AllByRecursion (IsWithin (length source)) entries → AllByRecursion (IsEntry version) (map (entry_of source) entries)
+pub entries_can_be_written : (version : ℕ) (source : List ℕ) (entries : List (CodeEntry Span (List ℕ))) → AllByRecursion (IsWithin (length source)) entries → AllByRecursion (IsEntry version) (map (entry_of source) entries)
     → All (Fit latest_version source) entries
 entries_can_be_written version source entries within ranges =
     let fit : AllByRecursion (Fit version source) entries = both_hold (entry_of source) (IsWithin (length source)) (IsEntry version) entries within ranges in

@@ -20,10 +20,10 @@ abbrev pub part_stands : {R V : Type 0} (view : R → V) (F : V → Type 0) (s :
 part_stands view F s rows count bytes rest number are = stand_from view (λ r. F (view r)) F s (λ r f. f) rows count bytes rest number are
 
 -- the plan of a header and the rows behind it
-abbrev pub plan_from : PlanHeader → List NameRow → List NodeRow → List Piece → Plan
+abbrev pub plan_from : PlanHeader → List (NameRow (List ℕ)) → List NodeRow → List Piece → Plan
 plan_from h names nodes pieces = record { version = h.version; names = map name_row_of names; nodes = map node_row_of nodes; pieces = map piece_of pieces }
 
-pub plan_was_read : (source : List ℕ) (at b d end given_names given_nodes : ℕ) (h : PlanHeader) (names : List NameRow) (nodes : List NodeRow) (pieces : List Piece)
+pub plan_was_read : (source : List ℕ) (at b d end given_names given_nodes : ℕ) (h : PlanHeader) (names : List (NameRow (List ℕ))) (nodes : List NodeRow) (pieces : List Piece)
     → IsPlanHeader h → source ≡ plan_header h ++ drop at source
     → given_names ≡ h.names → AreRead (λ r. IsNameRow (name_row_of r)) (λ r. name_row_bytes (name_row_of r)) source at given_names names b
     → given_nodes ≡ h.nodes → AreRead (λ r. IsNodeRow (node_row_of r)) (λ r. node_row_bytes (node_row_of r)) source b given_nodes nodes d

@@ -12,7 +12,7 @@ use Rattle.kfs_types.specs.declared.entry.Span.{Span}
 span_length : (source : List ℕ) (p : Span) → p.start ≤ p.end → p.end ≤ length source → length (span_bytes source p) ≡ p.end - p.start
 span_length source p first last = length-take-le (p.end - p.start) (drop p.start source) (omega (arith, length-drop p.start source))
 
-pub is_spanned : (version : ℕ) (source : List ℕ) (entry : CodeEntry Span) → IsWithin (length source) entry → IsEntry version (entry_of source entry) → IsSpanned entry
+pub is_spanned : (version : ℕ) (source : List ℕ) (entry : CodeEntry Span (List ℕ)) → IsWithin (length source) entry → IsEntry version (entry_of source entry) → IsSpanned entry
 is_spanned version source (entries.Create d m n k mode) within fits = tt
 is_spanned version source (entries.Write n offset p) within fits =
     let first = within.0 in

@@ -11,18 +11,18 @@ use Rattle.kfs_model.specs.Spelling.{SpellingFault, BadHeader, BadEntry, Trailin
 use Rattle.kfs_types.specs.Views.{entry_of, name_row_of, node_row_of, piece_of, IsSpanned, IsWithin}
 
 -- the log, with the payloads' bytes in place of their spans
-abbrev pub log_of : {A : Type 0} → List ℕ → CodeLog A → Log
+abbrev pub log_of : {A : Type 0} → List ℕ → CodeLog A (List ℕ) → Log
 log_of source l = record { version = l.version; client = l.client; entries = map (entry_of source) l.entries }
 
 -- each payload's span lies in a source of this length
-abbrev pub SpansAreWithin : {A : Type 0} → ℕ → CodeLog A → Type 0
+abbrev pub SpansAreWithin : {A : Type 0} → ℕ → CodeLog A (List ℕ) → Type 0
 SpansAreWithin len l = AllByRecursion (IsWithin len) l.entries
 
 -- no payload's span ends before it starts or is longer than a payload may be
-abbrev pub AreSpanned : {A : Type 0} → CodeLog A → Type 0
+abbrev pub AreSpanned : {A : Type 0} → CodeLog A (List ℕ) → Type 0
 AreSpanned l = AllByRecursion IsSpanned l.entries
 
-abbrev pub plan_of : {A : Type 0} → CodePlan A → Plan
+abbrev pub plan_of : {A : Type 0} → CodePlan A (List ℕ) → Plan
 plan_of p = record { version = p.version; names = map name_row_of p.names; nodes = map node_row_of p.nodes; pieces = map piece_of p.pieces }
 
 -- P holds of the refusal, unless it is that memory ran out

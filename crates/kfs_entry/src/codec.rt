@@ -24,4 +24,4 @@ mod piece;
 mod row;
 mod table;
 
-pub use self::row::{RowsFault, SpelledRow, read_rows, rows_len, write_rows};
+pub use self::row::{ReadRow, RowsFault, SpelledRow, read_rows, rows_len, write_rows};

@@ -8,16 +8,19 @@ ghost use Rattle.kfs_entry.specs.Codec.RowList.{AreRead};
 ghost use Rattle.kfs_entry.specs.Missing.{EntryMissing, PartRowMissing};
 ghost use Rattle.kfs_entry.specs.Answers.{OnAnswer, log_of, plan_of, AreSpanned, SpansAreWithin};
 
-use crate::codec::{RowsFault, SpelledRow, headers, read_rows};
+use crate::codec::{ReadRow, RowsFault, headers, read_rows};
 use crate::fault::SpellFault;
-use kfs_types::{Entry, Log, NameRow, NodeRow, Piece, Plan, RowList, Span};
-use std::alloc::Allocator;
+use kfs_types::{
+    BorrowedEntry, BorrowedName, BorrowedRow, Entry, Log, NodeRow, Piece, Plan, RowList, Span,
+    borrowed_entries, borrowed_rows, owned_entries, owned_rows,
+};
+use std::alloc::{AllocError, Allocator};
 
 /// Reads the entries of a log of this version.
-fn entries<R: SpelledRow, A: Allocator>(
+fn entries<'s, R: ReadRow<'s>, A: Allocator>(
     alloc: A,
     version: u8,
-    source: &[u8],
+    source: &'s [u8],
     at: usize,
     count: u16,
 ) -> Result<(Vec<R, A>, usize), SpellFault>
@@ -33,10 +36,10 @@ fn entries<R: SpelledRow, A: Allocator>(
 }
 
 /// Reads the rows of one part of a plan of this version.
-fn part<R: SpelledRow, A: Allocator>(
+fn part<'s, R: ReadRow<'s>, A: Allocator>(
     alloc: A,
     version: u8,
-    source: &[u8],
+    source: &'s [u8],
     at: usize,
     count: u32,
     number: u8,
@@ -73,6 +76,36 @@ fn log_in<A: Allocator>(alloc: A, source: &[u8]) -> Result<Log<A>, SpellFault>
     })
 }
 
+/// `decode_borrowed_log`, without the clauses `only` and `count`.
+fn borrowed_log_in<A: Allocator>(
+    alloc: A,
+    source: &[u8],
+) -> Result<Log<A, BorrowedName<'_>>, SpellFault>
+    ensures found { OnAnswer (log_of source.now) (LogAnswer source.now) result }
+    ensures spans { IfOk result (SpansAreWithin (length source.now)) }
+    ensures spanned { IfOk result AreSpanned }
+{
+    let Some((header, at)) = headers::read_log(source) else {
+        return Err(SpellFault::BadHeader);
+    };
+    let version = header.version;
+    let (entries, end) = entries::<BorrowedEntry<'_>, A>(
+        alloc,
+        version,
+        source,
+        at,
+        header.entries,
+    )?;
+    if end < source.len() {
+        return Err(SpellFault::Trailing);
+    }
+    Ok(Log {
+        version,
+        client: header.client,
+        entries: RowList::from_vec(entries),
+    })
+}
+
 /// Reads a log of version 1 or 2 from bytes. All of `source` must be the log.
 ///
 /// The entries hold spans of `source`: no payload byte is copied or looked at. The list of entries
@@ -91,8 +124,59 @@ pub fn decode_log<A: Allocator>(alloc: A, source: &[u8]) -> Result<Log<A>, Spell
     log_in(alloc, source)
 }
 
-/// `decode_plan`, with the first of its clauses.
-fn plan_in<A: Allocator + Clone>(alloc: A, source: &[u8]) -> Result<Plan<A>, SpellFault>
+/// The same, with names where they lie in `source`: an entry is 56 bytes long then, and 528 with names
+/// of its own.
+pub fn decode_borrowed_log<A: Allocator>(
+    alloc: A,
+    source: &[u8],
+) -> Result<Log<A, BorrowedName<'_>>, SpellFault>
+    // Soundness: the answer is right for these bytes.
+    ensures found { OnAnswer (log_of source.now) (LogAnswer source.now) result }
+    // Completeness: the right answer is given, unless memory runs out.
+    ensures only { (answer : Result LogValue SpellingFault) → LogAnswer source.now answer → OnAnswer (log_of source.now) (λ given. given ≡ answer) result }
+    ensures spans { IfOk result (SpansAreWithin (length source.now)) }
+    // What calls over a log's entries ask for.
+    ensures spanned { IfOk result AreSpanned }
+    ensures count { IfOk result (λ log. length log.entries ≤ entry_limit) }
+{
+    borrowed_log_in(alloc, source)
+}
+
+/// The same log, with names of its own. `Err` where memory runs out.
+pub fn owned_log<A: Allocator>(
+    alloc: A,
+    log: &Log<A, BorrowedName<'_>>,
+) -> Result<Log<A>, AllocError>
+    ensures { IfOk result (λ owned. owned ≡ log.now) }
+{
+    let entries = owned_entries(alloc, log.entries.as_slice())?;
+    Ok(Log {
+        version: log.version,
+        client: log.client,
+        entries: RowList::from_vec(entries),
+    })
+}
+
+/// The same log, with names where they lie in this one. `Err` where memory runs out.
+pub fn borrowed_log<A: Allocator>(
+    alloc: A,
+    log: &Log<A>,
+) -> Result<Log<A, BorrowedName<'_>>, AllocError>
+    ensures { IfOk result (λ borrowed. borrowed ≡ log.now) }
+{
+    let entries = borrowed_entries(alloc, log.entries.as_slice())?;
+    Ok(Log {
+        version: log.version,
+        client: log.client,
+        entries: RowList::from_vec(entries),
+    })
+}
+
+/// `decode_borrowed_plan`, with the first of its clauses.
+fn plan_in<A: Allocator + Clone>(
+    alloc: A,
+    source: &[u8],
+) -> Result<Plan<A, BorrowedName<'_>>, SpellFault>
     ensures { OnAnswer plan_of (PlanAnswer source.now) result }
 {
     let Some((header, at)) = headers::read_plan(source) else {
@@ -101,7 +185,14 @@ fn plan_in<A: Allocator + Clone>(alloc: A, source: &[u8]) -> Result<Plan<A>, Spe
     let version = header.version;
     let first = alloc.clone()?;
     let second = alloc.clone()?;
-    let (names, at) = part::<NameRow, A>(first, version, source, at, u32::from(header.names), 0)?;
+    let (names, at) = part::<BorrowedRow<'_>, A>(
+        first,
+        version,
+        source,
+        at,
+        u32::from(header.names),
+        0,
+    )?;
     let (nodes, at) = part::<NodeRow, A>(second, version, source, at, u32::from(header.nodes), 1)?;
     let (pieces, end) = part::<Piece, A>(alloc, version, source, at, header.pieces, 2)?;
     if end < source.len() {
@@ -126,5 +217,60 @@ pub fn decode_plan<A: Allocator + Clone>(alloc: A, source: &[u8]) -> Result<Plan
     // Completeness: the right answer is given, unless memory runs out.
     ensures only { (answer : Result PlanValue SpellingFault) → PlanAnswer source.now answer → OnAnswer plan_of (λ given. given ≡ answer) result }
 {
+    let names_alloc = alloc.clone()?;
+    let plan = decode_borrowed_plan(alloc, source)?;
+    Ok(owned_plan(names_alloc, plan)?)
+}
+
+/// The same, with names where they lie in `source`.
+pub fn decode_borrowed_plan<A: Allocator + Clone>(
+    alloc: A,
+    source: &[u8],
+) -> Result<Plan<A, BorrowedName<'_>>, SpellFault>
+    // Soundness: the answer is right for these bytes.
+    ensures found { OnAnswer plan_of (PlanAnswer source.now) result }
+    // Completeness: the right answer is given, unless memory runs out.
+    ensures only { (answer : Result PlanValue SpellingFault) → PlanAnswer source.now answer → OnAnswer plan_of (λ given. given ≡ answer) result }
+{
     plan_in(alloc, source)
+}
+
+/// The same plan, with names of its own. `Err` where memory runs out.
+pub fn owned_plan<A: Allocator>(
+    alloc: A,
+    plan: Plan<A, BorrowedName<'_>>,
+) -> Result<Plan<A>, AllocError>
+    ensures { IfOk result (λ owned. owned ≡ plan.entry) }
+{
+    let Plan {
+        version,
+        names,
+        nodes,
+        pieces,
+    } = plan;
+    let names = owned_rows(alloc, names.as_slice())?;
+    Ok(Plan {
+        version,
+        names: RowList::from_vec(names),
+        nodes,
+        pieces,
+    })
+}
+
+/// The same plan, with names where they lie in this one. `Err` where memory runs out.
+pub fn borrowed_plan<A: Allocator + Clone>(
+    alloc: A,
+    plan: &Plan<A>,
+) -> Result<Plan<A, BorrowedName<'_>>, AllocError>
+    ensures { IfOk result (λ borrowed. borrowed ≡ plan.now) }
+{
+    let names = borrowed_rows(alloc.clone()?, plan.names.as_slice())?;
+    let nodes = Vec::from_slice(alloc.clone()?, plan.nodes.as_slice())?;
+    let pieces = Vec::from_slice(alloc, plan.pieces.as_slice())?;
+    Ok(Plan {
+        version: plan.version,
+        names: RowList::from_vec(names),
+        nodes: RowList::from_vec(nodes),
+        pieces: RowList::from_vec(pieces),
+    })
 }

@@ -70,13 +70,13 @@ module _ (tested : RawNode → Test) where
 
 -- ---- pairs of neighbours
 
-abbrev pub unordered_in : List CodeNameRow → Option ℕ
+abbrev pub unordered_in : List (CodeNameRow (List ℕ)) → Option ℕ
 unordered_in rows = least_unordered (map name_row_of rows)
 
-abbrev pairs_of : List CodeNameRow → List (List CodeNameRow)
+abbrev pairs_of : List (CodeNameRow (List ℕ)) → List (List (CodeNameRow (List ℕ)))
 pairs_of rows = windows_of 2 rows
 
-abbrev behind : NameRow → List CodeNameRow → Option ℕ
+abbrev behind : NameRow → List (CodeNameRow (List ℕ)) → Option ℕ
 behind row rows = least_failed (map order_test (with_previous (Some row) (map name_row_of rows)))
 
 -- the first pair, and then the others
@@ -84,7 +84,7 @@ pair_first : (holds : Bool) (number : ℕ) (rest : Option ℕ) → ◌≡◌ {A 
 pair_first true number rest = refl
 pair_first false number rest = refl
 
-fold_pairs : (start : Option ℕ) (rows : List CodeNameRow) → fold merged start (map unordered_in (pairs_of rows)) ≡ merged start (unordered_in rows)
+fold_pairs : (start : Option ℕ) (rows : List (CodeNameRow (List ℕ))) → fold merged start (map unordered_in (pairs_of rows)) ≡ merged start (unordered_in rows)
 fold_pairs start [] = sym (merged_none start)
 fold_pairs start (row ∷ []) = sym (merged_none start)
 fold_pairs start (row ∷ next ∷ rows) =
@@ -95,7 +95,7 @@ fold_pairs start (row ∷ next ∷ rows) =
     ∙ ap (merged start) (sym (pair_first holds next.dir (behind (name_row_of next) rows)))
 
 -- the least of the pairs' numbers
-pub of_pairs : (rows : List CodeNameRow) (pairs : List (Bor (List CodeNameRow))) → map (λ (pair : Bor (List CodeNameRow)). pair.now) pairs ≡ windows_of 2 rows
-    → (found : List (Option ℕ)) → AllZip (λ (pair : Bor (List CodeNameRow)) least. least ≡ unordered_in pair.now) pairs found
+pub of_pairs : (rows : List (CodeNameRow (List ℕ))) (pairs : List (Bor (List (CodeNameRow (List ℕ))))) → map (λ (pair : Bor (List (CodeNameRow (List ℕ)))). pair.now) pairs ≡ windows_of 2 rows
+    → (found : List (Option ℕ)) → AllZip (λ (pair : Bor (List (CodeNameRow (List ℕ)))) least. least ≡ unordered_in pair.now) pairs found
     → fold merged None found ≡ unordered_in rows
 of_pairs rows pairs are found each = ap (fold merged None) (slice-map pairs (windows_of 2 rows) are unordered_in found each) ∙ fold_pairs None rows

@@ -1,5 +1,5 @@
 -- An image once its nodes, names and blocks are changed together, by edits of the blocks that may be those of a fill.
-use Rattle.std.proofs.Common.{◌≡◌, List, Ok, Err, sym, ap, subst, ◌∙◌}
+use Rattle.std.proofs.Common.{◌≡◌, ℕ, List, Ok, Err, sym, ap, subst, ◌∙◌}
 use Rattle.std.specs.Prelude.{◌<◌, All, OnOk, OnErr, vec_len}
 use Rattle.std.specs.declared.result.Result.{Result}
 use Rattle.kfs_types.specs.declared.plan.NameRow.{NameRow}
@@ -65,7 +65,7 @@ module _ {A : Type 0} {net : Net A} {fill : Fill A} {nodes : List NodeRow} {zero
     }
 
     -- so are those of edits that do what the fill does
-    pub applied_is : (names_now : List NameRow) (nodes_now : List NodeRow) → names_now ≡ net.names.items → nodes_now ≡ net.nodes.items
+    pub applied_is : (names_now : List (NameRow (List ℕ))) (nodes_now : List NodeRow) → names_now ≡ net.names.items → nodes_now ≡ net.nodes.items
         → (edits : BlockEdits A) → changed edits.places.items edits.written.items blocks ≡ filled released rows blocks
         → (now : DeviceImage) → image ≡ now
         → changed_image names_now nodes_now edits now ≡ applied net fill now
@@ -74,7 +74,7 @@ module _ {A : Type 0} {net : Net A} {fill : Fill A} {nodes : List NodeRow} {zero
         ((λ i. image_with (record { heads = reheaded contents.heads (nodes_same i); names = renamed contents.names (names_are i) }) (does i)) ∙ together)
 
 -- Nodes and names with blocks, as a change finds them in an image, and as it leaves them.
-module _ {A : Type 0} (names : List NameRow) (nodes : List NodeRow) (edits : BlockEdits A) (places : List BlockEdit) (places_are : places ≡ edits.places.items)
+module _ {A : Type 0} (names : List (NameRow (List ℕ))) (nodes : List NodeRow) (edits : BlockEdits A) (places : List BlockEdit) (places_are : places ≡ edits.places.items)
     (now : DeviceImage) (contents : Contents) (blocks : BlocksShown) (contents_are : contents ≡ contents_of now) (blocks_are : blocks ≡ blocks_of now) where
   pub fits_before : IsLawful now → FitPages contents.heads contents.names
   fits_before lawful = subst (λ (it : Contents). FitPages it.heads it.names) (sym contents_are) (lawful_fits now lawful)

@@ -34,7 +34,7 @@ use Rattle.kfs_image.proofs.NetTables.{led_back}
 
 -- ---- one more row, or block
 
-pub one_name : (names : NameTable) (rows : List NameRow) (row : NameRow) → renamed names (rows ++ row ∷ []) ≡ changed (renamed names rows) (row.dir, row.name) (led_to row.number)
+pub one_name : (names : NameTable) (rows : List (NameRow (List ℕ))) (row : NameRow (List ℕ)) → renamed names (rows ++ row ∷ []) ≡ changed (renamed names rows) (row.dir, row.name) (led_to row.number)
 one_name names [] row = refl
 one_name names (r ∷ rows) row = one_name (changed names (r.dir, r.name) (led_to r.number)) rows row
 
@@ -146,14 +146,14 @@ module _ {A : Type 0} where
 -- ---- the parts of edits, put into an image
 
 -- these are the rows of edits, and the edits of the blocks
-pub record AreMade {A : Type 0} (edits : List (Edit A)) (parts : Parts A) (names : List NameRow) (nodes : List NodeRow) (places : List BlockEdit) : Type 0 where
+pub record AreMade {A : Type 0} (edits : List (Edit A)) (parts : Parts A) (names : List (NameRow (List ℕ))) (nodes : List NodeRow) (places : List BlockEdit) : Type 0 where
   pub of : PartsAreOf edits parts
   pub names_are : names ≡ parts.names.items
   pub nodes_are : nodes ≡ parts.nodes.items
   pub ascend : KeysAscend (pairs numbers numbers).compare places
   pub block_places : Say (pairs numbers numbers).compare places parts.block_places.latest
 
-module _ {A : Type 0} (edits : List (Edit A)) (parts : Parts A) (names : List NameRow) (nodes : List NodeRow) (places : List BlockEdit) (are : AreMade edits parts names nodes places)
+module _ {A : Type 0} (edits : List (Edit A)) (parts : Parts A) (names : List (NameRow (List ℕ))) (nodes : List NodeRow) (places : List BlockEdit) (are : AreMade edits parts names nodes places)
     (image : DeviceImage) (lawful : IsLawful image) (can : CanEdit edits image) where
   placed : table_after image.placement places ≡ overlaid image.placement parts.block_places.latest.entries
   placed = table_after_said image.placement places parts.block_places.latest are.block_places

@@ -70,13 +70,13 @@ module _ {K X Y Z : Type 0} {R : Order K} (keyed : Z → K × Y) (shown : Y → 
 
 -- ---- a net's names and headers
 
-abbrev keyed_name_row : NameRow → (ℕ × List ℕ) × ℕ
+abbrev keyed_name_row : NameRow (List ℕ) → (ℕ × List ℕ) × ℕ
 keyed_name_row row = keyed_name (name_row_of row)
 
 abbrev keyed_node_row : NodeRow → ℕ × Option Header
 keyed_node_row row = keyed_node (node_row_of row)
 
-renamed_is : (names : NameTable) (rows : List NameRow) → renamed names rows ≡ put_rows name_order keyed_name_row led_to names rows
+renamed_is : (names : NameTable) (rows : List (NameRow (List ℕ))) → renamed names rows ≡ put_rows name_order keyed_name_row led_to names rows
 unfolding put_rows
 renamed_is names [] = refl
 renamed_is names (row ∷ rows) = renamed_is (changed names (row.dir, row.name) (led_to row.number)) rows
@@ -99,7 +99,7 @@ led_back after sound key = by (get after.names key) refl
         ap (λ b. cond b None (Some n)) (ne_eqb n 0 other)
 
 -- the rows that differ, put into contents, make the contents of the tree after
-pub net_makes : (c : Contents) (after : Tree ℕ) (names : List NameRow) (nodes : List NodeRow) → IsSound after
+pub net_makes : (c : Contents) (after : Tree ℕ) (names : List (NameRow (List ℕ))) (nodes : List NodeRow) → IsSound after
     → AreDifferences name_order number_now (get c.names) (get after.names) (map keyed_name_row names)
     → AreDifferences numbers header_now (get c.heads) (get (headers after)) (map keyed_node_row nodes)
     → after_rows c names nodes ≡ contents_in after

@@ -33,7 +33,7 @@ abbrev pub blocks_of : DeviceImage → BlocksShown
 blocks_of image = record { sizes = image.sizes; placement = image.placement; devices = image.devices }
 
 -- the image after these rows of names and nodes, and these edits of its blocks
-abbrev pub changed_image : {A : Type 0} → List NameRow → List NodeRow → BlockEdits A → DeviceImage → DeviceImage
+abbrev pub changed_image : {A : Type 0} → List (NameRow (List ℕ)) → List NodeRow → BlockEdits A → DeviceImage → DeviceImage
 changed_image names nodes edits image = image_with (after_rows (contents_of image) names nodes) (changed edits.places.items edits.written.items (blocks_of image))
 
 -- a new image: the root directory alone, and no block written

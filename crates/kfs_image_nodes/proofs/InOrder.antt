@@ -67,7 +67,7 @@ edited_next names es i e within is =
     sym (table_after_next name_order names (take i es) e) ∙ ap (table_after names) (ap (λ x. take i es ++ x ∷ []) is ∙ sym (take_more es i e within))
 
 -- the rows' edits make of the names what the rows make
-pub edits_rename : (names : NameTable) (rows : List NameRow) → table_after names (map name_edit rows) ≡ renamed names rows
+pub edits_rename : (names : NameTable) (rows : List (NameRow (List ℕ))) → table_after names (map name_edit rows) ≡ renamed names rows
 unfolding table_after
 edits_rename names [] = refl
 edits_rename names (row ∷ rows) = edits_rename (changed names (row.dir, row.name) (led_to row.number)) rows

@@ -19,7 +19,7 @@ abbrev Entry : Type 0
 Entry = (ℕ × List ℕ) × ℕ
 
 -- as many parts of rows pass as entries of the rows, where a part passes exactly where the entry does
-counted_alike : {K : Type 0} (p : K → Bool) (part : NameRow → K) (passes : Entry → Bool) → ((row : NameRow) → p (part row) ≡ passes (name_entry row)) → (rows : List NameRow) → count_by p (map part rows) ≡ count_by passes (name_entries rows)
+counted_alike : {K : Type 0} (p : K → Bool) (part : NameRow (List ℕ) → K) (passes : Entry → Bool) → ((row : NameRow (List ℕ)) → p (part row) ≡ passes (name_entry row)) → (rows : List (NameRow (List ℕ))) → count_by p (map part rows) ≡ count_by passes (name_entries rows)
 counted_alike p part passes same [] = refl
 counted_alike p part passes same (row ∷ rows) =
     let left = sum_by-cons (λ k. cond (p k) 1 0) (part row) (map part rows) in
@@ -28,7 +28,7 @@ counted_alike p part passes same (row ∷ rows) =
     omega (arith, left, right, first, counted_alike p part passes same rows)
 
 -- how often the rows have each directory, and each uplink, are the counts of the table of their entries
-pub counted_rows : (rows : List NameRow) (tally : Table numbers ℕ) (ways : Table by_node ℕ) → T (is_sorted name_order.compare (name_entries rows)) → ((d : ℕ) → count_at tally d ≡ count_by (λ k. eq_by_cmp nat_cmp d k) (map dir_of rows))
+pub counted_rows : (rows : List (NameRow (List ℕ))) (tally : Table numbers ℕ) (ways : Table by_node ℕ) → T (is_sorted name_order.compare (name_entries rows)) → ((d : ℕ) → count_at tally d ≡ count_by (λ k. eq_by_cmp nat_cmp d k) (map dir_of rows))
     → ArePositive ways
     → ((q : ℕ × ℕ) → count_at ways q ≡ count_by (λ k. eq_by_cmp by_node.compare q k) (map uplink_of rows))
     → IsCounted (table name_order (name_entries rows)) tally ways
@@ -47,10 +47,10 @@ counted_rows rows tally ways sorted dirs positive uplinks =
     }
 
 -- what holds of each row's key holds of each key of the table
-pub keys_of_rows : (P : ℕ × List ℕ → Type 0) (rows : List NameRow) → AllByRecursion (λ row. P (row.dir, row.name)) rows → (key : ℕ × List ℕ) (number : ℕ) → get (table name_order (name_entries rows)) key ≡ Some number → P key
+pub keys_of_rows : (P : ℕ × List ℕ → Type 0) (rows : List (NameRow (List ℕ))) → AllByRecursion (λ row. P (row.dir, row.name)) rows → (key : ℕ × List ℕ) (number : ℕ) → get (table name_order (name_entries rows)) key ≡ Some number → P key
 keys_of_rows P rows all key number is = found rows all (sym (get-table name_order (name_entries rows) key) ∙ is)
   where
-    found : (rows : List NameRow) → AllByRecursion (λ row. P (row.dir, row.name)) rows → find name_order.compare key (name_entries rows) ≡ Some number → P key
+    found : (rows : List (NameRow (List ℕ))) → AllByRecursion (λ row. P (row.dir, row.name)) rows → find name_order.compare key (name_entries rows) ≡ Some number → P key
     found [] all is = cc
     found (row ∷ rows) all is = at (name_order.compare key (row.dir, row.name)) refl (found rows all.1) is
       where

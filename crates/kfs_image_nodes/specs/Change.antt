@@ -13,7 +13,7 @@ abbrev pub led_to : ℕ → Option ℕ
 led_to number = if number == 0 then None else Some number
 
 -- the names after the rows, one after the other
-abbrev pub renamed : NameTable → List NameRow → NameTable
+abbrev pub renamed : NameTable → List (NameRow (List ℕ)) → NameTable
 renamed names [] = names
 renamed names (row ∷ rows) = renamed (changed names (row.dir, row.name) (led_to row.number)) rows
 
@@ -22,5 +22,5 @@ abbrev pub reheaded : Table numbers Header → List NodeRow → Table numbers He
 reheaded heads [] = heads
 reheaded heads (row ∷ rows) = reheaded (changed heads row.number (option_map header_of row.now)) rows
 
-abbrev pub after_rows : Contents → List NameRow → List NodeRow → Contents
+abbrev pub after_rows : Contents → List (NameRow (List ℕ)) → List NodeRow → Contents
 after_rows c names nodes = record { heads = reheaded c.heads nodes; names = renamed c.names names }

@@ -17,11 +17,11 @@ use Rattle.kfs_image_nodes.specs.Indexes.{AreNames, IsCounted, AreInPages, ArePo
 use Rattle.kfs_maps.specs.Chunks.Overlays.{overlaid}
 
 -- the edit of the names that a row makes
-abbrev pub name_edit : NameRow → KeyEdit (ℕ × List ℕ) ℕ
+abbrev pub name_edit : NameRow (List ℕ) → KeyEdit (ℕ × List ℕ) ℕ
 name_edit row = record { key = (row.dir, row.name); value = led_to row.number }
 
 -- the edits are those of the rows, their keys ascend, and each is of a valid name
-pub record AreRowsInOrder (rows : List NameRow) (edits : List (KeyEdit (ℕ × List ℕ) ℕ)) : Type 0 where
+pub record AreRowsInOrder (rows : List (NameRow (List ℕ))) (edits : List (KeyEdit (ℕ × List ℕ) ℕ)) : Type 0 where
   pub made : edits ≡ map name_edit rows
   pub ascend : keyed.KeysAscend name_order.compare edits
   pub named : All (λ e. IsName e.key.1) edits
@@ -77,7 +77,7 @@ module _ {A : Type 0} where
     pub uplinks_moved : CountsMoved (table by_node uplinks) (uplink_step directory from) (uplink_step directory to) (table by_node (keyed.rewritten by_node uplinks edits.uplinks.items))
 
   -- the edits ascend, and make of the names what the rows make, and of the counts what is right then
-  pub record AreEditsOf (names : List ((ℕ × List ℕ) × ℕ)) (counts : Table numbers ℕ) (uplinks : List ((ℕ × ℕ) × ℕ)) (rows : List NameRow) (edits : NameEdits A) : Type 0 where
+  pub record AreEditsOf (names : List ((ℕ × List ℕ) × ℕ)) (counts : Table numbers ℕ) (uplinks : List ((ℕ × ℕ) × ℕ)) (rows : List (NameRow (List ℕ))) (edits : NameEdits A) : Type 0 where
     pub names_ascend : keyed.KeysAscend name_order.compare edits.names.items
     pub counts_ascend : numbered.AreEdits edits.counts.items
     pub uplinks_ascend : keyed.KeysAscend by_node.compare edits.uplinks.items

@@ -9,17 +9,17 @@ use Rattle.kfs_maps.specs.Chunks.Overlays.{overlaid}
 use Rattle.kfs_image_nodes.specs.Indexes.{count_at}
 
 -- the entry of a row: its name leads to its number
-abbrev pub name_entry : NameRow → (ℕ × List ℕ) × ℕ
+abbrev pub name_entry : NameRow (List ℕ) → (ℕ × List ℕ) × ℕ
 name_entry row = ((row.dir, row.name), row.number)
 
-abbrev pub name_entries : List NameRow → List ((ℕ × List ℕ) × ℕ)
+abbrev pub name_entries : List (NameRow (List ℕ)) → List ((ℕ × List ℕ) × ℕ)
 name_entries rows = map name_entry rows
 
 -- the directory of a row, and the uplink that its name is: its number, and its directory
-abbrev pub dir_of : NameRow → ℕ
+abbrev pub dir_of : NameRow (List ℕ) → ℕ
 dir_of row = row.dir
 
-abbrev pub uplink_of : NameRow → ℕ × ℕ
+abbrev pub uplink_of : NameRow (List ℕ) → ℕ × ℕ
 uplink_of row = (row.number, row.dir)
 
 -- the count that is set for a directory, over no counts

@@ -13,15 +13,15 @@ use Rattle.kfs_judge.specs.Step.FileSizes.{HasFilesOf}
 use Rattle.kfs_judge.specs.Walks.{EndsAt}
 
 -- the payloads' spans lie in the source
-abbrev pub AreWithin : List ℕ → List (CodeEntry Span) → Type 0
+abbrev pub AreWithin : List ℕ → List (CodeEntry Span (List ℕ)) → Type 0
 AreWithin source entries = AllByRecursion (IsWithin (length source)) entries
 
 -- the draft has the header of each file that the entries reach
-abbrev pub HasTheirFiles : {A : Type 0} → LogJudge A → List (CodeEntry Span) → Type 0
+abbrev pub HasTheirFiles : {A : Type 0} → LogJudge A → List (CodeEntry Span (List ℕ)) → Type 0
 HasTheirFiles judge entries = (source : List ℕ) → AreWithin source entries → HasFilesOf judge.draft (map (entry_of source) entries)
 
 -- entries, entered by a judge that has entered none before
-module _ {A : Type 0} (old new : LogJudge A) (entries : List (CodeEntry Span)) where
+module _ {A : Type 0} (old new : LogJudge A) (entries : List (CodeEntry Span (List ℕ))) where
   -- the run over the cells stops at this fault, or ends with what the draft shows
   abbrev pub RunStopsAt : Option EntryFault → Type 0
   RunStopsAt fault = Known new.recorder (λ before. (source : List ℕ) → AreWithin source entries → EndsAt old.client.now new.draft before (map (entry_of source) entries) fault)

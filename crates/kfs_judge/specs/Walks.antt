@@ -54,13 +54,13 @@ IsRowOf rows wanted client = row_of rows wanted ≡ Some client
 
 -- The outcome is right for the client's log: at every sound tree and all leases that agree with the
 -- reads, and whatever bytes the payloads are.
-abbrev pub IsWalkOf : {A : Type 0} → Client → CodeLog A → Walk A → Type 0
+abbrev pub IsWalkOf : {A : Type 0} → Client → CodeLog A (List ℕ) → Walk A → Type 0
 IsWalkOf client log walk =
     (source : List ℕ) → SpansAreWithin (length source) log → (tree : Tree ℕ) (held : ℕ → Bool) → Fits client tree (map (entry_of source) log.entries) → Agrees walk.reads.entries (client_sight tree held)
     → ComesToTree client held tree (map (entry_of source) log.entries) walk.outcome walk.sizes.items
 
 -- the same over cells: the outcome is right in every state that agrees with the reads
-abbrev pub IsCellWalkOf : {A : Type 0} → Client → CodeLog A → Walk A → Type 0
+abbrev pub IsCellWalkOf : {A : Type 0} → Client → CodeLog A (List ℕ) → Walk A → Type 0
 IsCellWalkOf client log walk = Always walk.reads.entries (λ before. (source : List ℕ) → SpansAreWithin (length source) log → WalkEndsIn client before (map (entry_of source) log.entries) walk.outcome walk.sizes.items)
 
 -- the walk's sizes ascend by number, and none is over the greatest; where there is a bad entry there
@@ -71,7 +71,7 @@ pub record HasOrderedSizes {A : Type 0} (walk : Walk A) : Type 0 where
   pub none : IsErr walk.outcome → walk.sizes.items ≡ []
 
 -- each read is at a cell that the log looks at in the view
-abbrev pub ReadsLookedCells : {A : Type 0} → View A → CodeLog A → Walk A → Type 0
+abbrev pub ReadsLookedCells : {A : Type 0} → View A → CodeLog A (List ℕ) → Walk A → Type 0
 ReadsLookedCells view log walk =
     (client : Client) → IsRowOf (clients_of view) log.client client → (source : List ℕ) → SpansAreWithin (length source) log
     → AreAmong walk.reads.entries (looked_cells client (client_sight_in view log.client) (map (entry_of source) log.entries))

@@ -14,7 +14,7 @@ ghost use Rattle.kfs_judge.specs.Walks.{HasOrderedSizes, IsRowOf, IsWalkOf, IsCe
 
 use crate::check::{Keeping, Reads, Reason, View};
 use crate::step::LogJudge;
-use kfs_entry::{Entry, Log, Span};
+use kfs_entry::{BorrowedEntry, BorrowedName, Log, borrowed_log};
 use kfs_image_nodes::Net;
 use kfs_pieces::FileSize;
 use std::alloc::{AllocError, Allocator};
@@ -83,6 +83,29 @@ pub fn judge_entries_keeping<A: Allocator + Copy>(
     ensures keeps { IfOk result (λ walk. walk.reads.keeps ≡ keeps_reads keeping) }
     ensures sizes { IfOk result HasOrderedSizes }
 {
+    let borrowed = borrowed_log(alloc, log)?;
+    let walk = judge_borrowed(alloc, view, &borrowed, keeping)?;
+    Ok(walk)
+}
+
+/// The same of a log whose names lie in its bytes.
+pub fn judge_borrowed<A: Allocator + Copy>(
+    alloc: A,
+    view: &View<A>,
+    log: &Log<A, BorrowedName<'_>>,
+    keeping: Keeping,
+) -> Result<Walk<A>, AllocError>
+    requires client { IsSome (row_of (clients_of view.now) log.now.client) }
+    requires count { length log.now.entries ≤ entry_limit }
+    // The outcome is right at every sound tree, with all leases, that agrees with the reads, whatever
+    // bytes the payloads are.
+    ensures known { IfOk result (λ walk. (client : ClientRow) × IsRowOf (clients_of view.now) log.now.client client × IsWalkOf client log.now walk) }
+    ensures view_agrees { IfOk result (λ walk. Agrees walk.reads.entries (client_sight_in view.now log.now.client)) }
+    ensures once { keeping ≡ Keeping.Reads → IfOk result (λ walk. AreOnce walk.reads.entries) }
+    ensures among { IfOk result (ReadsLookedCells view.now log.now) }
+    ensures keeps { IfOk result (λ walk. walk.reads.keeps ≡ keeps_reads keeping) }
+    ensures sizes { IfOk result HasOrderedSizes }
+{
     let walk = walk_entries(alloc, view, log, Reads::new(alloc, keeping))?;
     Ok(walk)
 }
@@ -91,7 +114,7 @@ pub fn judge_entries_keeping<A: Allocator + Copy>(
 fn walk_entries<A: Allocator + Copy>(
     alloc: A,
     view: &View<A>,
-    log: &Log<A>,
+    log: &Log<A, BorrowedName<'_>>,
     reads: Reads<A>,
 ) -> Result<Walk<A>, AllocError>
     requires client { IsSome (row_of (clients_of view.now) log.now.client) }
@@ -127,7 +150,7 @@ fn walk_entries<A: Allocator + Copy>(
 /// Enters the entries in order, up to the first bad one.
 fn enter_all<'e, A: Allocator + Copy>(
     judge: &mut LogJudge<'_, 'e, A>,
-    entries: &'e [Entry<Span>],
+    entries: &'e [BorrowedEntry<'e>],
 ) -> Result<Option<EntryFault>, AllocError>
     requires count { length entries.now ≤ entry_limit }
     requires shown { (s : Sight) → over judge.old.draft s ≡ s }

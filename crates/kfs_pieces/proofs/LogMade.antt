@@ -53,16 +53,16 @@ module _ (before ends : ℕ → ℕ) (n : ℕ) (more : before n < ends n) where
 
 module _ (source : List ℕ) (sizes : List FileSize) (ends : ℕ → ℕ) where
   -- the file of an entry that reaches it has the size that is listed
-  abbrev Reached : List (CodeEntry Span) → Type 0
+  abbrev Reached : List (CodeEntry Span (List ℕ)) → Type 0
   Reached es = (n : ℕ) → list_any (reaches_file n) (map (entry_of source) es) ≡ true → length_after sizes n ≡ ends n
 
-  later : (e : CodeEntry Span) (es : List (CodeEntry Span)) → Reached (e ∷ es) → Reached es
+  later : (e : CodeEntry Span (List ℕ)) (es : List (CodeEntry Span (List ℕ))) → Reached (e ∷ es) → Reached es
   later e es reached n is = reached n (or_right (reaches_file n (entry_of source e)) (list_any (reaches_file n) (map (entry_of source) es)) is)
 
-  first : (e : CodeEntry Span) (es : List (CodeEntry Span)) (n : ℕ) → Reached (e ∷ es) → reaches_file n (entry_of source e) ≡ true → length_after sizes n ≡ ends n
+  first : (e : CodeEntry Span (List ℕ)) (es : List (CodeEntry Span (List ℕ))) (n : ℕ) → Reached (e ∷ es) → reaches_file n (entry_of source e) ≡ true → length_after sizes n ≡ ends n
   first e es n reached is = reached n (or_left (reaches_file n (entry_of source e)) (list_any (reaches_file n) (map (entry_of source) es)) is)
 
-  pub reaches_are : (index : ℕ) (es : List (CodeEntry Span)) → AllByRecursion (IsWithin (length source)) es → Reached es → made (length_after sizes) index (map reach_in es) ≡ made ends index (map reach_of (map (entry_of source) es))
+  pub reaches_are : (index : ℕ) (es : List (CodeEntry Span (List ℕ))) → AllByRecursion (IsWithin (length source)) es → Reached es → made (length_after sizes) index (map reach_in es) ≡ made ends index (map reach_of (map (entry_of source) es))
   reaches_are index [] within reached = refl
   reaches_are index (entries.Write n offset p ∷ es) within reached =
       let end = first (entries.Write n offset p) es n reached (eq-eqb n n refl) in
@@ -80,7 +80,7 @@ module _ (source : List ℕ) (sizes : List FileSize) (ends : ℕ → ℕ) where
   reaches_are index (entries.Regroup n group ∷ es) within reached = reaches_are (index + 1) es within.1 (later (entries.Regroup n group) es reached)
 
 -- what the code lists is what the log made
-pub log_made : (source : List ℕ) (sizes : List FileSize) (es : List (CodeEntry Span)) (tree : Tree ℕ) (after : Tree Mark) (ranges : List ByteRange) → AllByRecursion (IsWithin (length source)) es
+pub log_made : (source : List ℕ) (sizes : List FileSize) (es : List (CodeEntry Span (List ℕ))) (tree : Tree ℕ) (after : Tree Mark) (ranges : List ByteRange) → AllByRecursion (IsWithin (length source)) es
     → AreSizes tree (map (entry_of source) es) after sizes → ranges ≡ growths sizes ++ made (length_after sizes) 0 (map reach_in es) → AreMade tree (map (entry_of source) es) after ranges
 log_made source sizes es tree after ranges within all is = record {
   numbers = grown_numbers sizes;

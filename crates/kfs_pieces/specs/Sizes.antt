@@ -44,7 +44,7 @@ growths [] = []
 growths (s ∷ ss) = if nat_lt s.before s.after then growth_of s ∷ growths ss else growths ss
 
 -- which bytes an entry of the code reaches
-abbrev pub reach_in : CodeEntry Span → Reach
+abbrev pub reach_in : CodeEntry Span (List ℕ) → Reach
 reach_in (entries.Write n offset p) = Overwrites n offset (p.end - p.start)
 reach_in (entries.Truncate n size) = Cuts n size
 reach_in (entries.Create d m n k mode) = ReachesNone
@@ -94,5 +94,5 @@ AreRightFor sizes entries pieces = (client : Client) (before : ClientSight) (tre
     → IfOk (run over_marks client before (marked tree) entries) (λ after. AreSizes tree entries after sizes → AreSwept sizes after pieces)
 
 -- the same, whatever bytes the payloads are
-abbrev pub AreRightFrom : List FileSize → List (CodeEntry Span) → List Piece → Type 0
+abbrev pub AreRightFrom : List FileSize → List (CodeEntry Span (List ℕ)) → List Piece → Type 0
 AreRightFrom sizes entries pieces = (source : List ℕ) → AllByRecursion (IsWithin (length source)) entries → AreRightFor sizes (map (entry_of source) entries) pieces

@@ -12,7 +12,7 @@ ghost use Rattle.kfs_pieces.specs.Sizes.{AreRightFrom, SizesAscend, IsSize, grow
 ghost use Rattle.kfs_pieces.specs.ByteRanges.{AreFrom};
 
 use crate::merge::{ByteRange, Origin, last_of_all};
-use kfs_types::{Entry, Piece, Source, Span};
+use kfs_types::{BorrowedEntry, Entry, Piece, Source};
 use std::alloc::{AllocError, Allocator};
 
 /// The range between a file's sizes before and after; empty where it didn't grow.
@@ -31,7 +31,7 @@ fn growth(size: &FileSize) -> ByteRange
 
 /// The range that the entry with this index changes in its file, cut off at the file's size after the
 /// log. None where the entry is neither a Write nor a Truncate.
-fn reach(sizes: &[FileSize], index: u16, entry: &Entry<Span>) -> Option<ByteRange>
+fn reach(sizes: &[FileSize], index: u16, entry: &BorrowedEntry<'_>) -> Option<ByteRange>
     requires ascending { SizesAscend 0 sizes.now }
     requires sizes { AllByRecursion IsSize sizes.now }
     requires span { IsSpanned entry.now }
@@ -70,7 +70,7 @@ fn reach(sizes: &[FileSize], index: u16, entry: &Entry<Span>) -> Option<ByteRang
 fn ranges_of<A: Allocator>(
     alloc: A,
     sizes: &[FileSize],
-    entries: &[Entry<Span>],
+    entries: &[BorrowedEntry<'_>],
 ) -> Result<Vec<ByteRange, A>, AllocError>
     requires ascending { SizesAscend 0 sizes.now }
     requires sizes { AllByRecursion IsSize sizes.now }
@@ -101,7 +101,7 @@ fn ranges_of<A: Allocator>(
 pub fn sweep<A: Allocator + Copy>(
     alloc: A,
     sizes: &[FileSize],
-    entries: &[Entry<Span>],
+    entries: &[BorrowedEntry<'_>],
 ) -> Result<Vec<Piece, A>, AllocError>
     requires ascending { SizesAscend 0 sizes.now }
     requires sizes { AllByRecursion IsSize sizes.now }

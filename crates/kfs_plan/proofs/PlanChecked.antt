@@ -1,5 +1,5 @@
 -- The first row of a plan that isn't the net's is the first wrong row, and what is told of a walk's end.
-use Rattle.std.specs.Prelude.{◌≡◌, ℕ, Bool, nat_eq, List, map, None, Result, Ok, IfOk}
+use Rattle.std.specs.Prelude.{◌≡◌, ℕ, Bool, nat_eq, List, map, None, Result, Ok, Err, IfOk}
 use Rattle.std.proofs.Common.{ap, sym, subst, ◌∙◌}
 use mathlib.Core.List.{map-map}
 use Rattle.kfs_model.specs.Access.{Client}
@@ -22,13 +22,14 @@ use Rattle.kfs_pieces.proofs.LogMade.{of_value}
 use Rattle.kfs_pieces.proofs.SizesBetween.{sizes_between}
 use Rattle.kfs_image_nodes.specs.declared.net.Net.{Net}
 use Rattle.kfs_plan.specs.declared.rows.RowFault.{RowFault as CodeRowFault}
+use Rattle.kfs_plan.specs.declared.rows.RowFault.TheVariants as refused
 use Rattle.kfs_plan.specs.PlanCheck.{first_unlike, TellsRow}
 use Rattle.kfs_judge.specs.Step.Rows.{keyed_name_row, keyed_node_row}
 use Rattle.kfs_judge.specs.Walks.{ComesToTree}
 use Rattle.kfs_judge.specs.Step.Nets.{IsNetOf}
 use Rattle.kfs_plan.proofs.MarkedRuns.{EndsBeside, ends_beside}
 
-module _ {A : Type 0} (client : Client) (before : ClientSight) (tree : Tree ℕ) (entries : List Entry) (after : Tree ℕ) (net : Net A) (plan : CodePlan A) (beside : EndsBeside client before tree entries after) (differs : IsNetOf (sight tree) (sight after) net) where
+module _ {A : Type 0} (client : Client) (before : ClientSight) (tree : Tree ℕ) (entries : List Entry) (after : Tree ℕ) (net : Net A) (plan : CodePlan A (List ℕ)) (beside : EndsBeside client before tree entries after) (differs : IsNetOf (sight tree) (sight after) net) where
   wrong_name : first_wrong_name tree.names beside.marked_after.names (plan_of plan).names ≡ first_difference (same_pair same_place nat_eq) (map keyed_name_row plan.names) (map keyed_name_row net.names.items)
   wrong_name =
       let shown = map-map keyed_name name_row_of plan.names in
@@ -62,12 +63,16 @@ module _ {A : Type 0} (client : Client) (held : ℕ → Bool) (tree : Tree ℕ) 
       let are = sizes_between tree comes.0 end.marked_after comes.2 end.heads entries sizes comes.5 in
       of_value (λ after. AreSizes tree entries after sizes → P after) (run over_marks client before (marked tree) entries) end.marked_after end.ran all are
 
-  pub told_at_end : (plan : CodePlan A) (result : Result ℕ CodeRowFault) → IfOk (run over_marks client before (marked tree) entries) (λ after. AreSizes tree entries after sizes → TellsRow (first_unlike net after plan) (need after) result)
+  pub told_at_end : (plan : CodePlan A (List ℕ)) (result : Result ℕ CodeRowFault) → IfOk (run over_marks client before (marked tree) entries) (λ after. AreSizes tree entries after sizes → TellsRow (first_unlike net after plan) (need after) result)
       → (after : Tree Mark) × (run over_marks client before (marked tree) entries ≡ Ok after) × TellsRow (first_wrong_row tree after (plan_of plan)) (need after) result
   told_at_end plan result all =
       let first = first_wrong-unlike client before tree entries comes.0 net plan end comes.4 in
       let told = at_end (λ after. TellsRow (first_unlike net after plan) (need after) result) all in
       (end.marked_after, end.ran, subst (λ row. TellsRow row (need end.marked_after) result) (sym first) told)
+
+  -- the same where memory is refused
+  pub refused_at_end : (plan : CodePlan A (List ℕ)) → (after : Tree Mark) × (run over_marks client before (marked tree) entries ≡ Ok after) × TellsRow (first_wrong_row tree after (plan_of plan)) (need after) (Err refused.OutOfMemory)
+  refused_at_end plan = (end.marked_after, end.ran, tt)
 
   pub pieces_at_end : (pieces : List Piece) → IfOk (run over_marks client before (marked tree) entries) (λ after. AreSizes tree entries after sizes → AreSwept sizes after pieces)
       → (after : Tree Mark) × (run over_marks client before (marked tree) entries ≡ Ok after) × ArePieces after pieces

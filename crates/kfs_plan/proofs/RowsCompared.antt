@@ -2,7 +2,6 @@
 use Rattle.std.specs.Prelude.{◌≡◌, ℕ, suc, ◌+◌, ◌==◌, ◌&&◌, not, min, is_some, nat_eq, Bool, true, false, cond, List, [], ◌∷◌, map, zip, position, length, Option, Some, None, refl}
 use Rattle.std.specs.List.{position_from}
 use Rattle.std.specs.Option.{option_map, option_eq}
-use Rattle.std.specs.Cmp.Lexicographic.{pointwise}
 use Rattle.std.proofs.Common.{ap, sym, ◌∙◌, arith, inl, inr}
 use Rattle.std.proofs.lemmas.Bool.{eq-eqb, ne_eqb, cases_eq}
 use Rattle.std.proofs.lemmas.Iterator.Adapters.{position_from-zero}
@@ -20,20 +19,14 @@ use Rattle.kfs_types.specs.declared.plan.NameRow.{NameRow as CodeNameRow}
 use Rattle.kfs_types.specs.declared.plan.NodeRow.{NodeRow as CodeNodeRow}
 use Rattle.kfs_types.specs.declared.plan.Piece.{Piece as CodePiece}
 use Rattle.kfs_types.specs.declared.plan.Plan.{Plan as CodePlan}
-use Rattle.kfs_types.specs.contracts.plan.NameRowPartialEq.TheImpl as names
 use Rattle.kfs_types.specs.contracts.plan.NodeRowPartialEq.TheImpl as nodes
 use Rattle.kfs_types.specs.contracts.entry.HeaderPartialEq.TheImpl as heads
 use Rattle.kfs_types.specs.contracts.entry.KindPartialEq.TheImpl as kind_tests
 use Rattle.kfs_image_nodes.specs.declared.net.Net.{Net}
-use Rattle.kfs_plan.specs.PlanCheck.{first_unlike}
+use Rattle.kfs_plan.specs.PlanCheck.{at_end, first_unlike}
 use Rattle.kfs_judge.specs.Step.Rows.{keyed_name_row, keyed_node_row}
 
 -- ---- the first difference, by a search for a pair that differs
-
--- no pair differs: the lists are equal, or the shorter one ends
-abbrev pub at_end : Option ℕ → (length other_length : ℕ) → Option ℕ
-at_end (Some k) n m = Some k
-at_end None n m = cond (n == m) None (Some (min n m))
 
 pub at_end-some : (found : Option ℕ) (n m : ℕ) → is_some found ≡ true → at_end found n m ≡ found
 at_end-some (Some k) n m is = refl
@@ -102,13 +95,6 @@ module _ {X Y : Type 0} (same : X → X → Bool) (test : Y → Y → Bool) (vie
       ap (λ (b : Bool). elim b as (λ _. Option ℕ) [ true ↦ option_map (λ i. i + 1) (first_difference same xs ys) | false ↦ Some 0 ]) (alike x y)
       ∙ ap (λ rest. elim (test (view x) (view y)) as (λ _. Option ℕ) [ true ↦ option_map (λ i. i + 1) rest | false ↦ Some 0 ]) (first_difference-map xs ys)
 
-three : (a b c : Bool) → (a && (b && c)) ≡ (a && b && c)
-three true b c = refl
-three false b c = refl
-
-pub name_rows-alike : (r q : CodeNameRow) → names.eq-value.it r q ≡ same_pair same_place nat_eq (keyed_name_row r) (keyed_name_row q)
-name_rows-alike r q = three (r.dir == q.dir) (pointwise nat_eq r.name q.name) (r.number == q.number)
-
 six : (a b c d e f : Bool) → (a && (b && (c && (d && (e && f))))) ≡ (a && b && c && d && e && f)
 six true true true true true f = refl
 six true true true true false f = refl
@@ -139,17 +125,17 @@ node_rows-alike r q = ap (λ b. nat_eq r.number q.number && b) (options-alike r.
 
 -- ---- what the code's searches find, and the first row that isn't the net's
 
-module _ {A : Type 0} (net : Net A) (plan : CodePlan A) where
+module _ {A : Type 0} (net : Net A) (plan : CodePlan A (List ℕ)) where
   abbrev in_names : Option ℕ
   in_names = first_difference (same_pair same_place nat_eq) (map keyed_name_row plan.names) (map keyed_name_row net.names.items)
 
   abbrev in_nodes : Option ℕ
   in_nodes = first_difference (same_pair nat_eq same_headers) (map keyed_node_row plan.nodes) (map keyed_node_row net.nodes.items)
 
-  pub name_found : (rows right : List CodeNameRow) (found shown : Option ℕ) → rows ≡ plan.names → right ≡ net.names.items → found ≡ first_difference names.eq-value.it rows right → found ≡ shown → in_names ≡ shown
+  pub name_found : (rows right : List (CodeNameRow (List ℕ))) (found shown : Option ℕ) → rows ≡ plan.names → right ≡ net.names.items
+      → found ≡ first_difference (same_pair same_place nat_eq) (map keyed_name_row rows) (map keyed_name_row right) → found ≡ shown → in_names ≡ shown
   name_found rows right found shown rows_are right_are is here =
-      sym (first_difference-map names.eq-value.it (same_pair same_place nat_eq) keyed_name_row name_rows-alike plan.names net.names.items)
-      ∙ (λ i. first_difference names.eq-value.it (sym rows_are i) (sym right_are i)) ∙ sym is ∙ here
+      (λ i. first_difference (same_pair same_place nat_eq) (map keyed_name_row (sym rows_are i)) (map keyed_name_row (sym right_are i))) ∙ sym is ∙ here
 
   pub node_found : (rows right : List CodeNodeRow) (found shown : Option ℕ) → rows ≡ plan.nodes → right ≡ net.nodes.items → found ≡ first_difference nodes.eq-value.it rows right → found ≡ shown → in_nodes ≡ shown
   node_found rows right found shown rows_are right_are is here =

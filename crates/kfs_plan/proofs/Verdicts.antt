@@ -118,7 +118,7 @@ module _ (A : Type 0) (s : State) (submission : Submission) where
         by (spelling.BadRow part k) memory is = at (spelling.BadRow part k) (BadRow part k) is refl
         by spelling.OutOfMemory memory is = absurd (memory refl)
 
-    module _ (log : CodeLog A) (log_read : LogAnswer submission.log (Ok (log_of submission.log log))) where
+    module _ (log : CodeLog A (List ℕ)) (log_read : LogAnswer submission.log (Ok (log_of submission.log log))) where
       pub wrong_client : IsBytes submission.plan → log.client ≢ submission.client → IsVerdict {A = A} s submission (outcomes.No faults.WrongClient)
       wrong_client plan_bytes other =
           let plan = plan_has_answer submission.plan plan_bytes in
@@ -142,7 +142,7 @@ module _ (A : Type 0) (s : State) (submission : Submission) where
     sights : client_sight_of s submission.client ≡ client_sight_of s client.number
     sights = same_sight s submission.client client row
 
-    module _ (log : CodeLog A) (plan : CodePlan A) (spelled : AreSpelled submission log plan) where
+    module _ (log : CodeLog A (List ℕ)) (plan : CodePlan A (List ℕ)) (spelled : AreSpelled submission log plan) where
       abbrev the_log : Log
       the_log = log_of submission.log log
 
@@ -205,7 +205,7 @@ module _ (A : Type 0) (s : State) (submission : Submission) where
               };
             }
 
-      pub settled : (sizes : List FileSize) (walked : Result (Net A) CodeEntryFault) (outcome : Outcome A) → ComesToTree client (holds s.leases submission.client) s.tree the_log.entries walked sizes → OutcomeIsSettled log plan sizes walked outcome → IsVerdict s submission outcome
+      pub settled : (sizes : List FileSize) (walked : Result (Net A) CodeEntryFault) (outcome : Outcome A (List ℕ)) → ComesToTree client (holds s.leases submission.client) s.tree the_log.entries walked sizes → OutcomeIsSettled log plan sizes walked outcome → IsVerdict s submission outcome
       settled sizes (Err fault) (outcomes.No refusal) comes is = subst (λ (f : CodeFault). IsVerdict {A = A} s submission (outcomes.No f)) (sym is) (bad_entry sizes fault comes)
       settled sizes (Err fault) (outcomes.Yes l p n told) comes is = absurd is
       settled sizes (Ok net) (outcomes.No (faults.Row fault)) comes is = bad_row sizes net comes fault is.0 (told_of sizes net comes (Err fault) is.1)
@@ -216,10 +216,10 @@ module _ (A : Type 0) (s : State) (submission : Submission) where
       settled sizes (Ok net) (outcomes.No (faults.Entry fault)) comes is = absurd is
       settled sizes (Ok net) (outcomes.Yes l p n told) comes is =
           let same : outcomes.Yes log plan net told ≡ outcomes.Yes l p n told = λ i. outcomes.Yes (sym is.0 i) (sym is.1 i) (sym is.2 i) told in
-          subst (λ (o : Outcome A). IsVerdict s submission o) same (right sizes net comes told (told_of sizes net comes (Ok told) is.3))
+          subst (λ (o : Outcome A (List ℕ)). IsVerdict s submission o) same (right sizes net comes told (told_of sizes net comes (Ok told) is.3))
 
 -- a finding on a log that was walked
-pub walked_verdict : (A : Type 0) (s : State) (submission : Submission) (client : Client) (found : Option Client) (log : CodeLog A) (plan : CodePlan A) (walk : Walk A) (reads : List (Read × ReadAnswer)) (outcome : Outcome A)
+pub walked_verdict : (A : Type 0) (s : State) (submission : Submission) (client : Client) (found : Option Client) (log : CodeLog A (List ℕ)) (plan : CodePlan A (List ℕ)) (walk : Walk A) (reads : List (Read × ReadAnswer)) (outcome : Outcome A (List ℕ))
     → AreSpelled submission log plan → IsClient client → found ≡ Some client → reads ≡ walk.reads.entries → IsWalkOf client log walk → OutcomeIsSettled log plan walk.sizes.items walk.outcome outcome
     → AgreesWithReads s submission.client found reads → IsVerdict s submission outcome
 walked_verdict A s submission client found log plan walk reads outcome spelled in_range is same_reads walks is_settled alike =
@@ -234,19 +234,19 @@ nothing_read view number reads none = subst (λ es. Agrees es (client_sight_in v
 -- ---- what was read
 
 module _ {A : Type 0} (view : View A) (submission : Submission) where
-  pub unread_looked : (fault : CodeFault) (outcome : Outcome A) (reads : List (Read × ReadAnswer)) → is_before_entries fault ≡ true → outcome ≡ outcomes.No fault → reads ≡ [] → AreLooked view submission outcome reads
+  pub unread_looked : (fault : CodeFault) (outcome : Outcome A (List ℕ)) (reads : List (Read × ReadAnswer)) → is_before_entries fault ≡ true → outcome ≡ outcomes.No fault → reads ≡ [] → AreLooked view submission outcome reads
   unread_looked fault outcome reads early is none = record {
     unread = λ stops. none;
     looked = λ goes. let stops : stops_before outcome ≡ true = ap stops_before is ∙ early in let never : true ≡ false = sym stops ∙ goes in absurd cc;
   }
 
-  of_log : (outcome : Outcome A) (reads : List (Read × ReadAnswer)) → stops_before outcome ≡ false → AreOfLog view submission reads → AreLooked view submission outcome reads
+  of_log : (outcome : Outcome A (List ℕ)) (reads : List (Read × ReadAnswer)) → stops_before outcome ≡ false → AreOfLog view submission reads → AreLooked view submission outcome reads
   of_log outcome reads goes of = record {
     unread = λ stops. let never : true ≡ false = sym stops ∙ goes in absurd cc;
     looked = λ _. of;
   }
 
-  pub settled_looked : (log : CodeLog A) (plan : CodePlan A) (sizes : List FileSize) (walked : Result (Net A) CodeEntryFault) (outcome : Outcome A) (reads : List (Read × ReadAnswer)) → OutcomeIsSettled log plan sizes walked outcome → AreOfLog view submission reads → AreLooked view submission outcome reads
+  pub settled_looked : (log : CodeLog A (List ℕ)) (plan : CodePlan A (List ℕ)) (sizes : List FileSize) (walked : Result (Net A) CodeEntryFault) (outcome : Outcome A (List ℕ)) (reads : List (Read × ReadAnswer)) → OutcomeIsSettled log plan sizes walked outcome → AreOfLog view submission reads → AreLooked view submission outcome reads
   settled_looked log plan sizes (Err fault) (outcomes.No refusal) reads is of = of_log (outcomes.No refusal) reads (ap is_before_entries is) of
   settled_looked log plan sizes (Err fault) (outcomes.Yes l p n told) reads is of = absurd is
   settled_looked log plan sizes (Ok net) (outcomes.No (faults.Row fault)) reads is of = of_log (outcomes.No (faults.Row fault)) reads refl of
@@ -283,7 +283,7 @@ row_is_fault (rows.Nodes index) memory = refl
 row_is_fault (rows.Pieces index) memory = refl
 row_is_fault rows.OutOfMemory memory = absurd (memory refl)
 
-pub settled_is_fault : {A : Type 0} (log : CodeLog A) (plan : CodePlan A) (sizes : List FileSize) (walked : Result (Net A) CodeEntryFault) (outcome : Outcome A) → OutcomeIsSettled log plan sizes walked outcome → RefusesByFault outcome
+pub settled_is_fault : {A : Type 0} (log : CodeLog A (List ℕ)) (plan : CodePlan A (List ℕ)) (sizes : List FileSize) (walked : Result (Net A) CodeEntryFault) (outcome : Outcome A (List ℕ)) → OutcomeIsSettled log plan sizes walked outcome → RefusesByFault outcome
 settled_is_fault log plan sizes (Err fault) (outcomes.No refusal) is = subst (λ f. IsSome (refusal_of f)) (sym is) refl
 settled_is_fault log plan sizes (Ok net) (outcomes.No (faults.Row fault)) is = row_is_fault fault is.0
 settled_is_fault log plan sizes (Ok net) (outcomes.No faults.UnknownClient) is = absurd is

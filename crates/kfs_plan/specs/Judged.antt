@@ -1,5 +1,5 @@
 -- A verdict, what it rests on, and the views in which it holds.
-use Rattle.std.specs.Prelude.{◌≡◌, List, Option}
+use Rattle.std.specs.Prelude.{◌≡◌, ℕ, List, Option}
 use Rattle.kfs_model.specs.Access.{Client}
 use Rattle.kfs_model.specs.Judgement.{State}
 use Rattle.kfs_model.specs.Lease.{row_of}
@@ -17,7 +17,7 @@ pub record Judged (A : Type 0) : Type 0 where
   pub submission : CodeSubmission A
   pub client : Option Client
   pub reads : List (Read × ReadAnswer)
-  pub outcome : Outcome A
+  pub outcome : Outcome A (List ℕ)
 
 -- in every state that has the client and agrees with the reads, the outcome is the verdict
 abbrev pub IsKnown : {A : Type 0} → Judged A → Type 0

@@ -65,7 +65,7 @@ refusal_of (faults.Entry fault) = Some (AtEntry (fault_of fault))
 refusal_of (faults.Row fault) = option_map AtRow (row_fault_of fault)
 
 -- a refusal is by a fault of the submission, and never for lack of memory
-abbrev pub RefusesByFault : {A : Type 0} → Outcome A → Type 0
+abbrev pub RefusesByFault : {A : Type 0} → Outcome A (List ℕ) → Type 0
 RefusesByFault (outcomes.No fault) = IsSome (refusal_of fault)
 RefusesByFault (outcomes.Yes log plan net told) = Unit {0}
 
@@ -84,7 +84,7 @@ submission_of submission = submission_with submission.client submission.log.item
 
 -- the bytes are this client's log and this plan, and the payloads' spans lie in the log's bytes and are
 -- no longer than payloads may be
-pub record AreSpelled {A : Type 0} (submission : Submission) (log : CodeLog A) (plan : CodePlan A) : Type 0 where
+pub record AreSpelled {A : Type 0} (submission : Submission) (log : CodeLog A (List ℕ)) (plan : CodePlan A (List ℕ)) : Type 0 where
   pub owner : log.client ≡ submission.client
   pub log_read : LogAnswer submission.log (Ok (log_of submission.log log))
   pub plan_read : PlanAnswer submission.plan (Ok (plan_of plan))
@@ -114,7 +114,7 @@ is_before_entries (faults.BadPlan fault) = true
 is_before_entries (faults.Entry fault) = false
 is_before_entries (faults.Row fault) = false
 
-abbrev pub stops_before : {A : Type 0} → Outcome A → Bool
+abbrev pub stops_before : {A : Type 0} → Outcome A (List ℕ) → Bool
 stops_before (outcomes.No fault) = is_before_entries fault
 stops_before (outcomes.Yes log plan net told) = false
 
@@ -129,7 +129,7 @@ pub record AreOfLog {A : Type 0} (view : View A) (submission : Submission) (read
 
 -- nothing was read where the judgement stops before the entries; else only cells were read that the log
 -- looks at
-pub record AreLooked {A : Type 0} (view : View A) (submission : Submission) (outcome : Outcome A) (reads : List (Read × ReadAnswer)) : Type 0 where
+pub record AreLooked {A : Type 0} (view : View A) (submission : Submission) (outcome : Outcome A (List ℕ)) (reads : List (Read × ReadAnswer)) : Type 0 where
   pub unread : stops_before outcome ≡ true → reads ≡ []
   pub looked : stops_before outcome ≡ false → AreOfLog view submission reads
 
@@ -144,8 +144,8 @@ pub record ComesToNet {A : Type 0} (s : State) (client : Client) (entries : List
 
 -- the parts of a Yes: the log, the plan, the net change, and the number of written blocks
 pub record YesParts (A : Type 0) : Type 0 where
-  pub log : CodeLog A
-  pub plan : CodePlan A
+  pub log : CodeLog A (List ℕ)
+  pub plan : CodePlan A (List ℕ)
   pub net : Net A
   pub told : ℕ
 
@@ -160,14 +160,14 @@ pub record TellsYes {A : Type 0} (s : State) (submission : Submission) (parts : 
   pub need_told : parts.told ≡ need marked_after
 
 -- the outcome and the verdict say the same
-abbrev pub TellsVerdict : {A : Type 0} → State → Submission → Outcome A → Verdict → Type 0
+abbrev pub TellsVerdict : {A : Type 0} → State → Submission → Outcome A (List ℕ) → Verdict → Type 0
 TellsVerdict s submission (outcomes.No fault) (No refusal) = refusal_of fault ≡ Some refusal
 TellsVerdict s submission (outcomes.No fault) (Yes after marked_after) = ⊥
 TellsVerdict s submission (outcomes.Yes log plan net told) (Yes after marked_after) = TellsYes s submission (record { log = log; plan = plan; net = net; told = told }) after marked_after
 TellsVerdict s submission (outcomes.Yes log plan net told) (No refusal) = ⊥
 
 -- the outcome is the state's verdict on the submission
-pub record IsVerdict {A : Type 0} (s : State) (submission : Submission) (outcome : Outcome A) : Type 0 where
+pub record IsVerdict {A : Type 0} (s : State) (submission : Submission) (outcome : Outcome A (List ℕ)) : Type 0 where
   pub verdict : Verdict
   pub judgement : IsJudgement s submission verdict
   pub told : TellsVerdict s submission outcome verdict
@@ -184,7 +184,7 @@ IsEarly (readings.No fault) = is_before_entries fault ≡ true
 
 -- the outcome is the bad entry; or it says what is right of the net, and of the marks of each run with
 -- these file sizes
-abbrev pub OutcomeIsSettled : {A : Type 0} → CodeLog A → CodePlan A → List FileSize → Result (Net A) CodeEntryFault → Outcome A → Type 0
+abbrev pub OutcomeIsSettled : {A : Type 0} → CodeLog A (List ℕ) → CodePlan A (List ℕ) → List FileSize → Result (Net A) CodeEntryFault → Outcome A (List ℕ) → Type 0
 OutcomeIsSettled log plan sizes (Err fault) (outcomes.No refusal) = refusal ≡ faults.Entry fault
 OutcomeIsSettled log plan sizes (Err fault) (outcomes.Yes l p n told) = ⊥
 OutcomeIsSettled log plan sizes (Ok net) (outcomes.No (faults.Row fault)) = (fault ≢ rows.OutOfMemory) × TellsOfEachRun sizes log net plan (Err fault)

@@ -1,5 +1,5 @@
 //! Judging a submission: its log and its plan, against a view. The bytes of a submission, decoded.
-ghost use Rattle.std.specs.Prelude.{◌≡◌, ◌≤◌, [], length, IfOk, IfErr, ◌≢◌};
+ghost use Rattle.std.specs.Prelude.{◌≡◌, ◌≤◌, true, [], length, IfOk, IfErr, ◌≢◌};
 ghost use Rattle.std.specs.List.{AllByRecursion};
 ghost use Rattle.kfs_model.specs.Judgement.{State};
 ghost use Rattle.kfs_model.specs.Lease.{row_of};
@@ -14,8 +14,11 @@ ghost use Rattle.kfs_plan.specs.Judging.{AreLooked, AgreesWithReads, OutcomeIsSe
 use crate::judged::Judged;
 use crate::rows::{RowFault, check_rows};
 use crate::submission::{Back, Fault, Outcome, Submission, Why};
-use kfs_entry::{Log, Plan, SpellFault, decode_log, decode_plan};
-use kfs_judge::{Keeping, Reads, View, Walk, judge_entries_keeping};
+use kfs_entry::{
+    BorrowedName, Log, Name, Plan, SpellFault, decode_borrowed_log, decode_borrowed_plan,
+    owned_log, owned_plan,
+};
+use kfs_judge::{Keeping, Reads, View, Walk, judge_borrowed};
 use kfs_mode::Client;
 use std::alloc::{AllocError, Allocator};
 
@@ -43,7 +46,7 @@ pub fn judge<A: Allocator + Copy>(
     ensures memory { IfErr result (λ b. b.why ≡ Why.OutOfMemory) }
 {
     let (log, plan) = (submission.log.as_slice(), submission.plan.as_slice());
-    let found = find(alloc, view, submission.client, log, plan, Keeping::Reads);
+    let found = find_owned(alloc, view, submission.client, log, plan);
     match found {
         Ok(finding) => match client_row(view, submission.client) {
             Ok(client) => {
@@ -59,13 +62,13 @@ pub fn judge<A: Allocator + Copy>(
 
 /// Judges a log and a plan whose bytes the caller keeps, for one who answers at once. The outcome is
 /// that of `judge`, and no read is kept.
-pub fn judge_bytes<A: Allocator + Copy>(
+pub fn judge_bytes<'b, A: Allocator + Copy>(
     alloc: A,
     view: &View<A>,
     client: u32,
-    log: &[u8],
-    plan: &[u8],
-) -> Result<Outcome<A>, Why>
+    log: &'b [u8],
+    plan: &'b [u8],
+) -> Result<Outcome<A, BorrowedName<'b>>, Why>
     // In every state that shows the client what the view shows, this is the verdict.
     ensures known { IfOk result (λ outcome. (s : State) → ShowsAs s view.now client → IsVerdict s (submission_with client log.now plan.now) outcome) }
     // A No names a fault of the submission.
@@ -89,14 +92,14 @@ fn client_row<A: Allocator + Copy>(view: &View<A>, number: u32) -> Result<Option
 
 /// The parts of a verdict, without the submission and its client.
 #[derive(Drop)]
-struct VerdictParts<A: Allocator> {
+struct VerdictParts<A: Allocator, N = Name> {
     reads: Reads<A>,
-    outcome: Outcome<A>,
+    outcome: Outcome<A, N>,
 }
 
-impl<A: Allocator + Copy> VerdictParts<A> {
+impl<'b, A: Allocator + Copy> VerdictParts<A, BorrowedName<'b>> {
     /// A fault found before the entries were looked at: nothing was read.
-    fn unread(alloc: A, keeping: Keeping, fault: Fault) -> VerdictParts<A>
+    fn unread(alloc: A, keeping: Keeping, fault: Fault) -> Self
         ensures reads { result.reads.entries ≡ [] }
         ensures keeps { result.reads.keeps ≡ keeps_reads keeping }
         ensures outcome { result.outcome ≡ Outcome.No fault }
@@ -109,14 +112,14 @@ impl<A: Allocator + Copy> VerdictParts<A> {
 }
 
 /// Judges these bytes of the client with this number.
-fn find<A: Allocator + Copy>(
+fn find<'b, A: Allocator + Copy>(
     alloc: A,
     view: &View<A>,
     number: u32,
-    log: &[u8],
-    plan: &[u8],
+    log: &'b [u8],
+    plan: &'b [u8],
     keeping: Keeping,
-) -> Result<VerdictParts<A>, Why>
+) -> Result<VerdictParts<A, BorrowedName<'b>>, Why>
     ensures keeps { IfOk result (λ f. f.reads.keeps ≡ keeps_reads keeping) }
     ensures known { IfOk result (λ f. (s : State) → AgreesWithReads s number (row_of (clients_of view.now) number) f.reads.entries → IsVerdict s (submission_with number log.now plan.now) f.outcome) }
     ensures view_agrees { IfOk result (λ f. Agrees f.reads.entries (client_sight_in view.now number)) }
@@ -131,10 +134,60 @@ fn find<A: Allocator + Copy>(
     match read_submission(alloc, client.number(), log, plan)? {
         Spelled::No(fault) => Ok(VerdictParts::unread(alloc, keeping, fault)),
         Spelled::Yes(log, plan) => {
-            let walk = judge_entries_keeping(alloc, view, &log, keeping)?;
+            let walk = judge_borrowed(alloc, view, &log, keeping)?;
             let finding = settle(alloc, log, plan, walk)?;
             Ok(finding)
         }
+    }
+}
+
+/// The same with names of its own, where reads are kept.
+fn find_owned<A: Allocator + Copy>(
+    alloc: A,
+    view: &View<A>,
+    number: u32,
+    log: &[u8],
+    plan: &[u8],
+) -> Result<VerdictParts<A>, Why>
+    ensures keeps { IfOk result (λ f. f.reads.keeps ≡ true) }
+    ensures known { IfOk result (λ f. (s : State) → AgreesWithReads s number (row_of (clients_of view.now) number) f.reads.entries → IsVerdict s (submission_with number log.now plan.now) f.outcome) }
+    ensures view_agrees { IfOk result (λ f. Agrees f.reads.entries (client_sight_in view.now number)) }
+    ensures among { IfOk result (λ f. AreLooked view.now (submission_with number log.now plan.now) f.outcome f.reads.entries) }
+    ensures fault { IfOk result (λ f. RefusesByFault f.outcome) }
+    ensures memory { IfErr result (λ why. why ≡ Why.OutOfMemory) }
+{
+    let VerdictParts { reads, outcome } = find(alloc, view, number, log, plan, Keeping::Reads)?;
+    let owned = owned_outcome(alloc, outcome)?;
+    Ok(VerdictParts {
+        reads,
+        outcome: owned,
+    })
+}
+
+/// The same outcome, with names of its own. `Err` where memory runs out.
+pub fn owned_outcome<A: Allocator + Copy>(
+    alloc: A,
+    outcome: Outcome<A, BorrowedName<'_>>,
+) -> Result<Outcome<A>, AllocError>
+    ensures { IfOk result (λ owned. owned ≡ outcome.entry) }
+{
+    match outcome {
+        Outcome::Yes {
+            log,
+            plan,
+            net,
+            need,
+        } => {
+            let log = owned_log(alloc, &log)?;
+            let plan = owned_plan(alloc, plan)?;
+            Ok(Outcome::Yes {
+                log,
+                plan,
+                net,
+                need,
+            })
+        }
+        Outcome::No(fault) => Ok(Outcome::No(fault)),
     }
 }
 
@@ -146,17 +199,17 @@ fn copied(client: &Client) -> Result<Client, AllocError>
 
 /// The outcome of a log whose entries were judged: its first bad entry, or else what the plan's rows
 /// lead to.
-fn settle<A: Allocator + Copy>(
+fn settle<'b, A: Allocator + Copy>(
     alloc: A,
-    log: Log<A>,
-    plan: Plan<A>,
+    log: Log<A, BorrowedName<'b>>,
+    plan: Plan<A, BorrowedName<'b>>,
     walk: Walk<A>,
-) -> Result<VerdictParts<A>, Why>
+) -> Result<VerdictParts<A, BorrowedName<'b>>, Why>
     requires sizes { HasOrderedSizes walk }
     requires spans { AllByRecursion IsSpanned log.entries }
     requires count { length log.entries ≤ entry_limit }
     ensures reads { IfOk result (λ f. f.reads ≡ walk.reads) }
-    ensures outcome { IfOk result (λ f. OutcomeIsSettled log plan walk.sizes.items walk.outcome f.outcome) }
+    ensures outcome { IfOk result (λ f. OutcomeIsSettled log.entry plan.entry walk.sizes.items walk.outcome f.outcome) }
     ensures memory { IfErr result (λ why. why ≡ Why.OutOfMemory) }
 {
     let Walk {
@@ -164,52 +217,61 @@ fn settle<A: Allocator + Copy>(
         sizes,
         outcome,
     } = walk;
-    let outcome = match outcome {
-        Err(fault) => Outcome::No(Fault::Entry(fault)),
-        Ok(net) => match check_rows(alloc, &log, sizes.as_slice(), &net, &plan) {
-            Ok(need) => Outcome::Yes {
+    let net = match outcome {
+        Ok(net) => net,
+        Err(fault) => {
+            let outcome = Outcome::No(Fault::Entry(fault));
+            return Ok(VerdictParts { reads, outcome });
+        }
+    };
+    match check_rows(alloc, &log, sizes.as_slice(), &net, &plan) {
+        Ok(need) => {
+            let outcome = Outcome::Yes {
                 log,
                 plan,
                 net,
                 need,
-            },
-            Err(RowFault::OutOfMemory) => return Err(Why::OutOfMemory),
-            Err(fault) => Outcome::No(Fault::Row(fault)),
-        },
-    };
-    Ok(VerdictParts { reads, outcome })
+            };
+            Ok(VerdictParts { reads, outcome })
+        }
+        Err(RowFault::OutOfMemory) => Err(Why::OutOfMemory),
+        Err(fault) => {
+            let outcome = Outcome::No(Fault::Row(fault));
+            Ok(VerdictParts { reads, outcome })
+        }
+    }
 }
 
 /// What the bytes of a submission decode to.
 #[derive(Drop)]
-pub enum Spelled<A: Allocator> {
+pub enum Spelled<'b, A: Allocator> {
     /// A log of the submission's client, and a plan.
-    Yes(Log<A>, Plan<A>),
+    Yes(Log<A, BorrowedName<'b>>, Plan<A, BorrowedName<'b>>),
     /// The fault found in the bytes.
     No(Fault),
 }
 
 /// Decodes the bytes of a submission; `number` is the submission's client. `Err` where memory is
 /// refused.
-pub fn read_submission<A: Allocator + Copy>(
+pub fn read_submission<'b, A: Allocator + Copy>(
     alloc: A,
     number: u32,
-    log: &[u8],
-    plan: &[u8],
-) -> Result<Spelled<A>, Why>
+    log: &'b [u8],
+    plan: &'b [u8],
+) -> Result<Spelled<'b, A>, Why>
     ensures read { IfOk result (IsReading (submission_with number log.now plan.now)) }
     ensures early { IfOk result IsEarly }
     ensures fault { IfOk result StopsByFault }
     ensures memory { IfErr result (λ why. why ≡ Why.OutOfMemory) }
 {
-    let log = match decode_log(alloc, log) {
+    let log = match decode_borrowed_log(alloc, log) {
         Ok(log) => log,
         Err(fault) => return Ok(Spelled::No(Fault::BadLog(unless_refused(fault)?))),
     };
     if log.client != number {
         return Ok(Spelled::No(Fault::WrongClient));
     }
-    let plan = match decode_plan(alloc, plan) {
+    let plan = match decode_borrowed_plan(alloc, plan) {
         Ok(plan) => plan,
         Err(fault) => return Ok(Spelled::No(Fault::BadPlan(unless_refused(fault)?))),
     };

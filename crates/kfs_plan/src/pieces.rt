@@ -10,6 +10,7 @@ ghost use Rattle.kfs_pieces.specs.RangeCounts.{grown_count};
 
 use kfs_entry::{Log, Piece};
 use kfs_judge::Walk;
+use kfs_types::borrowed_entries;
 use std::alloc::{AllocError, Allocator};
 
 /// Right pieces of a log: the bytes that it wrote or made zero, each from the last entry that reached
@@ -32,6 +33,7 @@ pub fn sweep<A: Allocator + Copy>(
     // They are at most two for each file that grew and for each entry.
     ensures few { IfOk result (λ out. length out.items ≤ 2 * (grown_count walk.now.sizes.items + length log.now.entries)) }
 {
-    let out = kfs_pieces::sweep(alloc, walk.sizes.as_slice(), log.entries.as_slice())?;
+    let entries = borrowed_entries(alloc, log.entries.as_slice())?;
+    let out = kfs_pieces::sweep(alloc, walk.sizes.as_slice(), entries.as_slice())?;
     Ok(out)
 }

@@ -1,16 +1,17 @@
 //! A plan's rows, checked against what its log leads to.
-ghost use Rattle.std.specs.Prelude.{◌≡◌, ◌≤◌, length, position, zip, not, IsOk};
+ghost use Rattle.std.specs.Prelude.{◌≡◌, ◌≤◌, length, map, nat_eq, position, zip, not, IsOk};
 ghost use Rattle.std.specs.List.{AllByRecursion};
 ghost use Rattle.kfs_model.specs.Access.{Client as ClientRow};
-ghost use Rattle.kfs_model.specs.FirstWrong.{first_difference};
+ghost use Rattle.kfs_model.specs.FirstWrong.{first_difference, same_pair, same_place};
 ghost use Rattle.kfs_model.specs.Limits.{entry_limit};
 ghost use Rattle.kfs_types.specs.Views.{IsSpanned};
 ghost use Rattle.kfs_pieces.specs.Sizes.{SizesAscend, IsSize};
 ghost use Rattle.kfs_judge.specs.Walks.{HasOrderedSizes, IsWalkOf};
-ghost use Rattle.kfs_plan.specs.PlanCheck.{TellsOfEachRun, TellsOfEachTree};
+ghost use Rattle.kfs_judge.specs.Step.Rows.{keyed_name_row};
+ghost use Rattle.kfs_plan.specs.PlanCheck.{at_end, is_same_row, TellsOfEachRun, TellsOfEachTree};
 ghost use Rattle.kfs_plan.specs.declared.rows.RowFault.TheVariants.{OutOfMemory};
 
-use kfs_entry::{Log, Plan};
+use kfs_entry::{BorrowedName, BorrowedRow, Log, NameRow, Plan, borrowed_log, borrowed_plan};
 use kfs_image_nodes::Net;
 use kfs_judge::Walk;
 use kfs_pieces::{FileSize, first_piece_apart, need_of, sweep};
@@ -66,17 +67,19 @@ pub fn check_plan<A: Allocator + Copy>(
     ensures { (client : ClientRow) → IsWalkOf client log.now walk.now → TellsOfEachTree client log.now walk.now plan.now result }
 {
     let net = walk.outcome.as_ref().unwrap();
-    check_rows(alloc, log, walk.sizes.as_slice(), net, plan)
+    let lent_log = borrowed_log(alloc, log)?;
+    let lent_plan = borrowed_plan(alloc, plan)?;
+    check_rows(alloc, &lent_log, walk.sizes.as_slice(), net, &lent_plan)
 }
 
 /// Checks a plan against a net, and against right pieces of the log; `sizes` are the sizes of its
 /// files.
 pub fn check_rows<A: Allocator + Copy>(
     alloc: A,
-    log: &Log<A>,
+    log: &Log<A, BorrowedName<'_>>,
     sizes: &[FileSize],
     net: &Net<A>,
-    plan: &Plan<A>,
+    plan: &Plan<A, BorrowedName<'_>>,
 ) -> Result<u64, RowFault>
     requires ascending { SizesAscend 0 sizes.now }
     requires sizes { AllByRecursion IsSize sizes.now }
@@ -84,7 +87,7 @@ pub fn check_rows<A: Allocator + Copy>(
     requires count { length log.now.entries ≤ entry_limit }
     ensures { TellsOfEachRun sizes.now log.now net.now plan.now result }
 {
-    if let Some(row) = first_difference(plan.names.as_slice(), net.names.as_slice()) {
+    if let Some(row) = first_name_apart(plan.names.as_slice(), net.names.as_slice()) {
         return Err(RowFault::Names(row));
     }
     if let Some(row) = first_difference(plan.nodes.as_slice(), net.nodes.as_slice()) {
@@ -97,18 +100,49 @@ pub fn check_rows<A: Allocator + Copy>(
     Ok(need_of(right.as_slice(), sizes))
 }
 
+/// The index of the first name row that differs from the net's; where one list is a prefix of the other,
+/// the shorter length.
+fn first_name_apart(rows: &[BorrowedRow<'_>], right: &[NameRow]) -> Option<usize>
+    ensures { result ≡ first_difference (same_pair same_place nat_eq) (map keyed_name_row rows.now) (map keyed_name_row right.now) }
+{
+    let differs = first_unequal_name(rows, right);
+    at_end(differs, rows.len(), right.len())
+}
+
+/// The first index at which both lists have a name row and the rows differ.
+fn first_unequal_name(rows: &[BorrowedRow<'_>], right: &[NameRow]) -> Option<usize>
+    ensures { result ≡ position (λ pair. not (is_same_row pair.0 pair.1)) (zip rows.now right.now) }
+{
+    rows.iter()
+        .zip(right)
+        .position(|pair| !is_same_row(pair.0, pair.1))
+}
+
+fn is_same_row(row: &BorrowedRow<'_>, right: &NameRow) -> bool
+    ensures { result ≡ is_same_row row.now right.now }
+{
+    row.dir == right.dir && row.name == right.name.borrowed() && row.number == right.number
+}
+
 /// The index of the first difference; where one list is a prefix of the other, the shorter length.
 fn first_difference<T: PartialEq>(rows: &[T], right: &[T]) -> Option<usize>
     ensures { result ≡ first_difference T.eq rows.now right.now }
 {
     let differs = first_unequal(rows, right);
+    at_end(differs, rows.len(), right.len())
+}
+
+/// The index at which two lists of these lengths differ, or else where the shorter one ends.
+fn at_end(differs: Option<usize>, len: usize, right_len: usize) -> Option<usize>
+    ensures { result ≡ at_end differs len right_len }
+{
     if differs.is_some() {
         return differs;
     }
-    if rows.len() == right.len() {
+    if len == right_len {
         None
     } else {
-        Some(rows.len().min(right.len()))
+        Some(len.min(right_len))
     }
 }
 

@@ -3,7 +3,7 @@ ghost use Rattle.std.specs.Prelude.{◌≡◌};
 ghost use Rattle.kfs_plan.specs.declared.submission.Why.TheVariants.{OutOfMemory};
 
 use crate::rows::RowFault;
-use kfs_entry::{Log, Plan, SpellFault};
+use kfs_entry::{Log, Name, Plan, SpellFault};
 use kfs_image_nodes::Net;
 use kfs_judge::EntryFault;
 use std::alloc::{AllocError, Allocator};
@@ -45,14 +45,14 @@ pub enum Fault {
     Row(RowFault),
 }
 
-/// What a judgement found.
+/// What a judgement found. `N` is how a name stands in the log and in the plan, as in an `Entry`.
 #[derive(Drop)]
-pub enum Outcome<A: Allocator> {
+pub enum Outcome<A: Allocator, N = Name> {
     /// The plan is right for the log. Has both, the net change, and `need`, the number of blocks that a
     /// landing writes.
     Yes {
-        log: Log<A>,
-        plan: Plan<A>,
+        log: Log<A, N>,
+        plan: Plan<A, N>,
         net: Net<A>,
         need: u64,
     },

@@ -9,7 +9,7 @@ use Rattle.kfs_plan_maker.specs.AskedLeases.{HoldsNamed, named_in, numbers_named
 
 module _ (name : ℕ → List ℕ → Option ℕ) where
   -- payloads don't matter
-  same_named : (source : List ℕ) (entry : CodeEntry Span) → numbers_named name (entry_of source entry) ≡ named_in name entry
+  same_named : (source : List ℕ) (entry : CodeEntry Span (List ℕ)) → numbers_named name (entry_of source entry) ≡ named_in name entry
   same_named source (entries.Create d m n k mode) = refl
   same_named source (entries.Write n offset p) = refl
   same_named source (entries.Truncate n size) = refl
@@ -23,7 +23,7 @@ module _ (name : ℕ → List ℕ → Option ℕ) where
   halves P [] back all = (tt, all)
   halves P (x ∷ front) back all = let rest = halves P front back all.1 in ((all.0, rest.0), rest.1)
 
-  pub each_named : (held : ℕ → Bool) (source : List ℕ) (rows : List (CodeEntry Span)) → AllByRecursion (λ n. held n ≡ true) (flat_map (named_in name) rows) → AllByRecursion (HoldsNamed held name) (map (entry_of source) rows)
+  pub each_named : (held : ℕ → Bool) (source : List ℕ) (rows : List (CodeEntry Span (List ℕ))) → AllByRecursion (λ n. held n ≡ true) (flat_map (named_in name) rows) → AllByRecursion (HoldsNamed held name) (map (entry_of source) rows)
   each_named held source [] all = tt
   each_named held source (entry ∷ rows) all =
       let both = halves (λ n. held n ≡ true) (named_in name entry) (flat_map (named_in name) rows) all in

@@ -20,9 +20,9 @@ no_log other faults.OutOfMemory memory same = memory (λ i. faults.OutOfMemory)
 
 module _ (A : Type 0) (number : ℕ) (source : List ℕ) where
   pub refused_log : (fault : SpellFault) → fault ≢ faults.OutOfMemory
-      → ((answer : Result Log SpellingFault) → LogAnswer source answer → OnAnswer {V = CodeLog A} (log_of source) (λ given. given ≡ answer) (Err fault)) → HasNoLog number source
+      → ((answer : Result Log SpellingFault) → LogAnswer source answer → OnAnswer {V = CodeLog A (List ℕ)} (log_of source) (λ given. given ≡ answer) (Err fault)) → HasNoLog number source
   refused_log fault memory only other spelled owner = no_log other fault memory (only (Ok other) spelled)
 
-  pub other_log : (log : CodeLog A) → log.client ≢ number
-      → ((answer : Result Log SpellingFault) → LogAnswer source answer → OnAnswer {V = CodeLog A} (log_of source) (λ given. given ≡ answer) (Ok log)) → HasNoLog number source
+  pub other_log : (log : CodeLog A (List ℕ)) → log.client ≢ number
+      → ((answer : Result Log SpellingFault) → LogAnswer source answer → OnAnswer {V = CodeLog A (List ℕ)} (log_of source) (λ given. given ≡ answer) (Ok log)) → HasNoLog number source
   other_log log apart only other spelled owner = apart (ap (λ (l : Log). l.client) (same_log (log_of source log) other (only (Ok other) spelled)) ∙ owner)

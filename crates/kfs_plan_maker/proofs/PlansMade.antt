@@ -52,7 +52,7 @@ only_end client t entries after ran held = at (run over_marks client (client_sig
     at (Ok end) is = let all = clean_run_from client (sight t) held over_marks 0 [] (marked t) entries end is in cc
     at (Err fault) is = tt
 
-module _ {A : Type 0} (client : Client) (t : Tree ℕ) (source : List ℕ) (log : CodeLog A) (from : IsLogFrom client.number source log) (in_range : IsClient client) (sound : IsSound t) (walk : Walk A) (leased : IsWalkWithLeases client t log walk) where
+module _ {A : Type 0} (client : Client) (t : Tree ℕ) (source : List ℕ) (log : CodeLog A (List ℕ)) (from : IsLogFrom client.number source log) (in_range : IsClient client) (sound : IsSound t) (walk : Walk A) (leased : IsWalkWithLeases client t log walk) where
   abbrev entries : List Entry
   entries = (log_of source log).entries
 
@@ -78,7 +78,7 @@ module _ {A : Type 0} (client : Client) (t : Tree ℕ) (source : List ℕ) (log 
           subst (λ (l : Log). IsErr (run over_bytes client (sight_with_leases t) t l.entries)) same (subst IsErr (sym with_all) refl)
 
   -- a plan of the walk's rows is right
-  pub plan_is_right : (net : Net A) → walk.outcome ≡ Ok net → (plan : CodePlan A) → HasRowsOf log walk plan → IsPlanOf client t entries (plan_of plan)
+  pub plan_is_right : (net : Net A) → walk.outcome ≡ Ok net → (plan : CodePlan A (List ℕ)) → HasRowsOf log walk plan → IsPlanOf client t entries (plan_of plan)
   plan_is_right net is plan rows =
       let came : ComesToTree client leased.held t entries (Ok net) walk.sizes.items = subst (λ o. ComesToTree client leased.held t entries o walk.sizes.items) is comes in
       let end = ends_beside client (client_sight t leased.held) t entries came.0 came.1 in
@@ -98,7 +98,7 @@ module _ {A : Type 0} (client : Client) (t : Tree ℕ) (source : List ℕ) (log 
       }
 
   -- the parts of a plan of the walk's rows are as short as their counts ask
-  pub plan_is_short : HasOrderedSizes walk → (net : Net A) → walk.outcome ≡ Ok net → (plan : CodePlan A) → HasRowsOf log walk plan → IsShort plan
+  pub plan_is_short : HasOrderedSizes walk → (net : Net A) → walk.outcome ≡ Ok net → (plan : CodePlan A (List ℕ)) → HasRowsOf log walk plan → IsShort plan
   plan_is_short ordered net is plan rows =
       let came : ComesToTree client leased.held t entries (Ok net) walk.sizes.items = subst (λ o. ComesToTree client leased.held t entries o walk.sizes.items) is comes in
       let same = subst (λ o. IfOk o (λ (net : Net A). (plan.names ≡ net.names.items) × (plan.nodes ≡ net.nodes.items))) is rows.net in

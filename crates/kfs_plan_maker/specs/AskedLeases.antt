@@ -28,7 +28,7 @@ numbers_named name (Chmod n mode) = n ∷ []
 numbers_named name (Regroup n group) = n ∷ []
 
 -- the same of an entry of the code; its payload doesn't matter
-abbrev pub named_in : (name : ℕ → List ℕ → Option ℕ) → CodeEntry Span → List ℕ
+abbrev pub named_in : (name : ℕ → List ℕ → Option ℕ) → CodeEntry Span (List ℕ) → List ℕ
 named_in name entry = numbers_named name (entry_of [] entry)
 
 -- the client holds these nodes of the entry

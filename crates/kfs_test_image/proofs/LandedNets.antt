@@ -1,5 +1,5 @@
 -- The net of what is judged right makes a lawful image of the one that was judged.
-use Rattle.std.proofs.Common.{◌≡◌, ℕ, map, sym, ap, subst, ◌∙◌}
+use Rattle.std.proofs.Common.{◌≡◌, ℕ, List, map, sym, ap, subst, ◌∙◌}
 use Rattle.kfs_model.specs.Table.{numbers, get}
 use Rattle.kfs_model.specs.Tree.{Tree, NameTable, name_order, headers}
 use Rattle.kfs_model.specs.Plan.{header_now, number_now, AreDifferences}
@@ -18,7 +18,7 @@ use Rattle.kfs_plan.specs.declared.submission.Outcome.TheVariants as outcomes
 use Rattle.kfs_types.specs.declared.entry.Log.{Log as CodeLog}
 use Rattle.kfs_types.specs.declared.plan.Plan.{Plan as CodePlan}
 
-module _ {A : Type 0} (image : DeviceImage) (lawful : IsLawful image) (s : State) (shown : s.tree ≡ shown_tree image) (submission : Submission) (log : CodeLog A) (plan : CodePlan A) (net : Net A) (told : ℕ) where
+module _ {A : Type 0} (image : DeviceImage) (lawful : IsLawful image) (s : State) (shown : s.tree ≡ shown_tree image) (submission : Submission) (log : CodeLog A (List ℕ)) (plan : CodePlan A (List ℕ)) (net : Net A) (told : ℕ) where
   pub net_is_lawful : IsVerdict s submission (outcomes.Yes log plan net told) → IsLawful (after_net net image)
   net_is_lawful is = by is.verdict is.told
     where

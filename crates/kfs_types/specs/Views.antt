@@ -27,7 +27,7 @@ abbrev pub span_bytes : List ℕ → Span → List ℕ
 span_bytes source s = slice_range source s.start s.end
 
 -- the entry, with the payload's bytes in place of its span
-abbrev pub entry_of : List ℕ → CodeEntry Span → Entry
+abbrev pub entry_of : List ℕ → CodeEntry Span (List ℕ) → Entry
 entry_of source (entries.Create d m n k mode) = Create d m n (kind_of k) mode
 entry_of source (entries.Write n offset p) = Write n offset (span_bytes source p)
 entry_of source (entries.Truncate n size) = Truncate n size
@@ -38,7 +38,7 @@ entry_of source (entries.Chmod n mode) = Chmod n mode
 entry_of source (entries.Regroup n group) = Regroup n group
 
 -- the payload's span lies in a source of this length
-abbrev pub IsWithin : ℕ → CodeEntry Span → Type 0
+abbrev pub IsWithin : ℕ → CodeEntry Span (List ℕ) → Type 0
 IsWithin len (entries.Write n offset p) = (p.start ≤ p.end) × (p.end ≤ len)
 IsWithin len (entries.Create d m n k mode) = Unit {0}
 IsWithin len (entries.Truncate n size) = Unit {0}
@@ -49,7 +49,7 @@ IsWithin len (entries.Chmod n mode) = Unit {0}
 IsWithin len (entries.Regroup n group) = Unit {0}
 
 -- a payload's span doesn't end before it starts, and is no longer than a payload may be
-abbrev pub IsSpanned : CodeEntry Span → Type 0
+abbrev pub IsSpanned : CodeEntry Span (List ℕ) → Type 0
 IsSpanned (entries.Write n offset p) = (p.start ≤ p.end) × (p.end ≤ p.start + payload_limit)
 IsSpanned (entries.Create d m n k mode) = Unit {0}
 IsSpanned (entries.Truncate n size) = Unit {0}
@@ -62,7 +62,7 @@ IsSpanned (entries.Regroup n group) = Unit {0}
 abbrev pub header_of : CodeHeader → Header
 header_of h = record { kind = kind_of h.kind; mode = h.mode; uid = h.uid; gid = h.gid; links = h.links; size = h.size }
 
-abbrev pub name_row_of : CodeNameRow → NameRow
+abbrev pub name_row_of : CodeNameRow (List ℕ) → NameRow
 name_row_of r = record { directory = r.dir; name = r.name; number = r.number }
 
 abbrev pub node_row_of : CodeNodeRow → NodeRow

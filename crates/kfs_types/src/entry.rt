@@ -1,5 +1,8 @@
 //! Update logs and their entries ("Strata", SOSP 2017). The header of a node: all that it shows apart
 //! from its bytes.
+ghost use Rattle.std.specs.Prelude.{◌≡◌};
+
+use crate::borrowed_name::BorrowedName;
 use crate::name::Name;
 use crate::rows::RowList;
 use std::alloc::Allocator;
@@ -16,15 +19,16 @@ pub struct Span {
 
 /// One change that a client asks for. Nodes and directories are given by number. A log may hold any
 /// 32-bit number; the judge refuses those that fit no node of the tree. `P` is what stands for the
-/// payload of a Write: in a decoded log a `Span`.
+/// payload of a Write: in a decoded log a `Span`. `N` is how a name stands in it: as a value, or where it
+/// lies in the log's bytes (`BorrowedName`).
 #[derive(Clone, Debug, PartialEq, Eq, Drop)]
-pub enum Entry<P> {
+pub enum Entry<P, N = Name> {
     /// Makes the empty node `number` with the name `name` in the directory `dir`, with the client's uid
     /// and gid and the permission bits `mode` (POSIX `open` with `O_CREAT`, `mkdir`). A mode is 0 to
     /// 0o777 in a log of version 1, and 0 to 0o1777 in one of version 2.
     Create {
         dir: u32,
-        name: Name,
+        name: N,
         number: u32,
         kind: Kind,
         mode: u16,
@@ -47,22 +51,22 @@ pub enum Entry<P> {
     Link {
         number: u32,
         dir: u32,
-        name: Name,
+        name: N,
     },
     /// Removes the name `name` from the directory `dir`. `kind` says what the name must lead to: a file
     /// (POSIX `unlink`) or an empty directory (POSIX `rmdir`). A file goes with its last name.
     Unlink {
         dir: u32,
-        name: Name,
+        name: N,
         kind: Kind,
     },
     /// Moves the name `name` of `dir` to `new_name` in `new_dir`, in place of what is there (POSIX
     /// `rename`).
     Rename {
         dir: u32,
-        name: Name,
+        name: N,
         new_dir: u32,
-        new_name: Name,
+        new_name: N,
     },
     /// Sets the permission bits of the node `number` to `mode`, in the same range (POSIX `fchmod`).
     Chmod {
@@ -77,16 +81,19 @@ pub enum Entry<P> {
     },
 }
 
+/// An entry whose names lie in the bytes that its log was read from.
+pub type BorrowedEntry<'s> = Entry<Span, BorrowedName<'s>>;
+
 /// A client's update log. The payloads are spans of the bytes that it was read from.
 #[derive(Debug, Drop)]
-pub struct Log<A: Allocator> {
+pub struct Log<A: Allocator, N = Name> {
     /// The version of its format, 1 or 2. It says which modes the entries may have, and whether a
     /// Regroup may be among them.
     pub version: u8,
     /// The number of the client whose log it is, any of 32 bits.
     pub client: u32,
     /// At most 4,096, in the order in which they take effect.
-    pub entries: RowList<Entry<Span>, A>,
+    pub entries: RowList<Entry<Span, N>, A>,
 }
 
 /// Whether a node is a regular file or a directory. There are no other kinds.
@@ -113,4 +120,134 @@ pub struct Header {
     pub links: u16,
     /// The size in bytes, at most 2^32; a directory has 0.
     pub size: u64,
+}
+
+impl<P: Copy> Entry<P, Name> {
+    /// The same entry, with its names where they lie in this one. Takes no memory.
+    pub fn borrowed(&self) -> Entry<P, BorrowedName<'_>>
+        ensures { result ≡ self.now }
+    {
+        match self {
+            Entry::Create {
+                dir,
+                name,
+                number,
+                kind,
+                mode,
+            } => Entry::Create {
+                dir: *dir,
+                name: name.borrowed(),
+                number: *number,
+                kind: *kind,
+                mode: *mode,
+            },
+            Entry::Write {
+                number,
+                offset,
+                payload,
+            } => Entry::Write {
+                number: *number,
+                offset: *offset,
+                payload: *payload,
+            },
+            Entry::Truncate { number, size } => Entry::Truncate {
+                number: *number,
+                size: *size,
+            },
+            Entry::Link { number, dir, name } => Entry::Link {
+                number: *number,
+                dir: *dir,
+                name: name.borrowed(),
+            },
+            Entry::Unlink { dir, name, kind } => Entry::Unlink {
+                dir: *dir,
+                name: name.borrowed(),
+                kind: *kind,
+            },
+            Entry::Rename {
+                dir,
+                name,
+                new_dir,
+                new_name,
+            } => Entry::Rename {
+                dir: *dir,
+                name: name.borrowed(),
+                new_dir: *new_dir,
+                new_name: new_name.borrowed(),
+            },
+            Entry::Chmod { number, mode } => Entry::Chmod {
+                number: *number,
+                mode: *mode,
+            },
+            Entry::Regroup { number, group } => Entry::Regroup {
+                number: *number,
+                group: *group,
+            },
+        }
+    }
+}
+
+impl<'s, P: Copy> Entry<P, BorrowedName<'s>> {
+    /// The same entry, with names of its own. Takes no memory.
+    pub fn owned(&self) -> Entry<P, Name>
+        ensures { result ≡ self.now }
+    {
+        match self {
+            Entry::Create {
+                dir,
+                name,
+                number,
+                kind,
+                mode,
+            } => Entry::Create {
+                dir: *dir,
+                name: name.owned(),
+                number: *number,
+                kind: *kind,
+                mode: *mode,
+            },
+            Entry::Write {
+                number,
+                offset,
+                payload,
+            } => Entry::Write {
+                number: *number,
+                offset: *offset,
+                payload: *payload,
+            },
+            Entry::Truncate { number, size } => Entry::Truncate {
+                number: *number,
+                size: *size,
+            },
+            Entry::Link { number, dir, name } => Entry::Link {
+                number: *number,
+                dir: *dir,
+                name: name.owned(),
+            },
+            Entry::Unlink { dir, name, kind } => Entry::Unlink {
+                dir: *dir,
+                name: name.owned(),
+                kind: *kind,
+            },
+            Entry::Rename {
+                dir,
+                name,
+                new_dir,
+                new_name,
+            } => Entry::Rename {
+                dir: *dir,
+                name: name.owned(),
+                new_dir: *new_dir,
+                new_name: new_name.owned(),
+            },
+            Entry::Chmod { number, mode } => Entry::Chmod {
+                number: *number,
+                mode: *mode,
+            },
+            Entry::Regroup { number, group } => Entry::Regroup {
+                number: *number,
+                group: *group,
+            },
+        }
+    }
 }

@@ -5,16 +5,20 @@
 //! `entry.rt` (logs) and `plan.rt` (plans).
 #![tactic(auto)]
 
+mod borrowed_name;
 mod change;
 mod entry;
+mod forms;
 mod limits;
 mod moves;
 mod name;
 mod plan;
 mod rows;
 
+pub use borrowed_name::BorrowedName;
 pub use change::{Change, Nothing};
-pub use entry::{Entry, Header, Kind, Log, Span};
+pub use entry::{BorrowedEntry, Entry, Header, Kind, Log, Span};
+pub use forms::{borrowed_entries, borrowed_rows, owned_entries, owned_rows};
 pub use limits::{
     BLOCK_LEN, BLOCK_SIZE, CLIMB_LIMIT, ENTRY_LIMIT, GREATEST_MODE, GREATEST_MODE_OF_VERSION_1,
     GREATEST_NUMBER, LATEST_VERSION, LINK_LIMIT, PAYLOAD_LIMIT, ROOT, SIZE_LIMIT, TIER_LIMIT,
@@ -22,5 +26,5 @@ pub use limits::{
 };
 pub use moves::{Move, MoveFault};
 pub use name::Name;
-pub use plan::{NameRow, NodeRow, Piece, Plan, Source};
+pub use plan::{BorrowedRow, NameRow, NodeRow, Piece, Plan, Source};
 pub use rows::RowList;

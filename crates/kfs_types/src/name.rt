@@ -10,6 +10,7 @@ ghost use Rattle.std.proofs.Common.{rules};
 ghost use Rattle.kfs_model.specs.Spelling.{IsBytes};
 ghost use Rattle.kfs_types.specs.Padded.{padded};
 
+use crate::borrowed_name::BorrowedName;
 use crate::limits::NAME_LIMIT;
 use std::alloc::AllocError;
 use std::cmp::Ordering;
@@ -131,10 +132,18 @@ impl Name {
         if !Name::is_name(bytes) {
             return None;
         }
-        Some(Name {
+        Some(Name::of(bytes))
+    }
+
+    /// The name with these bytes, which are one.
+    pub(crate) fn of(bytes: &[u8]) -> Name
+        requires { IsName bytes.now }
+        ensures { result ≡ bytes.now }
+    {
+        Name {
             bytes: padded(bytes),
             len: bytes.len() as u8,
-        })
+        }
     }
 
     /// Whether the bytes are a name. Takes no memory.
@@ -145,6 +154,13 @@ impl Name {
             return false;
         }
         !bytes.iter().any(|byte| *byte == 0 || *byte == b'/')
+    }
+
+    /// The same name where it lies in this value. Takes no memory.
+    pub fn borrowed(&self) -> BorrowedName<'_>
+        ensures { result ≡ self.now }
+    {
+        BorrowedName::of(self.as_bytes())
     }
 
     /// The bytes of the name, 1 to 255. Takes no memory.

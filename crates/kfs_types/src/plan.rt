@@ -1,20 +1,52 @@
 //! Digest plans and their rows ("Strata", SOSP 2017: what is left of a log once it is coalesced).
+ghost use Rattle.std.specs.Prelude.{◌≡◌};
 
+use crate::borrowed_name::BorrowedName;
 use crate::entry::Header;
 use crate::name::Name;
 use crate::rows::RowList;
 use std::alloc::Allocator;
 
-/// The number that a name leads to after the log, where that differs from before.
+/// The number that a name leads to after the log, where that differs from before. `N` is how the name
+/// stands in it, as in an `Entry`.
 #[derive(Clone, Debug, PartialEq, Eq, Drop)]
-pub struct NameRow {
+pub struct NameRow<N = Name> {
     /// The number of the name's directory.
     pub dir: u32,
     /// The name.
-    pub name: Name,
+    pub name: N,
     /// The node's number after the log, or 0 where the name is gone.
     pub number: u32,
 }
+
+impl NameRow<Name> {
+    /// The same row, with its name where it lies in this one. Takes no memory.
+    pub fn borrowed(&self) -> NameRow<BorrowedName<'_>>
+        ensures { result ≡ self.now }
+    {
+        NameRow {
+            dir: self.dir,
+            name: self.name.borrowed(),
+            number: self.number,
+        }
+    }
+}
+
+impl<'s> NameRow<BorrowedName<'s>> {
+    /// The same row, with a name of its own. Takes no memory.
+    pub fn owned(&self) -> NameRow
+        ensures { result ≡ self.now }
+    {
+        NameRow {
+            dir: self.dir,
+            name: self.name.owned(),
+            number: self.number,
+        }
+    }
+}
+
+/// A row whose name lies in other bytes.
+pub type BorrowedRow<'s> = NameRow<BorrowedName<'s>>;
 
 /// The header that a node has after the log, where that differs from before.
 #[derive(Clone, Copy, Debug, PartialEq, Eq)]
@@ -51,11 +83,11 @@ pub struct Piece {
 /// What a client says that its log changes, against the tree before the log. The client makes the plan,
 /// and the desk only checks it.
 #[derive(Debug, Drop)]
-pub struct Plan<A: Allocator> {
+pub struct Plan<A: Allocator, N = Name> {
     /// The version of its format, 1 or 2. It may differ from the log's.
     pub version: u8,
     /// The names that lead elsewhere, ascending by directory and name.
-    pub names: RowList<NameRow, A>,
+    pub names: RowList<NameRow<N>, A>,
     /// The nodes with another header, ascending by number.
     pub nodes: RowList<NodeRow, A>,
     /// The changed bytes of files, ascending by file number and position, not overlapping.

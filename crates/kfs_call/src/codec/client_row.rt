@@ -6,8 +6,8 @@ ghost use Rattle.kfs_call.specs.StateViews.{client_shown};
 
 use crate::codec::{flag, groups};
 use crate::state::ClientRow;
-use kfs_entry::SpelledRow;
 use kfs_entry::codec::number32;
+use kfs_entry::{ReadRow, SpelledRow};
 use std::alloc::{AllocError, Allocator};
 
 #[tactic(auto, unfolding(crate::specs::StateReaders::client_read))]
@@ -36,21 +36,12 @@ fn read_row(source: &[u8], at: usize) -> Option<(ClientRow, usize)>
 }
 
 impl SpelledRow for ClientRow {
-    ghost use Rattle.kfs_model.specs.Spelling.{Begins};
-    ghost use Rattle.kfs_call.specs.StateRows.{IsClientRow, client_bytes};
+    ghost use Rattle.kfs_call.specs.StateRows.{client_bytes};
     ghost use Rattle.kfs_call.specs.StateViews.{client_shown};
 
     ghost spelling = { λ _ row. client_bytes (client_shown row) };
 
-    ghost fits = { λ _ _ row. IsClientRow (client_shown row) };
-
     ghost can_write = { λ _ _. Unit {0} };
-
-    ghost begins = { λ _. Begins IsClientRow client_bytes };
-
-    fn read(_version: u8, source: &[u8], at: usize) -> Option<(Self, usize)> {
-        read_row(source, at)
-    }
 
     fn write<A: Allocator>(&self, out: &mut Vec<u8, A>, source: &[u8]) -> Result<(), AllocError> {
         number32::write(out, source, &self.number)?;
@@ -65,5 +56,19 @@ impl SpelledRow for ClientRow {
     #[tactic(auto, unfolding(kfs_model::specs::Spelling::number32))]
     fn len(&self, _source: &[u8]) -> usize {
         20 + flag::len(self.privileged) + groups::len(&self.groups)
+    }
+}
+
+impl<'s> ReadRow<'s> for ClientRow {
+    ghost use Rattle.kfs_model.specs.Spelling.{Begins};
+    ghost use Rattle.kfs_call.specs.StateRows.{IsClientRow, client_bytes};
+    ghost use Rattle.kfs_call.specs.StateViews.{client_shown};
+
+    ghost fits = { λ _ _ row. IsClientRow (client_shown row) };
+
+    ghost begins = { λ _. Begins IsClientRow client_bytes };
+
+    fn read(_version: u8, source: &'s [u8], at: usize) -> Option<(Self, usize)> {
+        read_row(source, at)
     }
 }

@@ -6,8 +6,8 @@ ghost use Rattle.kfs_call.specs.StateViews.{lease_shown};
 
 use crate::codec::lease_kind;
 use crate::state::LeaseRow;
-use kfs_entry::SpelledRow;
 use kfs_entry::codec::{number32, number64};
+use kfs_entry::{ReadRow, SpelledRow};
 use std::alloc::{AllocError, Allocator};
 
 #[tactic(auto, unfolding(crate::specs::StateReaders::lease_row_read))]
@@ -30,21 +30,12 @@ fn read_row(source: &[u8], at: usize) -> Option<(LeaseRow, usize)>
 }
 
 impl SpelledRow for LeaseRow {
-    ghost use Rattle.kfs_model.specs.Spelling.{Begins};
-    ghost use Rattle.kfs_call.specs.StateRows.{IsLeaseRow, lease_bytes};
+    ghost use Rattle.kfs_call.specs.StateRows.{lease_bytes};
     ghost use Rattle.kfs_call.specs.StateViews.{lease_shown};
 
     ghost spelling = { λ _ row. lease_bytes (lease_shown row) };
 
-    ghost fits = { λ _ _ row. IsLeaseRow (lease_shown row) };
-
     ghost can_write = { λ _ _. Unit {0} };
-
-    ghost begins = { λ _. Begins IsLeaseRow lease_bytes };
-
-    fn read(_version: u8, source: &[u8], at: usize) -> Option<(Self, usize)> {
-        read_row(source, at)
-    }
 
     fn write<A: Allocator>(&self, out: &mut Vec<u8, A>, source: &[u8]) -> Result<(), AllocError> {
         number32::write(out, source, &self.node)?;
@@ -56,5 +47,19 @@ impl SpelledRow for LeaseRow {
     #[tactic(auto, unfolding(kfs_model::specs::Spelling::number32, kfs_model::specs::Spelling::number64))]
     fn len(&self, _source: &[u8]) -> usize {
         16 + lease_kind::len(self.kind)
+    }
+}
+
+impl<'s> ReadRow<'s> for LeaseRow {
+    ghost use Rattle.kfs_model.specs.Spelling.{Begins};
+    ghost use Rattle.kfs_call.specs.StateRows.{IsLeaseRow, lease_bytes};
+    ghost use Rattle.kfs_call.specs.StateViews.{lease_shown};
+
+    ghost fits = { λ _ _ row. IsLeaseRow (lease_shown row) };
+
+    ghost begins = { λ _. Begins IsLeaseRow lease_bytes };
+
+    fn read(_version: u8, source: &'s [u8], at: usize) -> Option<(Self, usize)> {
+        read_row(source, at)
     }
 }

@@ -56,7 +56,7 @@ lands_verdict desk next judged reply room again answered = record {
 -- ---- what a submission comes to
 
 module _ {A : Type 0} (submission : Submission) where
-  comes_yes : (outcome : Outcome A) (log : _) (plan : _) (net : _) (blocks : ℕ) (t : State) → IsVerdict {A = A} t submission (outcomes.Yes log plan net blocks) → ComesTo t submission (Ok blocks)
+  comes_yes : (outcome : Outcome A (List ℕ)) (log : _) (plan : _) (net : _) (blocks : ℕ) (t : State) → IsVerdict {A = A} t submission (outcomes.Yes log plan net blocks) → ComesTo t submission (Ok blocks)
   comes_yes outcome log plan net blocks t is = by is.verdict is.judgement is.told
     where
       by : (verdict : Verdict) → IsJudgement t submission verdict → TellsVerdict t submission (outcomes.Yes log plan net blocks) verdict → ComesTo t submission (Ok blocks)
@@ -76,10 +76,10 @@ module _ {A : Type 0} (submission : Submission) where
           some e = cc
 
   -- what it comes to in one state, in each state of which the outcome is the verdict
-  abbrev Told : Outcome A → Type 0
+  abbrev Told : Outcome A (List ℕ) → Type 0
   Told outcome = (told : Result ℕ Fault) × ((t : State) → IsVerdict t submission outcome → ComesTo t submission told)
 
-  told_by : (s : State) (outcome : Outcome A) → IsVerdict s submission outcome → Told outcome
+  told_by : (s : State) (outcome : Outcome A (List ℕ)) → IsVerdict s submission outcome → Told outcome
   told_by s (outcomes.Yes log plan net blocks) here = (Ok blocks, comes_yes (outcomes.Yes log plan net blocks) log plan net blocks)
   told_by s (outcomes.No fault) here = by here.verdict here.told
     where
@@ -104,7 +104,7 @@ module _ {A : Type 0} (s : State) (in_order : IsInOrder s) (view : View A) (of :
         (subst (λ (sight : ClientSight). All (λ (read : Read × ReadAnswer). Contains (looked_cells is.client sight is.log.entries) (cell_of read.0)) reads) (seen submission.client) is.among);
   }
 
-  looked_by : (submission : Submission) (outcome : Outcome A) (reads : List (Read × ReadAnswer)) → AreLooked view submission outcome reads → (cells_of reads ≡ []) ⊎ AreLookedAt s submission (cells_of reads)
+  looked_by : (submission : Submission) (outcome : Outcome A (List ℕ)) (reads : List (Read × ReadAnswer)) → AreLooked view submission outcome reads → (cells_of reads ≡ []) ⊎ AreLookedAt s submission (cells_of reads)
   looked_by submission outcome reads is = by (stops_before outcome) refl
     where
       by : (stops : Bool) → stops_before outcome ≡ stops → (cells_of reads ≡ []) ⊎ AreLookedAt s submission (cells_of reads)

@@ -10,18 +10,27 @@ use Rattle.kfs_model.specs.Run.{byte_at, byte_of}
 use Rattle.kfs_model.specs.Table.{get}
 use Rattle.kfs_model.specs.Tree.{Tree, content_of}
 use Rattle.kfs_types.specs.Views.{entry_of, piece_of, IsWithin}
+use Rattle.kfs_types.specs.declared.entry.Entry.{Entry as CodeEntry}
+use Rattle.kfs_types.specs.declared.entry.Span.{Span}
+use Rattle.kfs_desk.specs.declared.fill.bytes.Entries.{Entries}
+use Rattle.kfs_desk.specs.declared.fill.bytes.Entries.TheVariants as kinds
 use Rattle.kfs_desk.specs.declared.fill.bytes.LogBytes.{LogBytes}
+
+-- the entries, however their names are held
+abbrev pub entries_in : Entries → List (CodeEntry Span (List ℕ))
+entries_in (kinds.Owned entries) = entries.now
+entries_in (kinds.Borrowed entries) = entries.now
 
 -- a log's entries, with the bytes of their payloads
 abbrev pub entries_of : LogBytes → List Entry
-entries_of log = map (entry_of log.source.now) log.entries.now
+entries_of log = map (entry_of log.source.now) (entries_in log.entries)
 
 abbrev pub pieces_of : LogBytes → List Piece
 pieces_of log = map piece_of log.pieces.now
 
 -- each payload lies in the source
 abbrev pub HasPayloads : LogBytes → Type 0
-HasPayloads log = AllByRecursion (IsWithin (length log.source.now)) log.entries.now
+HasPayloads log = AllByRecursion (IsWithin (length log.source.now)) (entries_in log.entries)
 
 -- these are the bytes of a file from position `start` on; behind its end they are 0
 abbrev pub AreBytesOf : Tree ℕ → (number start : ℕ) → List ℕ → Type 0

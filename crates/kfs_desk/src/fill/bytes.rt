@@ -8,34 +8,53 @@ ghost use Rattle.kfs_model.specs.Device.ShownTree.{shown_tree};
 ghost use Rattle.kfs_desk.specs.Fill.Fill.{block_after};
 
 use kfs_image::{Image, read_file};
-use kfs_types::{BLOCK_LEN, BLOCK_SIZE, Entry, Piece, Source, Span};
+use kfs_types::{BLOCK_LEN, BLOCK_SIZE, BorrowedEntry, Entry, Piece, Source, Span};
 use std::alloc::{AllocError, Allocator};
+
+/// A log's entries, by reference.
+#[derive(Clone, Copy)]
+pub enum Entries<'a, 's> {
+    /// With names of their own.
+    Owned(&'a [Entry<Span>]),
+    /// With names where they lie in the log's bytes.
+    Borrowed(&'a [BorrowedEntry<'s>]),
+}
 
 /// A log, and the pieces that say which bytes it changes.
 #[derive(Clone, Copy)]
-pub struct LogBytes<'a> {
+pub struct LogBytes<'a, 's> {
     /// The bytes that the log was read from.
     pub source: &'a [u8],
     /// The log's entries.
-    pub entries: &'a [Entry<Span>],
+    pub entries: Entries<'a, 's>,
     /// Its pieces, ascending by file number and position.
     pub pieces: &'a [Piece],
 }
 
+/// The payload of an entry in a list.
+macro_rules! payload_at {
+    ($log:ident, $entries:ident, $entry:ident) => {
+        match $entries.get(usize::from($entry)) {
+            Some(
+                Entry::Write {
+                    number: _,
+                    offset: _,
+                    payload,
+                },
+            ) => &$log.source[payload.start..payload.end],
+            _ => &[],
+        }
+    };
+}
+
 /// The payload of the entry with this index; empty where the entry isn't a Write, or there is none.
-fn payload<'a>(log: &LogBytes<'a>, entry: u16) -> &'a [u8]
+fn payload<'a>(log: &LogBytes<'a, '_>, entry: u16) -> &'a [u8]
     requires { HasPayloads log.now }
     ensures { result.now ≡ payload_of (slice_get (entries_of log.now) entry) }
 {
-    match log.entries.get(usize::from(entry)) {
-        Some(
-            Entry::Write {
-                number: _,
-                offset: _,
-                payload,
-            },
-        ) => &log.source[payload.start..payload.end],
-        _ => &[],
+    match log.entries {
+        Entries::Owned(entries) => payload_at!(log, entries, entry),
+        Entries::Borrowed(entries) => payload_at!(log, entries, entry),
     }
 }
 
@@ -56,7 +75,7 @@ fn put_bytes(bytes: &mut [u8], payload: &[u8])
 }
 
 /// Fills the bytes from a piece's source, from `distance` bytes behind the piece's start on.
-fn put_source(bytes: &mut [u8], log: &LogBytes<'_>, source: Source, distance: usize)
+fn put_source(bytes: &mut [u8], log: &LogBytes<'_, '_>, source: Source, distance: usize)
     requires { HasPayloads log.now }
     ensures { AreGivenBy (entries_of log.now) (source_of source) distance bytes.new }
 {
@@ -70,7 +89,7 @@ fn put_source(bytes: &mut [u8], log: &LogBytes<'_>, source: Source, distance: us
 }
 
 /// Lays a piece over the bytes, which are the file's from position `start` on.
-fn put_piece(bytes: &mut [u8], log: &LogBytes<'_>, piece: &Piece, number: u32, start: u64)
+fn put_piece(bytes: &mut [u8], log: &LogBytes<'_, '_>, piece: &Piece, number: u32, start: u64)
     requires { HasPayloads log.now }
     ensures { ArePut (entries_of log.now) (piece_of piece.now ∷ []) number start bytes.old bytes.new }
 {
@@ -91,7 +110,7 @@ fn put_piece(bytes: &mut [u8], log: &LogBytes<'_>, piece: &Piece, number: u32, s
 
 /// Lays the pieces over the bytes, which are the file's from position `start` on. A byte in several
 /// pieces is that of the first one.
-pub(crate) fn put_pieces(bytes: &mut [u8], log: &LogBytes<'_>, number: u32, start: u64)
+pub(crate) fn put_pieces(bytes: &mut [u8], log: &LogBytes<'_, '_>, number: u32, start: u64)
     requires { HasPayloads log.now }
     ensures { ArePut (entries_of log.now) (pieces_of log.now) number start bytes.old bytes.new }
 {
@@ -102,7 +121,11 @@ pub(crate) fn put_pieces(bytes: &mut [u8], log: &LogBytes<'_>, number: u32, star
 
 /// The bytes of the block that begins at position `start` of the file, where one piece of a payload
 /// covers it. What stood there doesn't matter then.
-pub(crate) fn covering_bytes<'a>(log: &LogBytes<'a>, number: u32, start: u64) -> Option<&'a [u8]>
+pub(crate) fn covering_bytes<'a>(
+    log: &LogBytes<'a, '_>,
+    number: u32,
+    start: u64,
+) -> Option<&'a [u8]>
     requires { HasPayloads log.now }
     ensures whole { IfSome result (λ bytes. length bytes.now ≡ block_size) }
     ensures put { IfSome result (λ bytes. ArePutOnAny (entries_of log.now) (pieces_of log.now) number start bytes.now) }
@@ -129,7 +152,7 @@ fn covers_block(piece: &Piece, number: u32, start: u64) -> bool
 
 /// A block's bytes of a source, from `distance` bytes behind its piece's start on, if they are all of
 /// one payload.
-fn block_of<'a>(log: &LogBytes<'a>, source: Source, distance: usize) -> Option<&'a [u8]>
+fn block_of<'a>(log: &LogBytes<'a, '_>, source: Source, distance: usize) -> Option<&'a [u8]>
     requires { HasPayloads log.now }
     ensures whole { IfSome result (λ bytes. length bytes.now ≡ block_size) }
     ensures given { IfSome result (λ bytes. AreGivenBy (entries_of log.now) (source_of source) distance bytes.now) }
@@ -232,7 +255,7 @@ fn copy_into<A: Allocator>(memory: Vec<u8, A>, from: &[u8]) -> Result<Vec<u8, A>
 pub(crate) fn block_bytes<A: Allocator>(
     memory: Vec<u8, A>,
     image: &Image<A>,
-    log: &LogBytes<'_>,
+    log: &LogBytes<'_, '_>,
     number: u32,
     block: u32,
 ) -> Result<Vec<u8, A>, AllocError>
@@ -256,7 +279,7 @@ pub(crate) fn block_bytes<A: Allocator>(
 fn patched_bytes<A: Allocator>(
     memory: Vec<u8, A>,
     image: &Image<A>,
-    log: &LogBytes<'_>,
+    log: &LogBytes<'_, '_>,
     number: u32,
     block: u32,
 ) -> Result<Vec<u8, A>, AllocError>

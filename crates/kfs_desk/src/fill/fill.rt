@@ -118,7 +118,7 @@ fn file_blocks<A: Allocator + Copy>(
 pub(crate) fn fill_of<A: Allocator + Copy>(
     alloc: A,
     image: &Image<A>,
-    log: &LogBytes<'_>,
+    log: &LogBytes<'_, '_>,
     nodes: &NodeChanges<'_, A>,
     spares: &mut Vec<Vec<u8, A>, A>,
 ) -> Result<Fill<A>, AllocError>
@@ -145,7 +145,7 @@ pub(crate) fn fill_of<A: Allocator + Copy>(
 pub fn land_bytes<A: Allocator + Copy>(
     alloc: A,
     image: &mut Image<A>,
-    log: &LogBytes<'_>,
+    log: &LogBytes<'_, '_>,
     net: &Net<A>,
 ) -> Result<(), AllocError>
     requires payloads { HasPayloads log.now }

@@ -4,20 +4,11 @@ ghost use Rattle.kfs_types.specs.Views.{entry_of, IsWithin};
 ghost use Rattle.kfs_model.proofs.Reading.{tagged_read, entry_read};
 ghost use Rattle.kfs_entry.specs.Codec.Reading.{seen};
 
-use crate::codec::row::SpelledRow;
+use crate::codec::row::{ReadRow, SpelledRow};
 use crate::codec::{byte, group, kind, mode, name, number32, number64, payload};
 use crate::entry_table;
-use kfs_types::{Entry, Span};
+use kfs_types::{BorrowedName, Entry, Name, Span};
 use std::alloc::{AllocError, Allocator};
-
-/// The tags of the entries without names, as in the table. Only the speed depends on these.
-const WRITE: u8 = 2;
-
-const TRUNCATE: u8 = 3;
-
-const CHMOD: u8 = 7;
-
-const REGROUP: u8 = 8;
 
 /// Reads an entry's field. The range of a mode depends on the log's version, and whether there are
 /// groups.
@@ -64,10 +55,29 @@ macro_rules! len_case {
     };
 }
 
+#[tactic(auto, unfolding(kfs_model::proofs::Reading::entry_read))]
+fn read_entry(
+    version: u8,
+    source: &[u8],
+    at: usize,
+) -> Option<(Entry<Span, BorrowedName<'_>>, usize)>
+    requires { at ≤ length source.now }
+    ensures value { seen (entry_of source.now) source.now result ≡ entry_read version (drop at source.now) }
+    ensures within { IfSome result (λ x. IsWithin (length source.now) x.0 × (x.1 ≤ length source.now)) }
+{
+    let (tag, at) = byte::read(source, at)?;
+    read_fields(version, tag, source, at)
+}
+
 /// The entry with this tag, of a log of this version, whose fields are at position `at`, and the
 /// position after it.
 #[inline(always)]
-fn read_fields(version: u8, tag: u8, source: &[u8], at: usize) -> Option<(Entry<Span>, usize)>
+fn read_fields(
+    version: u8,
+    tag: u8,
+    source: &[u8],
+    at: usize,
+) -> Option<(Entry<Span, BorrowedName<'_>>, usize)>
     requires { at ≤ length source.now }
     ensures value { seen (entry_of source.now) source.now result ≡ tagged_read version tag (drop at source.now) }
     ensures within { IfSome result (λ x. IsWithin (length source.now) x.0 × (x.1 ≤ length source.now)) }
@@ -75,60 +85,15 @@ fn read_fields(version: u8, tag: u8, source: &[u8], at: usize) -> Option<(Entry<
     entry_table!(read_case(version, tag, source, at))
 }
 
-/// The same, as a call of its own.
-#[inline(never)]
-fn read_fields_apart(version: u8, tag: u8, source: &[u8], at: usize) -> Option<(Entry<Span>, usize)>
-    requires { at ≤ length source.now }
-    ensures value { seen (entry_of source.now) source.now result ≡ tagged_read version tag (drop at source.now) }
-    ensures within { IfSome result (λ x. IsWithin (length source.now) x.0 × (x.1 ≤ length source.now)) }
-{
-    read_fields(version, tag, source, at)
-}
-
-// A function's frame is cleared at each call, and names are long. So an entry without a name is read in
-// a function whose frame holds none.
-#[tactic(auto, unfolding(kfs_model::proofs::Reading::entry_read))]
-fn read_entry(version: u8, source: &[u8], at: usize) -> Option<(Entry<Span>, usize)>
-    requires { at ≤ length source.now }
-    ensures value { seen (entry_of source.now) source.now result ≡ entry_read version (drop at source.now) }
-    ensures within { IfSome result (λ x. IsWithin (length source.now) x.0 × (x.1 ≤ length source.now)) }
-{
-    let (tag, at) = byte::read(source, at)?;
-    match tag {
-        WRITE => read_fields(version, WRITE, source, at),
-        TRUNCATE => read_fields(version, TRUNCATE, source, at),
-        CHMOD => {
-            let (number, at) = number32::read(source, at)?;
-            let (mode, at) = mode::read(version, source, at)?;
-            Some((Entry::Chmod { number, mode }, at))
-        }
-        REGROUP => {
-            let (number, at) = number32::read(source, at)?;
-            let (group, at) = group::read(version, source, at)?;
-            Some((Entry::Regroup { number, group }, at))
-        }
-        _ => read_fields_apart(version, tag, source, at),
-    }
-}
-
-impl SpelledRow for Entry<Span> {
+impl<'s> SpelledRow for Entry<Span, BorrowedName<'s>> {
     ghost use Rattle.std.specs.Prelude.{length};
     ghost use Rattle.kfs_model.specs.Limits.{latest_version};
     ghost use Rattle.kfs_model.specs.Spelling.{IsEntry, entry_bytes};
     ghost use Rattle.kfs_types.specs.Views.{entry_of, IsWithin};
-    ghost use Rattle.kfs_model.specs.Spelling.{Begins};
 
     ghost spelling = { λ source entry. entry_bytes (entry_of source entry) };
 
-    ghost fits = { λ version source entry. IsWithin (length source) entry × IsEntry version (entry_of source entry) };
-
     ghost can_write = { λ source entry. IsWithin (length source) entry × IsEntry latest_version (entry_of source entry) };
-
-    ghost begins = { λ version. Begins (IsEntry version) entry_bytes };
-
-    fn read(version: u8, source: &[u8], at: usize) -> Option<(Self, usize)> {
-        read_entry(version, source, at)
-    }
 
     fn write<A: Allocator>(&self, out: &mut Vec<u8, A>, source: &[u8]) -> Result<(), AllocError> {
         entry_table!(write_case(out, source, self));
@@ -138,5 +103,55 @@ impl SpelledRow for Entry<Span> {
     #[tactic(auto, unfolding(kfs_model::specs::Spelling::number16, kfs_model::specs::Spelling::number32, kfs_model::specs::Spelling::number64))]
     fn len(&self, source: &[u8]) -> usize {
         entry_table!(len_case(source, self))
+    }
+}
+
+impl<'s> ReadRow<'s> for Entry<Span, BorrowedName<'s>> {
+    ghost use Rattle.std.specs.Prelude.{length};
+    ghost use Rattle.kfs_model.specs.Spelling.{IsEntry, entry_bytes};
+    ghost use Rattle.kfs_types.specs.Views.{entry_of, IsWithin};
+    ghost use Rattle.kfs_model.specs.Spelling.{Begins};
+
+    ghost fits = { λ version source entry. IsWithin (length source) entry × IsEntry version (entry_of source entry) };
+
+    ghost begins = { λ version. Begins (IsEntry version) entry_bytes };
+
+    fn read(version: u8, source: &'s [u8], at: usize) -> Option<(Self, usize)> {
+        read_entry(version, source, at)
+    }
+}
+
+impl SpelledRow for Entry<Span, Name> {
+    ghost use Rattle.std.specs.Prelude.{length};
+    ghost use Rattle.kfs_model.specs.Limits.{latest_version};
+    ghost use Rattle.kfs_model.specs.Spelling.{IsEntry, entry_bytes};
+    ghost use Rattle.kfs_types.specs.Views.{entry_of, IsWithin};
+
+    ghost spelling = { λ source entry. entry_bytes (entry_of source entry) };
+
+    ghost can_write = { λ source entry. IsWithin (length source) entry × IsEntry latest_version (entry_of source entry) };
+
+    fn write<A: Allocator>(&self, out: &mut Vec<u8, A>, source: &[u8]) -> Result<(), AllocError> {
+        self.borrowed().write(out, source)
+    }
+
+    fn len(&self, source: &[u8]) -> usize {
+        self.borrowed().len(source)
+    }
+}
+
+impl<'s> ReadRow<'s> for Entry<Span, Name> {
+    ghost use Rattle.std.specs.Prelude.{length};
+    ghost use Rattle.kfs_model.specs.Spelling.{IsEntry, entry_bytes};
+    ghost use Rattle.kfs_types.specs.Views.{entry_of, IsWithin};
+    ghost use Rattle.kfs_model.specs.Spelling.{Begins};
+
+    ghost fits = { λ version source entry. IsWithin (length source) entry × IsEntry version (entry_of source entry) };
+
+    ghost begins = { λ version. Begins (IsEntry version) entry_bytes };
+
+    fn read(version: u8, source: &'s [u8], at: usize) -> Option<(Self, usize)> {
+        let (entry, at) = Entry::<Span, BorrowedName<'s>>::read(version, source, at)?;
+        Some((entry.owned(), at))
     }
 }

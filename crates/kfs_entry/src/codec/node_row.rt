@@ -5,7 +5,7 @@ ghost use Rattle.kfs_types.specs.Views.{node_row_of};
 ghost use Rattle.kfs_model.proofs.Reading.{node_row_read};
 ghost use Rattle.kfs_entry.specs.Codec.Reading.{seen};
 
-use crate::codec::row::SpelledRow;
+use crate::codec::row::{ReadRow, SpelledRow};
 use crate::codec::{header, number32};
 use kfs_types::NodeRow;
 use std::alloc::{AllocError, Allocator};
@@ -22,21 +22,12 @@ fn read_row(source: &[u8], at: usize) -> Option<(NodeRow, usize)>
 }
 
 impl SpelledRow for NodeRow {
-    ghost use Rattle.kfs_model.specs.Spelling.{IsNodeRow, node_row_bytes};
+    ghost use Rattle.kfs_model.specs.Spelling.{node_row_bytes};
     ghost use Rattle.kfs_types.specs.Views.{node_row_of};
-    ghost use Rattle.kfs_model.specs.Spelling.{Begins};
 
     ghost spelling = { λ _ row. node_row_bytes (node_row_of row) };
 
-    ghost fits = { λ _ _ row. IsNodeRow (node_row_of row) };
-
     ghost can_write = { λ _ _. Unit {0} };
-
-    ghost begins = { λ _. Begins IsNodeRow node_row_bytes };
-
-    fn read(_version: u8, source: &[u8], at: usize) -> Option<(Self, usize)> {
-        read_row(source, at)
-    }
 
     fn write<A: Allocator>(&self, out: &mut Vec<u8, A>, source: &[u8]) -> Result<(), AllocError> {
         number32::write(out, source, &self.number)?;
@@ -46,5 +37,19 @@ impl SpelledRow for NodeRow {
     #[tactic(auto, unfolding(kfs_model::specs::Spelling::number16, kfs_model::specs::Spelling::number32, kfs_model::specs::Spelling::number64))]
     fn len(&self, source: &[u8]) -> usize {
         4 + header::len(source, &self.now)
+    }
+}
+
+impl<'s> ReadRow<'s> for NodeRow {
+    ghost use Rattle.kfs_model.specs.Spelling.{IsNodeRow, node_row_bytes};
+    ghost use Rattle.kfs_types.specs.Views.{node_row_of};
+    ghost use Rattle.kfs_model.specs.Spelling.{Begins};
+
+    ghost fits = { λ _ _ row. IsNodeRow (node_row_of row) };
+
+    ghost begins = { λ _. Begins IsNodeRow node_row_bytes };
+
+    fn read(_version: u8, source: &'s [u8], at: usize) -> Option<(Self, usize)> {
+        read_row(source, at)
     }
 }

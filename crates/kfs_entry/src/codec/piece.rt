@@ -5,7 +5,7 @@ ghost use Rattle.kfs_types.specs.Views.{source_of, piece_of};
 ghost use Rattle.kfs_model.proofs.Reading.{source_read, piece_read};
 ghost use Rattle.kfs_entry.specs.Codec.Reading.{seen};
 
-use crate::codec::row::SpelledRow;
+use crate::codec::row::{ReadRow, SpelledRow};
 use crate::codec::{byte, number16, number32, number64};
 use kfs_types::{Piece, Source};
 use std::alloc::{AllocError, Allocator};
@@ -65,21 +65,12 @@ fn read_piece(source: &[u8], at: usize) -> Option<(Piece, usize)>
 }
 
 impl SpelledRow for Piece {
-    ghost use Rattle.kfs_model.specs.Spelling.{IsPiece, piece_bytes};
+    ghost use Rattle.kfs_model.specs.Spelling.{piece_bytes};
     ghost use Rattle.kfs_types.specs.Views.{piece_of};
-    ghost use Rattle.kfs_model.specs.Spelling.{Begins};
 
     ghost spelling = { λ _ piece. piece_bytes (piece_of piece) };
 
-    ghost fits = { λ _ _ piece. IsPiece (piece_of piece) };
-
     ghost can_write = { λ _ _. Unit {0} };
-
-    ghost begins = { λ _. Begins IsPiece piece_bytes };
-
-    fn read(_version: u8, source: &[u8], at: usize) -> Option<(Self, usize)> {
-        read_piece(source, at)
-    }
 
     fn write<A: Allocator>(&self, out: &mut Vec<u8, A>, source: &[u8]) -> Result<(), AllocError> {
         number32::write(out, source, &self.number)?;
@@ -94,5 +85,19 @@ impl SpelledRow for Piece {
             Source::Zero => 21,
             Source::Payload { .. } => 27,
         }
+    }
+}
+
+impl<'s> ReadRow<'s> for Piece {
+    ghost use Rattle.kfs_model.specs.Spelling.{IsPiece, piece_bytes};
+    ghost use Rattle.kfs_types.specs.Views.{piece_of};
+    ghost use Rattle.kfs_model.specs.Spelling.{Begins};
+
+    ghost fits = { λ _ _ piece. IsPiece (piece_of piece) };
+
+    ghost begins = { λ _. Begins IsPiece piece_bytes };
+
+    fn read(_version: u8, source: &'s [u8], at: usize) -> Option<(Self, usize)> {
+        read_piece(source, at)
     }
 }

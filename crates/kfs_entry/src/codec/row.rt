@@ -6,29 +6,16 @@ ghost use Rattle.kfs_entry.specs.Codec.RowList.{AreRead, RowMissing};
 
 use std::alloc::{AllocError, AllocFailed, Allocator};
 
-/// A row of a format. The source is the bytes that the row's spans point into.
+/// A row of a format that can be written. The source is the bytes that the row's spans point into.
 pub trait SpelledRow: Drop {
     ghost use Rattle.std.specs.Prelude.{ℕ, List};
 
     /// The bytes that encode the row.
     ghost spelling: { List ℕ → Self → List ℕ };
 
-    /// The row has an encoding in this version of its format, and its spans lie in the source.
-    ghost fits: { ℕ → List ℕ → Self → Type 0 };
-
     /// What `write` requires of a row. It is nothing where any value of the fields' types can be
     /// written.
     ghost can_write: { List ℕ → Self → Type 0 };
-
-    /// The bytes begin with a row of this version.
-    ghost begins: { ℕ → List ℕ → Type 0 };
-
-    /// The row of this version at position `at`, and the position after it; none where no such row
-    /// stands there.
-    fn read(version: u8, source: &[u8], at: usize) -> Option<(Self, usize)>
-        requires { at ≤ length source.now }
-        ensures found { IfSome result (λ x. fits version source.now x.0 × StandsIn source.now at x.1 (spelling source.now x.0)) }
-        ensures none { IfNone result (begins version (drop at source.now) → ⊥) };
 
     /// Appends the row's bytes. `Err` where memory runs out.
     fn write<A: Allocator>(&self, out: &mut Vec<u8, A>, source: &[u8]) -> Result<(), AllocError>
@@ -39,6 +26,24 @@ pub trait SpelledRow: Drop {
     fn len(&self, source: &[u8]) -> usize
         requires { can_write source.now self.now }
         ensures { result ≡ length (spelling source.now self.now) };
+}
+
+/// A row of a format that can be read. Its borrowed names lie in the source.
+pub trait ReadRow<'s>: SpelledRow {
+    ghost use Rattle.std.specs.Prelude.{ℕ, List};
+
+    /// The row has an encoding in this version of its format, and its spans lie in the source.
+    ghost fits: { ℕ → List ℕ → Self → Type 0 };
+
+    /// The bytes begin with a row of this version.
+    ghost begins: { ℕ → List ℕ → Type 0 };
+
+    /// The row of this version at position `at`, and the position after it; none where no such row
+    /// stands there.
+    fn read(version: u8, source: &'s [u8], at: usize) -> Option<(Self, usize)>
+        requires { at ≤ length source.now }
+        ensures found { IfSome result (λ x. fits version source.now x.0 × StandsIn source.now at x.1 (Self.spelling source.now x.0)) }
+        ensures none { IfNone result (begins version (drop at source.now) → ⊥) };
 }
 
 /// Why rows were not read.
@@ -75,10 +80,10 @@ impl<T: Drop> From<AllocFailed<T>> for RowsFault {
 /// Reads `count` rows of this version from position `at` on, and answers them with the position after
 /// the last. The list grows as rows are read: `count` comes from the input and reserves nothing. Behind
 /// the first row there is room for four at most, and for no more than the count.
-pub fn read_rows<R: SpelledRow, A: Allocator>(
+pub fn read_rows<'s, R: ReadRow<'s>, A: Allocator>(
     alloc: A,
     version: u8,
-    source: &[u8],
+    source: &'s [u8],
     at: usize,
     count: u32,
 ) -> Result<(Vec<R, A>, usize), RowsFault>

@@ -24,20 +24,20 @@ abbrev pub Fit : List ℕ → SpannedExtent → Type 0
 Fit source row = IsInSource (length source) row × IsExtentRow (extent_in source row)
 
 -- the raw image of a header and the rows behind it
-abbrev pub image_from : ImageHeader → List ℕ → List RawNode → List NameRow → List SpannedExtent → RawImage
+abbrev pub image_from : ImageHeader → List ℕ → List RawNode → List (NameRow (List ℕ)) → List SpannedExtent → RawImage
 image_from h source nodes names extents = record { version = h.version; sizes = h.sizes; nodes = map raw_node_of nodes; names = map name_row_of names; extents = map (extent_in source) extents }
 
 abbrev pub NodesAreRead : List ℕ → (at count : ℕ) → List RawNode → (end : ℕ) → Type 0
 NodesAreRead source at count nodes end = AreRead (λ r. IsRawNode (raw_node_of r)) (λ r. raw_node_bytes (raw_node_of r)) source at count nodes end
 
-abbrev pub NamesAreRead : List ℕ → (at count : ℕ) → List NameRow → (end : ℕ) → Type 0
+abbrev pub NamesAreRead : List ℕ → (at count : ℕ) → List (NameRow (List ℕ)) → (end : ℕ) → Type 0
 NamesAreRead source at count names end = AreRead (λ r. IsNameRow (name_row_of r)) (λ r. name_row_bytes (name_row_of r)) source at count names end
 
 abbrev pub ExtentsAreRead : List ℕ → (at count : ℕ) → List SpannedExtent → (end : ℕ) → Type 0
 ExtentsAreRead source at count extents end = AreRead (Fit source) (λ r. extent_bytes (extent_in source r)) source at count extents end
 
 module _ (source : List ℕ) (h : ImageHeader) (fits : IsImageHeader h) (at : ℕ) (front : source ≡ image_header h ++ drop at source) where
-  pub image_was_read : (b d end : ℕ) (nodes : List RawNode) (names : List NameRow) (extents : List SpannedExtent)
+  pub image_was_read : (b d end : ℕ) (nodes : List RawNode) (names : List (NameRow (List ℕ))) (extents : List SpannedExtent)
       → NodesAreRead source at h.nodes nodes b → NamesAreRead source b h.names names d → ExtentsAreRead source d h.extents extents end
       → IsRawImage (image_from h source nodes names extents) × (source ≡ raw_image_bytes (image_from h source nodes names extents) ++ drop end source)
   image_was_read b d end nodes names extents nodes_read names_read extents_read =
@@ -68,7 +68,7 @@ module _ (source : List ℕ) (h : ImageHeader) (fits : IsImageHeader h) (at : �
       let stand = stand_from raw_node_of (λ r. IsRawNode (raw_node_of r)) IsRawNode raw_node_bytes (λ r f. f) nodes h.nodes (drop at source) (drop b source) nodes_read.number nodes_read.are in
       part_is_missing name_row_of (λ r. IsNameRow (name_row_of r)) IsNameRow name_row_bytes (λ r f. f) 1 earlier h.names (drop b source) fault before (λ k stop. (drop b source, stand, stop)) missing
 
-  pub extent_is_missing : (b d earlier : ℕ) (nodes : List RawNode) (names : List NameRow) (fault : ImageFault) → earlier ≡ h.nodes + h.names → NodesAreRead source at h.nodes nodes b → NamesAreRead source b h.names names d
+  pub extent_is_missing : (b d earlier : ℕ) (nodes : List RawNode) (names : List (NameRow (List ℕ))) (fault : ImageFault) → earlier ≡ h.nodes + h.names → NodesAreRead source at h.nodes nodes b → NamesAreRead source b h.names names d
       → ImageRowMissing (Fit source) (λ r. extent_bytes (extent_in source r)) (Begins IsExtentRow extent_bytes) earlier h.extents (drop d source) fault
       → OnImageRefusal (ImageAnswer source) fault
   extent_is_missing b d earlier nodes names fault before nodes_read names_read missing =

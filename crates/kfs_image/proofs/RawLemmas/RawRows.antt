@@ -134,7 +134,7 @@ first_none : (raw : RawImage) → IsWellFormed raw → least_failed (rule_1 raw)
 unfolding finding_of
 first_none raw well_formed = none_of_first raw well_formed
 
-name_entries_are : (rows : List NameRow) → name_entries rows ≡ map keyed_name (map name_row_of rows)
+name_entries_are : (rows : List (NameRow (List ℕ))) → name_entries rows ≡ map keyed_name (map name_row_of rows)
 name_entries_are [] = refl
 name_entries_are (row ∷ rows) = ap (λ es. ((row.dir, row.name), row.number) ∷ es) (name_entries_are rows)
 

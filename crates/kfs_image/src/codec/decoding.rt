@@ -10,15 +10,15 @@ use crate::codec::extent::{SpannedExtent, copies};
 use crate::codec::fault::ImageFault;
 use crate::codec::header;
 use crate::codec::raw::{RawImage, RawNode};
-use kfs_entry::{RowsFault, SpelledRow, read_rows};
+use kfs_entry::{ReadRow, RowsFault, read_rows};
 use kfs_types::NameRow;
 use std::alloc::Allocator;
 
 /// Reads the rows of one part of an image of this version. The parts before it have `earlier` rows.
-fn part<R: SpelledRow, A: Allocator>(
+fn part<'s, R: ReadRow<'s>, A: Allocator>(
     alloc: A,
     version: u8,
-    source: &[u8],
+    source: &'s [u8],
     at: usize,
     count: u32,
     earlier: u64,

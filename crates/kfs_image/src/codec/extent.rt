@@ -8,8 +8,8 @@ ghost use Rattle.kfs_image.specs.Codec.Extents.{extent_in, IsInSource};
 
 use crate::codec::limited;
 use crate::codec::raw::{Extent, ExtentRow};
-use kfs_entry::SpelledRow;
 use kfs_entry::codec::{byte, bytes, number32};
+use kfs_entry::{ReadRow, SpelledRow};
 use kfs_types::{BLOCK_LEN, Span, TIER_LIMIT};
 use std::alloc::{AllocError, Allocator};
 
@@ -70,21 +70,12 @@ fn read_row(source: &[u8], at: usize) -> Option<(SpannedExtent, usize)>
 
 impl SpelledRow for SpannedExtent {
     ghost use Rattle.std.specs.Prelude.{length};
-    ghost use Rattle.kfs_model.specs.Spelling.{Begins};
-    ghost use Rattle.kfs_model.specs.Device.Spelling.{IsExtentRow, extent_bytes};
+    ghost use Rattle.kfs_model.specs.Device.Spelling.{extent_bytes};
     ghost use Rattle.kfs_image.specs.Codec.Extents.{extent_in, IsInSource};
 
     ghost spelling = { λ source row. extent_bytes (extent_in source row) };
 
-    ghost fits = { λ _ source row. IsInSource (length source) row × IsExtentRow (extent_in source row) };
-
     ghost can_write = { λ source row. IsInSource (length source) row };
-
-    ghost begins = { λ _. Begins IsExtentRow extent_bytes };
-
-    fn read(_version: u8, source: &[u8], at: usize) -> Option<(Self, usize)> {
-        read_row(source, at)
-    }
 
     fn write<A: Allocator>(&self, out: &mut Vec<u8, A>, source: &[u8]) -> Result<(), AllocError> {
         number32::write(out, source, &self.number)?;
@@ -98,6 +89,21 @@ impl SpelledRow for SpannedExtent {
     #[tactic(auto, unfolding(kfs_model::specs::Spelling::number32))]
     fn len(&self, source: &[u8]) -> usize {
         17 + source[self.bytes.start..self.bytes.end].len()
+    }
+}
+
+impl<'s> ReadRow<'s> for SpannedExtent {
+    ghost use Rattle.std.specs.Prelude.{length};
+    ghost use Rattle.kfs_model.specs.Spelling.{Begins};
+    ghost use Rattle.kfs_model.specs.Device.Spelling.{IsExtentRow, extent_bytes};
+    ghost use Rattle.kfs_image.specs.Codec.Extents.{extent_in, IsInSource};
+
+    ghost fits = { λ _ source row. IsInSource (length source) row × IsExtentRow (extent_in source row) };
+
+    ghost begins = { λ _. Begins IsExtentRow extent_bytes };
+
+    fn read(_version: u8, source: &'s [u8], at: usize) -> Option<(Self, usize)> {
+        read_row(source, at)
     }
 }
 

@@ -6,8 +6,8 @@ ghost use Rattle.kfs_entry.specs.Codec.Reading.{seen};
 ghost use Rattle.kfs_image.specs.Codec.RawImages.{raw_node_of};
 
 use crate::codec::raw::RawNode;
-use kfs_entry::SpelledRow;
 use kfs_entry::codec::{kind, number16, number32, number64};
+use kfs_entry::{ReadRow, SpelledRow};
 use kfs_types::Header;
 use std::alloc::{AllocError, Allocator};
 
@@ -36,21 +36,12 @@ fn read_row(source: &[u8], at: usize) -> Option<(RawNode, usize)>
 }
 
 impl SpelledRow for RawNode {
-    ghost use Rattle.kfs_model.specs.Spelling.{Begins};
-    ghost use Rattle.kfs_model.specs.Device.Spelling.{IsRawNode, raw_node_bytes};
+    ghost use Rattle.kfs_model.specs.Device.Spelling.{raw_node_bytes};
     ghost use Rattle.kfs_image.specs.Codec.RawImages.{raw_node_of};
 
     ghost spelling = { λ _ row. raw_node_bytes (raw_node_of row) };
 
-    ghost fits = { λ _ _ row. IsRawNode (raw_node_of row) };
-
     ghost can_write = { λ _ _. Unit {0} };
-
-    ghost begins = { λ _. Begins IsRawNode raw_node_bytes };
-
-    fn read(_version: u8, source: &[u8], at: usize) -> Option<(Self, usize)> {
-        read_row(source, at)
-    }
 
     fn write<A: Allocator>(&self, out: &mut Vec<u8, A>, source: &[u8]) -> Result<(), AllocError> {
         number32::write(out, source, &self.number)?;
@@ -65,5 +56,19 @@ impl SpelledRow for RawNode {
     #[tactic(auto, unfolding(kfs_model::specs::Spelling::number16, kfs_model::specs::Spelling::number32, kfs_model::specs::Spelling::number64))]
     fn len(&self, source: &[u8]) -> usize {
         24 + kind::len(source, &self.header.kind)
+    }
+}
+
+impl<'s> ReadRow<'s> for RawNode {
+    ghost use Rattle.kfs_model.specs.Spelling.{Begins};
+    ghost use Rattle.kfs_model.specs.Device.Spelling.{IsRawNode, raw_node_bytes};
+    ghost use Rattle.kfs_image.specs.Codec.RawImages.{raw_node_of};
+
+    ghost fits = { λ _ _ row. IsRawNode (raw_node_of row) };
+
+    ghost begins = { λ _. Begins IsRawNode raw_node_bytes };
+
+    fn read(_version: u8, source: &'s [u8], at: usize) -> Option<(Self, usize)> {
+        read_row(source, at)
     }
 }

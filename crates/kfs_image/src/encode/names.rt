@@ -59,7 +59,7 @@ fn count_run(names: &[NameEntry], earlier: Rows) -> Result<Rows, AllocError>
 {
     let mut rows = earlier;
     for ((_, name), _) in names {
-        rows = rows.and_one(LEN + name::len(&[], name))?;
+        rows = rows.and_one(LEN + name::len(&[], &name.borrowed()))?;
     }
     Ok(rows)
 }
@@ -99,6 +99,6 @@ fn write_name<B: Allocator>(
     ensures { OnOk result (out.new.items ≡ out.old.items ++ name_spelling ((dir, name.now), number)) }
 {
     number32::write(out, &[], &dir)?;
-    name::write(out, &[], name)?;
+    name::write(out, &[], &name.borrowed())?;
     number32::write(out, &[], &number)
 }

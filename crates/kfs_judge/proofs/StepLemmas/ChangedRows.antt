@@ -188,7 +188,7 @@ module _ {K X : Type 0} (R : Order K) where
 -- ---- what a draft's maps show
 
 module _ {A : Type 0} (draft : Draft A) (s : Sight) where
-  pub names-differ : IsStrictlySortedBy name_order.compare (map (λ e. e.0) (entries_of draft.names)) → (rows : List CodeNameRow) → map keyed_name_row rows ≡ changed_rows nat_eq number_now (λ key. s.name key.0 key.1) (entries_of draft.names) → AreNamesOf s (over draft s) rows
+  pub names-differ : IsStrictlySortedBy name_order.compare (map (λ e. e.0) (entries_of draft.names)) → (rows : List (CodeNameRow (List ℕ))) → map keyed_name_row rows ≡ changed_rows nat_eq number_now (λ key. s.name key.0 key.1) (entries_of draft.names) → AreNamesOf s (over draft s) rows
   names-differ ordered rows is =
       let differ = changed-differences nat_eq numbers-exact number_now (λ key. s.name key.0 key.1) name_order (entries_of draft.names) (sorted-entries name_order (entries_of draft.names) ordered) in
       let shown : (key : ℕ × List ℕ) → unwrap_or (find name_order.compare key (entries_of draft.names)) (s.name key.0 key.1) ≡ (over draft s).name key.0 key.1 = λ key. ap (λ f. unwrap_or f (s.name key.0 key.1)) (sym (find-lookup name_order key (entries_of draft.names))) in

@@ -15,7 +15,7 @@ span_length : (source : List ℕ) (span : Span) → span.end ≤ length source �
 span_length source span within = length-take-le (span.end - span.start) (drop span.start source) (omega (arith, length-drop span.start source))
 
 -- what is so of any bytes of a length is so of a payload that is as long
-pub of_payload : {A : Type 0} (old new : LogJudge A) (n offset : ℕ) (span : Span) (len : ℕ) (answer : Result (Option Reason) AllocError) (source : List ℕ) (e : CodeEntry Span)
+pub of_payload : {A : Type 0} (old new : LogJudge A) (n offset : ℕ) (span : Span) (len : ℕ) (answer : Result (Option Reason) AllocError) (source : List ℕ) (e : CodeEntry Span (List ℕ))
     → ((p : List ℕ) → length p ≡ len → IsEntered old new (Write n offset p) answer) → len ≡ span.end - span.start → IsWithin (length source) e → e ≡ entries.Write n offset span → IsEntered old new (entry_of source e) answer
 of_payload old new n offset span len answer source e told long within is =
     let inside = subst (IsWithin (length source)) is within in

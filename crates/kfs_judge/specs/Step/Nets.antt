@@ -1,5 +1,5 @@
 -- The net change of entries.
-use Rattle.std.specs.Prelude.{List, map, Result, IfOk, OnOk}
+use Rattle.std.specs.Prelude.{ℕ, List, map, Result, IfOk, OnOk}
 use Rattle.kfs_model.specs.Table.{numbers}
 use Rattle.kfs_model.specs.Tree.{name_order}
 use Rattle.kfs_model.specs.Sight.{Cell, ClientSight, Sight}
@@ -14,7 +14,7 @@ use Rattle.kfs_types.specs.declared.plan.NodeRow.{NodeRow as CodeNodeRow}
 use Rattle.kfs_image_nodes.specs.declared.net.Net.{Net}
 
 -- the rows are exactly the names that differ; below, the same for headers
-abbrev pub AreNamesOf : Sight → Sight → List CodeNameRow → Type 0
+abbrev pub AreNamesOf : Sight → Sight → List (CodeNameRow (List ℕ)) → Type 0
 AreNamesOf before after rows = AreDifferences name_order number_now (λ key. before.name key.0 key.1) (λ key. after.name key.0 key.1) (map keyed_name_row rows)
 
 abbrev pub AreNodesOf : Sight → Sight → List CodeNodeRow → Type 0

@@ -11,14 +11,14 @@ use Rattle.kfs_types.specs.declared.plan.NodeRow.{NodeRow as CodeNodeRow}
 abbrev pub IsRow : {K X Y Z : Type 0} → (now : Option X → Y) → (shown : Z → K × Y) → (key : K) → (before there : Option X) → Option Z → Type 0
 IsRow now shown key before there row = MatchOption row (before ≡ there) (λ r. (before ≢ there) × (shown r ≡ (key, now there)))
 
-abbrev pub keyed_name_row : CodeNameRow → (ℕ × List ℕ) × ℕ
+abbrev pub keyed_name_row : CodeNameRow (List ℕ) → (ℕ × List ℕ) × ℕ
 keyed_name_row r = keyed_name (name_row_of r)
 
 abbrev pub keyed_node_row : CodeNodeRow → ℕ × Option Header
 keyed_node_row r = keyed_node (node_row_of r)
 
 -- this is the row of a name that leads to this number now; below, of a number that has this header now
-abbrev pub IsRowOfName : (before : Sight) → (key : ℕ × List ℕ) → (now : Option ℕ) → Option CodeNameRow → Type 0
+abbrev pub IsRowOfName : (before : Sight) → (key : ℕ × List ℕ) → (now : Option ℕ) → Option (CodeNameRow (List ℕ)) → Type 0
 IsRowOfName before key now row = IsRow number_now keyed_name_row key (before.name key.0 key.1) now row
 
 abbrev pub IsRowOfNode : (before : Sight) → (number : ℕ) → (now : Option Header) → Option CodeNodeRow → Type 0

@@ -228,7 +228,7 @@ impl<'a, 'e, A: Allocator + Copy> Recorder<'a, 'e, A> {
 fn read_of(key: &NameKey<'_>) -> Read
     ensures { result ≡ Look (Name key.now.0 key.now.1) }
 {
-    Read::Look(Cell::Name(key.dir(), *key.name()))
+    Read::Look(Cell::Name(key.dir(), key.name().owned()))
 }
 
 /// The header in an answer.

@@ -4,16 +4,16 @@ ghost use Rattle.std.specs.Ordering.{eq_by_cmp};
 ghost use Rattle.std.specs.Cmp.{eq_by_cmp_equiv, partial_equiv_from_equiv, partial_order_from_total};
 ghost use Rattle.kfs_model.specs.Tree.{name_order};
 
-use kfs_image_nodes::Name;
+use kfs_types::{BorrowedName, Name};
 use std::cmp::Ordering;
 use std::marker::Model;
 
-/// A name in a directory: the directory's number, and the name where it stands in the log. So a key has
-/// no copy of the name, which is long. Keys are ordered by number, and then by name.
+/// A name in a directory: the directory's number, and the name where it lies in the log's bytes. So a key
+/// has no copy of the name, which is long. Keys are ordered by number, and then by name.
 #[derive(Drop)]
 pub struct NameKey<'e> {
     pub dir: u32,
-    pub name: &'e Name,
+    pub name: &'e BorrowedName<'e>,
 }
 
 impl<'e> Model for NameKey<'e> {
@@ -71,7 +71,7 @@ impl<'e> NameKey<'e> {
     }
 
     /// The name.
-    pub fn name(&self) -> &'e Name
+    pub fn name(&self) -> &'e BorrowedName<'e>
         ensures { result.now ≡ self.now.1 }
     {
         self.name
@@ -81,7 +81,7 @@ impl<'e> NameKey<'e> {
     pub fn copied(&self) -> (u32, Name)
         ensures { result ≡ self.now }
     {
-        (self.dir, *self.name)
+        (self.dir, self.name.owned())
     }
 
     /// The same key once more.

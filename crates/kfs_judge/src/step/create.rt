@@ -15,7 +15,8 @@ use crate::check::{EntryJudge, Reason, Recorder};
 use crate::draft::NameKey;
 use crate::step::check::check;
 use crate::step::log_judge::LogJudge;
-use kfs_image_nodes::{Header, Kind, Name};
+use kfs_image_nodes::{Header, Kind};
+use kfs_types::BorrowedName;
 use std::alloc::{AllocError, Allocator};
 
 /// Why node `number` can't be made with the name `name` in `dir`; none if it can.
@@ -24,7 +25,7 @@ fn create_fault<'e, A: Allocator + Copy>(
     judge: &EntryJudge<'_, 'e, A>,
     recorder: &mut Recorder<'_, 'e, A>,
     dir: u32,
-    name: &'e Name,
+    name: &'e BorrowedName<'e>,
     number: u32,
 ) -> Result<Option<Reason>, AllocError>
     ensures { (kind : KindShown) (mode : ℕ) → AnswersEntry judge.now recorder.old recorder.new result (entry.Create dir name.now number kind mode) }
@@ -49,7 +50,7 @@ impl<'e, A: Allocator + Copy> LogJudge<'_, 'e, A> {
     pub fn create(
         &mut self,
         dir: u32,
-        name: &'e Name,
+        name: &'e BorrowedName<'e>,
         number: u32,
         kind: Kind,
         mode: u16,

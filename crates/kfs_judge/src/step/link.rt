@@ -10,7 +10,7 @@ use crate::check::{EntryJudge, Reason, Recorder};
 use crate::draft::{NameKey, linked};
 use crate::step::check::check;
 use crate::step::log_judge::LogJudge;
-use kfs_image_nodes::Name;
+use kfs_types::BorrowedName;
 use std::alloc::{AllocError, Allocator};
 
 /// Why node `number` can't get the name `name` in `dir`; none if it can.
@@ -20,7 +20,7 @@ fn link_fault<'e, A: Allocator + Copy>(
     recorder: &mut Recorder<'_, 'e, A>,
     number: u32,
     dir: u32,
-    name: &'e Name,
+    name: &'e BorrowedName<'e>,
 ) -> Result<Option<Reason>, AllocError>
     ensures { AnswersEntry judge.now recorder.old recorder.new result (entry.Link number dir name.now) }
 {
@@ -46,7 +46,7 @@ impl<'e, A: Allocator + Copy> LogJudge<'_, 'e, A> {
         &mut self,
         number: u32,
         dir: u32,
-        name: &'e Name,
+        name: &'e BorrowedName<'e>,
     ) -> Result<Option<Reason>, AllocError>
         requires { HasRoom 3 self.old.draft }
         ensures { IsEntered self.old self.new (entry.Link number dir name.now) result }

@@ -14,7 +14,7 @@ ghost use Rattle.kfs_judge.specs.Check.View.{client_sight_in};
 use crate::check::{Reads, Reason, Recorder, View};
 use crate::draft::Draft;
 use crate::step::net::{file_sizes, name_rows, node_rows};
-use kfs_entry::{Entry, Span, entry_table};
+use kfs_entry::{BorrowedEntry, Entry, entry_table};
 use kfs_image_nodes::Net;
 use kfs_mode::Client;
 use kfs_pieces::FileSize;
@@ -80,7 +80,7 @@ impl<'a, 'e, A: Allocator + Copy> LogJudge<'a, 'e, A> {
 
     /// Makes the change of an entry, or answers the reason why not. After `Err`, where memory is
     /// refused, part of the change may be made.
-    pub fn enter(&mut self, entry: &'e Entry<Span>) -> Result<Option<Reason>, AllocError>
+    pub fn enter(&mut self, entry: &'e BorrowedEntry<'e>) -> Result<Option<Reason>, AllocError>
         requires { HasRoom 3 self.old.draft }
         ensures goes { GoesOn self.old.recorder self.new.recorder }
         ensures client { self.new.client.now ≡ self.old.client.now }

@@ -90,7 +90,7 @@ fn name_row<'e, A: Allocator + Copy>(
     }
     let row = NameRow {
         dir: key.dir(),
-        name: *key.name(),
+        name: key.name().owned(),
         number: now.unwrap_or(0),
     };
     Ok(Some(row))

@@ -13,7 +13,8 @@ use crate::draft::NameKey;
 use crate::step::check::check;
 use crate::step::log_judge::LogJudge;
 use crate::step::unlink::going_fault;
-use kfs_image_nodes::{Kind, Name};
+use kfs_image_nodes::Kind;
+use kfs_types::BorrowedName;
 use std::alloc::{AllocError, Allocator};
 
 /// Why the name `name` in `dir` can't become `new_name` in `new_dir`; none if it can.
@@ -22,9 +23,9 @@ fn rename_fault<'e, A: Allocator + Copy>(
     judge: &EntryJudge<'_, 'e, A>,
     recorder: &mut Recorder<'_, 'e, A>,
     dir: u32,
-    name: &'e Name,
+    name: &'e BorrowedName<'e>,
     new_dir: u32,
-    new_name: &'e Name,
+    new_name: &'e BorrowedName<'e>,
 ) -> Result<Option<Reason>, AllocError>
     ensures { AnswersEntry judge.now recorder.old recorder.new result (entry.Rename dir name.now new_dir new_name.now) }
 {
@@ -147,9 +148,9 @@ impl<'e, A: Allocator + Copy> LogJudge<'_, 'e, A> {
     pub fn rename(
         &mut self,
         dir: u32,
-        name: &'e Name,
+        name: &'e BorrowedName<'e>,
         new_dir: u32,
-        new_name: &'e Name,
+        new_name: &'e BorrowedName<'e>,
     ) -> Result<Option<Reason>, AllocError>
         requires { HasRoom 3 self.old.draft }
         ensures { IsEntered self.old self.new (entry.Rename dir name.now new_dir new_name.now) result }

@@ -12,7 +12,8 @@ use crate::check::{EntryJudge, Reason, Recorder};
 use crate::draft::{NameKey, unlinked};
 use crate::step::check::check;
 use crate::step::log_judge::LogJudge;
-use kfs_image_nodes::{Kind, Name};
+use kfs_image_nodes::Kind;
+use kfs_types::BorrowedName;
 use std::alloc::{AllocError, Allocator};
 
 /// Why the name `name` in `dir`, of a node of this kind, can't be removed; none if it can.
@@ -21,7 +22,7 @@ fn unlink_fault<'e, A: Allocator + Copy>(
     judge: &EntryJudge<'_, 'e, A>,
     recorder: &mut Recorder<'_, 'e, A>,
     dir: u32,
-    name: &'e Name,
+    name: &'e BorrowedName<'e>,
     kind: Kind,
 ) -> Result<Option<Reason>, AllocError>
     ensures { AnswersEntry judge.now recorder.old recorder.new result (entry.Unlink dir name.now (kind_of kind)) }
@@ -72,7 +73,7 @@ impl<'e, A: Allocator + Copy> LogJudge<'_, 'e, A> {
     pub fn unlink(
         &mut self,
         dir: u32,
-        name: &'e Name,
+        name: &'e BorrowedName<'e>,
         kind: Kind,
     ) -> Result<Option<Reason>, AllocError>
         requires { HasRoom 3 self.old.draft }

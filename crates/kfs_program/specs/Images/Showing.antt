@@ -25,7 +25,7 @@ abbrev pub node_row_line : RawNode → List ℕ
 node_row_line row = line_of (node_text row.number row.header)
 
 -- the line of a name's row: its directory, its bytes in hexadecimal, the number that it leads to
-abbrev pub name_row_line : NameRow → List ℕ
+abbrev pub name_row_line : NameRow (List ℕ) → List ℕ
 name_row_line row = line_of (codes "name" ++ (field_text row.dir ++ (codes " " ++ (encode_lower row.name ++ field_text row.number))))
 
 -- a line for each node and then one for each name, in the order of the rows; those of a well formed

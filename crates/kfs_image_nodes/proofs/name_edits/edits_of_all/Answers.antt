@@ -1,4 +1,4 @@
-use Rattle.std.proofs.Common.{◌+◌, drop, sym, ap, subst, ◌∙◌}
+use Rattle.std.proofs.Common.{ℕ, ◌+◌, List, drop, sym, ap, subst, ◌∙◌}
 use Rattle.std.proofs.lemmas.List.{at_drop_all}
 use Rattle.kfs_model.specs.Table.{changed}
 use Rattle.kfs_model.specs.Tree.{NameTable, name_order}
@@ -35,7 +35,7 @@ loop-row-preserved g c =
       counted = c.in_ok-rename.ensures.counted;
       names =
           ap (λ (t : NameTable). renamed t (drop (i + 1) rows)) c.in_ok-rename.ensures.names
-          ∙ ap (λ (row : NameRow). renamed (changed names (row.dir, row.name) (led_to row.number)) (drop (i + 1) rows)) c.row-item.is
+          ∙ ap (λ (row : NameRow (List ℕ)). renamed (changed names (row.dir, row.name) (led_to row.number)) (drop (i + 1) rows)) c.row-item.is
           ∙ ap (renamed names) (sym (rows_left rows i _ c.loop-row-test.true))
           ∙ c.loop-row.invariant.names;
     }

@@ -1,4 +1,4 @@
-use Rattle.std.proofs.Common.{rules, ◌≡◌, ◌+◌, true, false, List, [], ◌∷◌, length, map, ap, subst, arith}
+use Rattle.std.proofs.Common.{rules, ◌≡◌, ℕ, ◌+◌, true, false, List, [], ◌∷◌, length, map, ap, subst, arith}
 use Rattle.std.proofs.lemmas.List.{nil_from_length}
 use Rattle.kfs_types.specs.declared.plan.NameRow.{NameRow}
 use Rattle.kfs_model.specs.Table.{numbers}
@@ -24,7 +24,7 @@ loop-row-preserved-in_ok-add g c =
       within = omega (arith, c.loop-row.invariant.within, ap length whole);
       counted = λ d.
           run_ends numbers d row.dir (map dir_of rest) c.loop-row.run (tallied_at old d) _ (often numbers d all) (c.in_ok-add.ensures d)
-          (subst (λ (rows : List NameRow). tallied_at old d + held numbers c.loop-row.run (map dir_of rows) d + often numbers d (map dir_of rows) ≡ often numbers d all) whole (c.loop-row.invariant.counted d));
+          (subst (λ (rows : List (NameRow (List ℕ))). tallied_at old d + held numbers c.loop-row.run (map dir_of rows) d + often numbers d (map dir_of rows) ≡ often numbers d all) whole (c.loop-row.invariant.counted d));
     }
 
 pub loop-row-preserved : goal.loop-row-preserved
@@ -39,7 +39,7 @@ loop-row-preserved g c =
       within = omega (arith, c.loop-row.invariant.within, ap length whole);
       counted = λ d.
           run_on numbers d row.dir (map dir_of rest) c.loop-row.run (tallied_at old d) (often numbers d all) on
-          (subst (λ (rows : List NameRow). tallied_at old d + held numbers c.loop-row.run (map dir_of rows) d + often numbers d (map dir_of rows) ≡ often numbers d all) whole (c.loop-row.invariant.counted d));
+          (subst (λ (rows : List (NameRow (List ℕ))). tallied_at old d + held numbers c.loop-row.run (map dir_of rows) d + often numbers d (map dir_of rows) ≡ often numbers d all) whole (c.loop-row.invariant.counted d));
     }
 
 pub returns : goal.returns

@@ -20,7 +20,7 @@ use Rattle.kfs_judge.specs.EntriesEntered.{AreWithin}
 use Rattle.kfs_judge.proofs.walk.enter_all.Goals as goal
 
 -- an entry's payload lies in the source
-span_within : (source : List ℕ) (entries : List (CodeEntry Span)) (i : ℕ) (item : CodeEntry Span) → i < length entries → item ≡ slice_index_or entries i item → AreWithin source entries → IsWithin (length source) item
+span_within : (source : List ℕ) (entries : List (CodeEntry Span (List ℕ))) (i : ℕ) (item : CodeEntry Span (List ℕ)) → i < length entries → item ≡ slice_index_or entries i item → AreWithin source entries → IsWithin (length source) item
 span_within source entries i item inside is within =
     subst (IsWithin (length source)) (sym is) (All-from_recursion (IsWithin (length source)) entries within i item inside)
 

@@ -34,8 +34,8 @@ returns-in-No-clause-known g c s alike =
     subst (λ o. IsVerdict {A = g.row.A.Denot} s (submission_with c.args.number c.args.log.now c.args.plan.now) o) (sym c.unread-in-No.ensures.outcome)
     (own s c.in-Some.client.now (alike.row ∙ row))
 
-pub judge_entries_keeping-requires-clause-client : goal.judge_entries_keeping-requires-clause-client
-judge_entries_keeping-requires-clause-client g c =
+pub judge_borrowed-requires-clause-client : goal.judge_borrowed-requires-clause-client
+judge_borrowed-requires-clause-client g c =
     let row = sym c.client.ensures ∙ ap (option_map (λ r. r.now)) c.in-Some.is in
     let same = c.number.ensures.number ∙ row_has_number (clients_of c.args.view.now) c.args.number c.in-Some.client.now row in
     let read = subst (λ r. IsReading {A = g.row.A.Denot} (submission_with c.number.result c.args.log.now c.args.plan.now) r) c.in-Yes.is c.in_ok-fault.ensures.read in

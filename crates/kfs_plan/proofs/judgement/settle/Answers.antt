@@ -1,21 +1,27 @@
 -- What the plan's check told is what the finding says.
 use Rattle.std.proofs.Common.{rules, Ok, Err, refl, sym, subst}
+use Rattle.kfs_plan.specs.declared.submission.Fault.TheVariants as faults
+use Rattle.kfs_plan.specs.declared.submission.Outcome.TheVariants as outcomes
 use Rattle.kfs_plan.specs.Judging.{OutcomeIsSettled}
 use Rattle.kfs_plan.specs.PlanCheck.{TellsOfEachRun}
-use Rattle.kfs_plan.proofs.judgement.settle.Goals.{in-Err, in-Ok+in-Ok-check_rows, in-Ok+in-Err-check_rows}
 use Rattle.kfs_plan.proofs.judgement.settle.Goals as goal
 
-pub returns-clause-outcome : goal.returns-clause-outcome
-returns-clause-outcome g c = elim c.match-outcome.branch [
-  | in-Err w ↦ subst (λ walked. OutcomeIsSettled c.args.log c.args.plan c.args.walk.sizes.items walked c.match-outcome.outcome) (sym w.in-Err.is) (subst (OutcomeIsSettled c.args.log c.args.plan c.args.walk.sizes.items (Err w.in-Err.fault)) (sym w.outcome-is) refl)
-  | in-Ok+in-Ok-check_rows w ↦
-      let told = subst (λ sizes. TellsOfEachRun sizes c.args.log w.in-Ok.net c.args.plan w.check_rows.result) w.as_slice.ensures.value w.check_rows.ensures in
-      subst (λ walked. OutcomeIsSettled c.args.log c.args.plan c.args.walk.sizes.items walked c.match-outcome.outcome) (sym w.in-Ok.is)
-      (subst (OutcomeIsSettled c.args.log c.args.plan c.args.walk.sizes.items (Ok w.in-Ok.net)) (sym w.outcome-is)
-      (refl, refl, refl, subst (TellsOfEachRun c.args.walk.sizes.items c.args.log w.in-Ok.net c.args.plan) w.in-Ok-check_rows.is told))
-  | in-Ok+in-Err-check_rows w ↦
-      let told = subst (λ sizes. TellsOfEachRun sizes c.args.log w.in-Ok.net c.args.plan w.check_rows.result) w.as_slice.ensures.value w.check_rows.ensures in
-      subst (λ walked. OutcomeIsSettled c.args.log c.args.plan c.args.walk.sizes.items walked c.match-outcome.outcome) (sym w.in-Ok.is)
-      (subst (OutcomeIsSettled c.args.log c.args.plan c.args.walk.sizes.items (Ok w.in-Ok.net)) (sym w.outcome-is)
-      (search rules, subst (TellsOfEachRun c.args.walk.sizes.items c.args.log w.in-Ok.net c.args.plan) w.in-Err-check_rows.is told))
-]
+pub returns-in-Ok-check_rows-clause-outcome : goal.returns-in-Ok-check_rows-clause-outcome
+returns-in-Ok-check_rows-clause-outcome g c =
+    let sizes = c.args.walk.sizes.items in
+    let net = c.in-Ok.net in
+    let told = subst (λ all. TellsOfEachRun all c.args.log net c.args.plan c.check_rows.result) c.as_slice.ensures.value c.check_rows.ensures in
+    subst (λ walked. OutcomeIsSettled c.args.log c.args.plan sizes walked (outcomes.Yes c.args.log c.args.plan net c.in-Ok-check_rows.need)) (sym c.in-Ok.is)
+    (refl, refl, refl, subst (TellsOfEachRun sizes c.args.log net c.args.plan) c.in-Ok-check_rows.is told)
+
+pub returns : goal.returns
+returns g c =
+    let sizes = c.args.walk.sizes.items in
+    let net = c.in-Ok.net in
+    let told = subst (λ all. TellsOfEachRun all c.args.log net c.args.plan c.check_rows.result) c.as_slice.ensures.value c.check_rows.ensures in
+    record {
+      reads = refl;
+      outcome = subst (λ walked. OutcomeIsSettled c.args.log c.args.plan sizes walked (outcomes.No (faults.Row c.in-Err-check_rows.fault))) (sym c.in-Ok.is)
+          (search rules, subst (TellsOfEachRun sizes c.args.log net c.args.plan) c.in-Err-check_rows.is told);
+      memory = tt;
+    }

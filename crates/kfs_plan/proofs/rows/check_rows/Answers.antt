@@ -20,7 +20,7 @@ returns-in-Some g c source within client before tree opens =
     let row = c.in-Some.row in
     each_end (run over_marks client before (marked tree) entries) (λ after. AreSizes tree entries after c.args.sizes.now → TellsRow (first_unlike net after plan) (need after) (Err (faults.Names row))) (λ after ran all.
     unlike-name net plan after row
-    (name_found net plan c.as_slice.result.now c.as_slice-2.result.now c.first_difference.result (Some row) c.as_slice.ensures c.as_slice-2.ensures.value c.first_difference.ensures c.in-Some.is))
+    (name_found net plan c.as_slice.result.now c.as_slice-2.result.now c.first_name_apart.result (Some row) c.as_slice.ensures c.as_slice-2.ensures.value c.first_name_apart.ensures c.in-Some.is))
 
 pub returns-in-Some-first_difference : goal.returns-in-Some-first_difference
 returns-in-Some-first_difference g c source within client before tree opens =
@@ -30,8 +30,8 @@ returns-in-Some-first_difference g c source within client before tree opens =
     let row = c.in-Some-first_difference.row in
     each_end (run over_marks client before (marked tree) entries) (λ after. AreSizes tree entries after c.args.sizes.now → TellsRow (first_unlike net after plan) (need after) (Err (faults.Nodes row))) (λ after ran all.
     unlike-node net plan after row
-    (name_found net plan c.as_slice.result.now c.as_slice-2.result.now c.first_difference.result None c.as_slice.ensures c.as_slice-2.ensures.value c.first_difference.ensures c.in_default.is)
-    (node_found net plan c.as_slice-3.result.now c.as_slice-4.result.now c.first_difference-2.result (Some row) c.as_slice-3.ensures c.as_slice-4.ensures.value c.first_difference-2.ensures c.in-Some-first_difference.is))
+    (name_found net plan c.as_slice.result.now c.as_slice-2.result.now c.first_name_apart.result None c.as_slice.ensures c.as_slice-2.ensures.value c.first_name_apart.ensures c.in_default.is)
+    (node_found net plan c.as_slice-3.result.now c.as_slice-4.result.now c.first_difference.result (Some row) c.as_slice-3.ensures c.as_slice-4.ensures.value c.first_difference.ensures c.in-Some-first_difference.is))
 
 pub returns-in-Some-first_piece_apart : goal.returns-in-Some-first_piece_apart
 returns-in-Some-first_piece_apart g c source within client before tree opens =
@@ -45,8 +45,8 @@ returns-in-Some-first_piece_apart g c source within client before tree opens =
     each_end (run over_marks client before (marked tree) entries) (λ after. AreSizes tree entries after sizes → TellsRow (first_unlike net after plan) (need after) (Err (faults.Pieces row))) (λ after ran all.
     let swept = of_value (λ end. AreSizes tree entries end sizes → AreSwept sizes end (map piece_of right)) (run over_marks client before (marked tree) entries) after ran (pieces source within client before tree opens) all in
     unlike-piece net plan after (Some row)
-    (name_found net plan c.as_slice.result.now c.as_slice-2.result.now c.first_difference.result None c.as_slice.ensures c.as_slice-2.ensures.value c.first_difference.ensures c.in_default.is)
-    (node_found net plan c.as_slice-3.result.now c.as_slice-4.result.now c.first_difference-2.result None c.as_slice-3.ensures c.as_slice-4.ensures.value c.first_difference-2.ensures c.in_default-first_difference.is)
+    (name_found net plan c.as_slice.result.now c.as_slice-2.result.now c.first_name_apart.result None c.as_slice.ensures c.as_slice-2.ensures.value c.first_name_apart.ensures c.in_default.is)
+    (node_found net plan c.as_slice-3.result.now c.as_slice-4.result.now c.first_difference.result None c.as_slice-3.ensures c.as_slice-4.ensures.value c.first_difference.ensures c.in_default-first_difference.is)
     (piece_found net plan after c.as_slice-6.result.now right c.first_piece_apart.result (Some row) c.as_slice-6.ensures swept.right (c.first_piece_apart.ensures ∙ ap (λ rs. first_apart 0 (map piece_of c.as_slice-6.result.now) (map piece_of rs)) c.as_slice-7.ensures.value) c.in-Some-first_piece_apart.is))
 
 pub returns : goal.returns
@@ -60,8 +60,8 @@ returns g c source within client before tree opens =
     each_end (run over_marks client before (marked tree) entries) (λ after. AreSizes tree entries after sizes → TellsRow (first_unlike net after plan) (need after) (Ok c.need_of.result)) (λ after ran all.
     let swept = of_value (λ end. AreSizes tree entries end sizes → AreSwept sizes end (map piece_of right)) (run over_marks client before (marked tree) entries) after ran (pieces source within client before tree opens) all in (
       unlike-piece net plan after None
-          (name_found net plan c.as_slice.result.now c.as_slice-2.result.now c.first_difference.result None c.as_slice.ensures c.as_slice-2.ensures.value c.first_difference.ensures c.in_default.is)
-          (node_found net plan c.as_slice-3.result.now c.as_slice-4.result.now c.first_difference-2.result None c.as_slice-3.ensures c.as_slice-4.ensures.value c.first_difference-2.ensures c.in_default-first_difference.is)
+          (name_found net plan c.as_slice.result.now c.as_slice-2.result.now c.first_name_apart.result None c.as_slice.ensures c.as_slice-2.ensures.value c.first_name_apart.ensures c.in_default.is)
+          (node_found net plan c.as_slice-3.result.now c.as_slice-4.result.now c.first_difference.result None c.as_slice-3.ensures c.as_slice-4.ensures.value c.first_difference.ensures c.in_default-first_difference.is)
           (piece_found net plan after c.as_slice-6.result.now right c.first_piece_apart.result None c.as_slice-6.ensures swept.right (c.first_piece_apart.ensures ∙ ap (λ rs. first_apart 0 (map piece_of c.as_slice-6.result.now) (map piece_of rs)) c.as_slice-7.ensures.value) c.in_default-first_piece_apart.is),
       c.need_of.ensures after (subst (λ rs. AreSwept sizes after (map piece_of rs)) (sym c.as_slice-8.ensures.value) swept),
     ))

@@ -1,4 +1,4 @@
-use Rattle.std.proofs.Common.{All, subst}
+use Rattle.std.proofs.Common.{ℕ, All, List, subst}
 use Rattle.std.proofs.lemmas.List.{take_all}
 use Rattle.std.proofs.lemmas.List.Elements.{All-nil, All-more}
 use Rattle.kfs_model.specs.Spelling.{IsNameRow}
@@ -6,7 +6,7 @@ use Rattle.kfs_types.specs.Views.{name_row_of}
 use Rattle.kfs_types.specs.declared.plan.NameRow.{NameRow}
 use Rattle.kfs_plan_maker.proofs.fits.tell_names.Goals as goal
 
-abbrev Fits : NameRow → Type 0
+abbrev Fits : NameRow (List ℕ) → Type 0
 Fits row = IsNameRow (name_row_of row)
 
 pub loop-row-init : goal.loop-row-init

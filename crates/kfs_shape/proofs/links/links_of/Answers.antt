@@ -1,4 +1,4 @@
-use Rattle.std.proofs.Common.{◌+◌, ◌∷◌, ◌++◌, drop, map, sym, ap, ◌∙◌}
+use Rattle.std.proofs.Common.{ℕ, ◌+◌, List, ◌∷◌, ◌++◌, drop, map, sym, ap, ◌∙◌}
 use Rattle.std.proofs.lemmas.List.{drop_more}
 use Rattle.std.proofs.lemmas.Simd.{map-map}
 use Rattle.kfs_types.specs.declared.plan.NameRow.{NameRow}
@@ -8,7 +8,7 @@ use Rattle.kfs_shape.specs.declared.links.Link.{Link}
 use Rattle.kfs_shape.specs.Links.{link_of}
 use Rattle.kfs_shape.proofs.links.links_of.Goals as goal
 
-abbrev made : NameRow → Link
+abbrev made : NameRow (List ℕ) → Link
 made row = link_of (name_row_of row)
 
 pub loop-row-init : goal.loop-row-init

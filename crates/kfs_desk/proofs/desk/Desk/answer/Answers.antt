@@ -3,6 +3,7 @@ use Rattle.std.proofs.Common.{ap, ◌<◌, length, sym, subst, refl, arith}
 use Rattle.kfs_model.specs.Judgement.{State, Submission}
 use Rattle.kfs_model.specs.Machine.{Row}
 use Rattle.kfs_plan.specs.Judging.{IsVerdict}
+use Rattle.kfs_desk.specs.Found.{found_in}
 use Rattle.kfs_desk.specs.HandedIn.{handed_in}
 use Rattle.kfs_desk.specs.Machine.{Desk, IsAnswered, IsDesk, IsStep, Parts, shown, state_at, state_of}
 use Rattle.kfs_desk.proofs.Answered.{IsAnswer, answered, answered_at, answered_desk, can_land, told_of}
@@ -15,8 +16,8 @@ land-requires g c =
     let desk : Parts = record { image = inside.image; clients = inside.clients.value.items; leases = inside.leases.value; opening = inside.opening; docket = inside.docket; limit = inside.limit } in
     let submission = handed_in c.args.submitted.now in
     let state = ap (λ (d : Desk). d.state) c.self.view_is in
-    let verdict = subst (λ (s : State). IsVerdict s submission c.args.outcome.now) (sym state) c.requires.verdict in
-    can_land desk c.self.invariant c.shape-shape.ensures.lawful submission c.args.rejudged c.args.outcome.now verdict
+    let verdict = subst (λ (s : State). IsVerdict s submission (found_in c.args.found)) (sym state) c.requires.verdict in
+    can_land desk c.self.invariant c.shape-shape.ensures.lawful submission c.args.rejudged (found_in c.args.found) verdict
 
 pub add_answer-requires-clause-step : goal.add_answer-requires-clause-step
 add_answer-requires-clause-step g c =
@@ -24,10 +25,10 @@ add_answer-requires-clause-step g c =
     let desk : Parts = record { image = inside.image; clients = inside.clients.value.items; leases = inside.leases.value; opening = inside.opening; docket = inside.docket; limit = inside.limit } in
     let submission = handed_in c.args.submitted.now in
     let state = ap (λ (d : Desk). d.state) c.self.view_is in
-    let verdict = subst (λ (s : State). IsVerdict s submission c.args.outcome.now) (sym state) c.requires.verdict in
+    let verdict = subst (λ (s : State). IsVerdict s submission (found_in c.args.found)) (sym state) c.requires.verdict in
     let reply = c.in_ok-reply.reply in
     let is : IsAnswer (state_of desk) submission c.args.rejudged c.len-position.result reply (state_at c.land.new.image desk.clients c.land.new.leases.value) =
-    answered desk c.self.invariant c.shape-shape.ensures.lawful submission c.args.rejudged c.len-position.result c.args.outcome.now reply c.land.new.image c.land.new.leases.value verdict c.in_ok-reply.ensures.answer c.in_ok-reply.ensures.leases in
+    answered desk c.self.invariant c.shape-shape.ensures.lawful submission c.args.rejudged c.len-position.result (found_in c.args.found) reply c.land.new.image c.land.new.leases.value verdict c.in_ok-reply.ensures.answer c.in_ok-reply.ensures.leases in
     told_of c.of-before.ensures.state refl c.of-after.ensures.state (λ s u t. (row : Row) × IsStep s u reply row t) is.step
 
 -- the desk before and after, the row of the step between them, and the answer
@@ -50,8 +51,8 @@ module _ (g : given.Over) (c : goal.After-drop-before-inside-4 g) where
   is_answer : IsAnswer (state_of before) submission c.args.rejudged c.len-position.result c.in_ok-reply.reply (state_of after)
   is_answer =
       let state = ap (λ (d : Desk). d.state) c.self.view_is in
-      let verdict = subst (λ (s : State). IsVerdict s submission c.args.outcome.now) (sym state) c.requires.verdict in
-      answered before c.self.invariant c.shape-shape.ensures.lawful submission c.args.rejudged c.len-position.result c.args.outcome.now c.in_ok-reply.reply c.land.new.image c.land.new.leases.value verdict c.in_ok-reply.ensures.answer c.in_ok-reply.ensures.leases
+      let verdict = subst (λ (s : State). IsVerdict s submission (found_in c.args.found)) (sym state) c.requires.verdict in
+      answered before c.self.invariant c.shape-shape.ensures.lawful submission c.args.rejudged c.len-position.result (found_in c.args.found) c.in_ok-reply.reply c.land.new.image c.land.new.leases.value verdict c.in_ok-reply.ensures.answer c.in_ok-reply.ensures.leases
 
   is_answered : IsAnswered (shown before) submission c.args.rejudged c.in_ok-reply.reply (shown after)
   is_answered = answered_at before after c.self.invariant submission c.in_ok-reply.reply row step refl c.add_answer.ensures.2 refl c.args.rejudged c.len-position.result c.len-position.ensures is_answer

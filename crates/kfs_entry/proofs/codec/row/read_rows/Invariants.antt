@@ -6,5 +6,5 @@ abbrev pub invariant-loop-k : goal.invariant-loop-k
 invariant-loop-k g l = record {
   inside : l.end ≤ length l.source;
   number : length l.rows.items ≡ l.k;
-  before : AreRows (g.R.SpelledRow.fits l.version l.source) (g.R.SpelledRow.spelling l.source) l.rows.items (drop l.at l.source) (drop l.end l.source);
+  before : AreRows (g.R.ReadRow.fits l.version l.source) (g.R.SpelledRow.spelling l.source) l.rows.items (drop l.at l.source) (drop l.end l.source);
 }

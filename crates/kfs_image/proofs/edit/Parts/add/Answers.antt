@@ -1,6 +1,6 @@
 use Rattle.std.proofs.Common.{sym, ap, subst, ◌∙◌}
 use Rattle.std.proofs.lemmas.List.Elements.{All-push}
-use Rattle.std.specs.Prelude.{◌≡◌, ◌<◌, vec_len}
+use Rattle.std.specs.Prelude.{◌≡◌, ℕ, ◌<◌, List, vec_len}
 use Rattle.kfs_types.specs.declared.plan.NameRow.{NameRow}
 use Rattle.kfs_types.specs.declared.plan.NodeRow.{NodeRow}
 use Rattle.kfs_model.specs.Limits.{block_size}
@@ -26,7 +26,7 @@ returns-in_ok-push-in-Header-clause-made g c = λ image.
 pub returns-in_ok-push-in-Name-clause-made : goal.returns-in_ok-push-in-Name-clause-made
 returns-in_ok-push-in-Name-clause-made g c = λ image.
     let parts = c.args.self.now in
-    let row : NameRow = record { dir = c.in-Name.dir; name = c.in-Name.name; number = c.unwrap_or.result } in
+    let row : NameRow (List ℕ) = record { dir = c.in-Name.dir; name = c.in-Name.name; number = c.unwrap_or.result } in
     let names =
     ap (renamed image.names) c.in_ok-push-in-Name.ensures.items
     ∙ one_name image.names parts.names.items row
