@@ -122,7 +122,7 @@ fn a_walk_that_stops_at_an_entry(rt: HostRuntime) {
 /// How many names and headers a Yes changes and how many blocks it writes, or why the verdict is a No.
 type Verdict = Result<(usize, usize, u64), Fault>;
 
-fn verdict(outcome: &Outcome<Global>) -> Verdict {
+fn verdict<N>(outcome: &Outcome<Global, N>) -> Verdict {
     match outcome {
         Outcome::Yes { net, need, .. } => {
             let (names, nodes) = differing(net);
