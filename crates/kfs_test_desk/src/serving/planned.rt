@@ -97,11 +97,15 @@ fn told<A: Allocator + Copy>(
 /// Whether all is told as with ample memory; or else that memory ran out once, and nothing wrong.
 fn is_right(told: Told, has_refused: bool) -> bool {
     let (swept, checked, other) = told;
-    let is_ample = swept == Some(true) && checked == Ok(1);
-    let is_short = (swept == None && checked == Ok(1))
-        || (swept == Some(true) && checked == Err(RowFault::OutOfMemory));
-    let is_due = if has_refused { is_short } else { is_ample };
-    is_due && other == Err(RowFault::Names(0))
+    let (is_swept, is_checked) = (swept == Some(true), checked == Ok(1));
+    let is_other = other == Err(RowFault::Names(0));
+    if !has_refused {
+        return is_swept && is_checked && is_other;
+    }
+    let no_sweep = swept == None && is_checked && is_other;
+    let no_check = is_swept && checked == Err(RowFault::OutOfMemory) && is_other;
+    let no_other = is_swept && is_checked && other == Err(RowFault::OutOfMemory);
+    no_sweep || no_check || no_other
 }
 
 /// The same at a view. Answers whether there was such an allocation; none where an answer is wrong.
