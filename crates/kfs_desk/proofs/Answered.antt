@@ -84,7 +84,7 @@ module _ (desk : Parts) (is_desk : IsDesk desk) (lawful : IsLawful desk.image) (
             position = refl;
           }
 
-      module _ (log : Log A (List ℕ)) (plan : Plan A (List ℕ)) (net : Net A) (told : ℕ) (is : IsVerdict s submission (outcomes.Yes log plan net told)) where
+      module _ (log : Log A (List ℕ)) (plan : Plan A (List ℕ)) (net : Net A (List ℕ)) (told : ℕ) (is : IsVerdict s submission (outcomes.Yes log plan net told)) where
         without_room : free_in desk.image < told → IsAnswer s submission again position (replies.NoRoom position again told (free_in desk.image)) s
         without_room full = by is.verdict is.judgement is.told
           where

@@ -36,7 +36,7 @@ use Rattle.kfs_desk.specs.Machine.{IsDesk, IsDone, IsStep, Parts, state_at, stat
 use Rattle.kfs_desk.proofs.Landing.{contents_are, leases_end}
 use Rattle.kfs_desk.proofs.WholePieces as whole
 
-module _ (desk : Parts) (is_desk : IsDesk desk) (lawful : IsLawful desk.image) (submission : Submission) {A : Type 0} (log : CodeLog A (List ℕ)) (plan : CodePlan A (List ℕ)) (net : Net A) (told : ℕ) (after : Tree ℕ) (marked_after : Tree Mark)
+module _ (desk : Parts) (is_desk : IsDesk desk) (lawful : IsLawful desk.image) (submission : Submission) {A : Type 0} (log : CodeLog A (List ℕ)) (plan : CodePlan A (List ℕ)) (net : Net A (List ℕ)) (told : ℕ) (after : Tree ℕ) (marked_after : Tree Mark)
     (yes : TellsYes (state_of desk) submission (record { log = log; plan = plan; net = net; told = told }) after marked_after) where
   abbrev s : State
   s = state_of desk

@@ -110,7 +110,7 @@ module _ (desk : Parts) (is_desk : IsDesk desk) (lawful : IsLawful desk.image) (
   abbrev s : State
   s = state_of desk
 
-  module _ {A : Type 0} (log : CodeLog A (List ℕ)) (plan : CodePlan A (List ℕ)) (net : Net A) (told : ℕ) (after : Tree ℕ) (marked_after : Tree Mark) (yes : TellsYes s submission (record { log = log; plan = plan; net = net; told = told }) after marked_after) where
+  module _ {A : Type 0} (log : CodeLog A (List ℕ)) (plan : CodePlan A (List ℕ)) (net : Net A (List ℕ)) (told : ℕ) (after : Tree ℕ) (marked_after : Tree Mark) (yes : TellsYes s submission (record { log = log; plan = plan; net = net; told = told }) after marked_after) where
     pub contents_are : after_rows (contents_of desk.image) net.names.items net.nodes.items ≡ contents_in after
     contents_are =
         net_makes (contents_of desk.image) after net.names.items net.nodes.items yes.comes.sound yes.comes.differs.names

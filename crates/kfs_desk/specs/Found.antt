@@ -2,6 +2,7 @@
 use Rattle.std.specs.Prelude.{◌≡◌, ℕ, List}
 use Rattle.kfs_types.specs.declared.entry.Log.{Log}
 use Rattle.kfs_types.specs.declared.plan.Plan.{Plan}
+use Rattle.kfs_image_nodes.specs.Lent.{net_in}
 use Rattle.kfs_plan.specs.declared.submission.Outcome.{Outcome}
 use Rattle.kfs_plan.specs.declared.submission.Outcome.TheVariants as outcomes
 use Rattle.kfs_desk.specs.Fill.Bytes.{entries_in}
@@ -18,6 +19,6 @@ found_in (kinds.Borrowed outcome) = outcome.now
 pub record AreParts {A : Type 0} (outcome : Outcome A (List ℕ)) (parts : YesParts A) : Type 0 where
   pub log : Log A (List ℕ)
   pub plan : Plan A (List ℕ)
-  pub is : outcome ≡ outcomes.Yes log plan parts.net.now parts.need
+  pub is : outcome ≡ outcomes.Yes log plan (net_in parts.net) parts.need
   pub entries : entries_in parts.entries ≡ log.entries
   pub pieces : parts.pieces.now ≡ plan.pieces

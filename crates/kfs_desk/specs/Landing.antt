@@ -51,7 +51,7 @@ module _ {A : Type 0} where
 
   -- payloads lie in the bytes; the pieces are in order and can be cut into blocks; and where there is
   -- room, the net can be applied
-  pub record CanLandYes (image : DeviceImage) (source : List ℕ) (log : Log A (List ℕ)) (plan : Plan A (List ℕ)) (net : Net A) (need : ℕ) : Type 0 where
+  pub record CanLandYes (image : DeviceImage) (source : List ℕ) (log : Log A (List ℕ)) (plan : Plan A (List ℕ)) (net : Net A (List ℕ)) (need : ℕ) : Type 0 where
     pub within : SpansAreWithin (length source) log
     pub ascend : PiecesAscend (plan_of plan).pieces
     pub whole : AllByRecursion PieceIsInRange plan.pieces
@@ -63,7 +63,7 @@ module _ {A : Type 0} where
   CanLand image source (outcomes.Yes log plan net need) = CanLandYes image source log plan net need
 
   -- what is asked of the bytes of a log and its net before they land
-  pub record CanLandBytes (image : DeviceImage) (bytes : LogBytes) (net : Net A) : Type 0 where
+  pub record CanLandBytes (image : DeviceImage) (bytes : LogBytes) (net : Net A (List ℕ)) : Type 0 where
     pub payloads : HasPayloads bytes
     pub pieces : PiecesAscend (pieces_of bytes)
     pub whole : AllByRecursion PieceIsInRange bytes.pieces.now
@@ -71,11 +71,11 @@ module _ {A : Type 0} where
     pub fits : CanLandWith image bytes net
 
   -- the same as `HasLandedWith`, of which a proof sees no part
-  unfoldable pub IsLandedWith : (old : DeviceImage) → LogBytes → Net A → (new : DeviceImage) → Type 0
+  unfoldable pub IsLandedWith : (old : DeviceImage) → LogBytes → Net A (List ℕ) → (new : DeviceImage) → Type 0
   IsLandedWith old bytes net new = HasLandedWith old bytes net new
 
   -- the net was applied, with a fill of its log
-  pub record HasLanded (old : DeviceImage) (source : List ℕ) (log : Log A (List ℕ)) (plan : Plan A (List ℕ)) (net : Net A) (new : DeviceImage) : Type 0 where
+  pub record HasLanded (old : DeviceImage) (source : List ℕ) (log : Log A (List ℕ)) (plan : Plan A (List ℕ)) (net : Net A (List ℕ)) (new : DeviceImage) : Type 0 where
     pub bytes : LogBytes
     pub are : AreReadFrom source log plan bytes
     pub landed : HasLandedWith old bytes net new
@@ -91,7 +91,7 @@ module _ {A : Type 0} where
       (replies.Yes p rejudged n ≡ replies.Yes position again need) × (need ≤ free_in old) × HasLanded old source log plan net new
 
   -- the leases after the answer to a net: after a Yes, those on removed nodes have ended
-  abbrev pub left_by : Leases → Net A → Reply → Leases
+  abbrev pub left_by : Leases → Net A (List ℕ) → Reply → Leases
   left_by leases net (replies.Yes position rejudged need) = ended_by leases net.nodes.items
   left_by leases net (replies.No position rejudged fault) = leases
   left_by leases net (replies.NoRoom position rejudged need free) = leases

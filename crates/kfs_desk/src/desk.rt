@@ -734,7 +734,7 @@ fn land<A: Allocator + Copy>(
         entries: parts.entries,
         pieces: parts.pieces,
     };
-    change_state(alloc, image, leases, &bytes, parts.net)?;
+    change_state(alloc, image, leases, &bytes, &parts.net)?;
     Ok(Reply::Yes {
         position,
         rejudged,

@@ -4,7 +4,7 @@ ghost use Rattle.kfs_desk.specs.Found.{AreParts, found_in};
 ghost use Rattle.kfs_plan.specs.declared.submission.Outcome.TheVariants as outcomes;
 
 use crate::fill::Entries;
-use kfs_image::Net;
+use kfs_image_nodes::LentNet;
 use kfs_plan::{Fault, Outcome};
 use kfs_types::{BorrowedName, Piece};
 use std::alloc::Allocator;
@@ -26,7 +26,7 @@ pub struct YesParts<'o, 's, A: Allocator> {
     /// The plan's pieces.
     pub pieces: &'o [Piece],
     /// The net change.
-    pub net: &'o Net<A>,
+    pub net: LentNet<'o, 's, A>,
     /// How many blocks are written.
     pub need: u64,
 }
@@ -43,7 +43,7 @@ macro_rules! parts_of {
             } => Ok(YesParts {
                 entries: Entries::$entries(log.entries.as_slice()),
                 pieces: plan.pieces.as_slice(),
-                net,
+                net: LentNet::$entries(net),
                 need: *need,
             }),
             Outcome::No(fault) => Err(*fault),

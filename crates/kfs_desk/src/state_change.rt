@@ -6,13 +6,15 @@ ghost use Rattle.kfs_model.specs.Plan.{PiecesAscend};
 ghost use Rattle.kfs_pieces.specs.Lefts.{IsFilled, PieceIsInRange};
 ghost use Rattle.kfs_desk.specs.Fill.Bytes.{HasPayloads, pieces_of};
 ghost use Rattle.kfs_desk.specs.Fill.FillOf.{CanLandWith, HasLandedWith};
+ghost use Rattle.kfs_image_nodes.specs.Lent.{net_in};
 ghost use Rattle.kfs_lease.specs.Removed.{without_nodes_in};
 ghost use Rattle.kfs_desk.specs.Landing.{ended_by, removed_by, removed_with, CanLandBytes, IsLandedWith};
 ghost use Rattle.kfs_desk.specs.Machine.{IsShown, state_at};
 
 use crate::fill::{LogBytes, land_bytes};
 use kfs_entry::NodeRow;
-use kfs_image::{Image, Net};
+use kfs_image::Image;
+use kfs_image_nodes::LentNet;
 use kfs_lease::Leases;
 use kfs_mode::Client;
 use kfs_types::Change;
@@ -26,17 +28,18 @@ use std::sync::Arc;
 struct ImageChange<'a, 'b, 's, A: Allocator> {
     image: &'a mut Image<A>,
     bytes: &'b LogBytes<'b, 's>,
-    net: &'b Net<A>,
+    net: &'b LentNet<'b, 's, A>,
 }
 
 impl<'a, 'b, 's, A: Allocator + Copy> Change for ImageChange<'a, 'b, 's, A> {
     ghost use Rattle.std.specs.Prelude.{◌≡◌, refl};
     ghost use Rattle.kfs_types.specs.Nested.{Becomes};
+    ghost use Rattle.kfs_image_nodes.specs.Lent.{net_in};
     ghost use Rattle.kfs_desk.specs.Landing.{CanLandBytes, IsLandedWith};
 
-    ghost can_make = { λ before. CanLandBytes before.image.now before.bytes.now before.net.now };
+    ghost can_make = { λ before. CanLandBytes before.image.now before.bytes.now (net_in before.net.now) };
 
-    ghost made = { λ before after. IsLandedWith before.image.now before.bytes.now before.net.now after.image.now × (after.image.ghost_name ≡ before.image.ghost_name) };
+    ghost made = { λ before after. IsLandedWith before.image.now before.bytes.now (net_in before.net.now) after.image.now × (after.image.ghost_name ≡ before.image.ghost_name) };
 
     ghost kept = { λ before after. Becomes before.image after.image before.image.now };
 
@@ -44,7 +47,7 @@ impl<'a, 'b, 's, A: Allocator + Copy> Change for ImageChange<'a, 'b, 's, A> {
 
     #[tactic(auto, unfolding(crate::specs::Landing::IsLandedWith))]
     fn make(&mut self) -> Result<(), AllocError> {
-        let alloc = *self.net.nodes.allocator();
+        let alloc = *self.net.nodes().allocator();
         land_bytes(alloc, self.image, self.bytes, self.net)
     }
 }
@@ -57,18 +60,18 @@ pub(crate) fn change_state<A: Allocator + Copy>(
     image: &mut Image<A>,
     leases: &mut Arc<Leases<A>, A>,
     bytes: &LogBytes<'_, '_>,
-    net: &Net<A>,
+    net: &LentNet<'_, '_, A>,
 ) -> Result<(), AllocError>
     requires payloads { HasPayloads bytes.now }
     requires pieces { PiecesAscend (pieces_of bytes.now) }
     requires whole { AllByRecursion PieceIsInRange bytes.now.pieces.now }
     requires filled { AllByRecursion IsFilled bytes.now.pieces.now }
-    requires fits { CanLandWith image.old bytes.now net.now }
-    ensures image { OnOk result (HasLandedWith image.old bytes.now net.now image.new) }
-    ensures leases { OnOk result (leases.new.value ≡ ended_by leases.old.value net.now.nodes.items) }
+    requires fits { CanLandWith image.old bytes.now (net_in net.now) }
+    ensures image { OnOk result (HasLandedWith image.old bytes.now (net_in net.now) image.new) }
+    ensures leases { OnOk result (leases.new.value ≡ ended_by leases.old.value (net_in net.now).nodes.items) }
     ensures err { OnErr result ((image.new ≡ image.old) × (leases.new.value ≡ leases.old.value)) }
 {
-    let removed = removed_nodes(alloc, net.nodes.as_slice())?;
+    let removed = removed_nodes(alloc, net.nodes().as_slice())?;
     change_both(image, leases, bytes, net, removed.as_slice())
 }
 
@@ -77,11 +80,11 @@ fn change_both<A: Allocator + Copy>(
     image: &mut Image<A>,
     leases: &mut Arc<Leases<A>, A>,
     bytes: &LogBytes<'_, '_>,
-    net: &Net<A>,
+    net: &LentNet<'_, '_, A>,
     removed: &[u32],
 ) -> Result<(), AllocError>
-    requires { CanLandBytes image.old bytes.now net.now }
-    ensures image { OnOk result (IsLandedWith image.old bytes.now net.now image.new) }
+    requires { CanLandBytes image.old bytes.now (net_in net.now) }
+    ensures image { OnOk result (IsLandedWith image.old bytes.now (net_in net.now) image.new) }
     ensures leases { OnOk result (leases.new.value ≡ without_nodes_in leases.old.value removed.now) }
     ensures err { OnErr result ((image.new ≡ image.old) × (leases.new.value ≡ leases.old.value)) }
 {

@@ -56,6 +56,7 @@ fn part<'s, R: ReadRow<'s>, A: Allocator>(
 }
 
 /// `decode_log`, without the clauses `only` and `count`.
+#[tactic(auto, using(crate::proofs::LogsRead::log_read))]
 fn log_in<A: Allocator>(alloc: A, source: &[u8]) -> Result<Log<A>, SpellFault>
     ensures found { OnAnswer (log_of source.now) (LogAnswer source.now) result }
     ensures spans { IfOk result (SpansAreWithin (length source.now)) }
@@ -77,6 +78,7 @@ fn log_in<A: Allocator>(alloc: A, source: &[u8]) -> Result<Log<A>, SpellFault>
 }
 
 /// `decode_borrowed_log`, without the clauses `only` and `count`.
+#[tactic(auto, using(crate::proofs::LogsRead::log_read))]
 fn borrowed_log_in<A: Allocator>(
     alloc: A,
     source: &[u8],

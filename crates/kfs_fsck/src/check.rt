@@ -3,12 +3,14 @@ ghost use Rattle.std.specs.Prelude.{◌≡◌, IfOk, IfErr};
 ghost use Rattle.kfs_model.specs.Device.RawImage.{image_of};
 ghost use Rattle.kfs_model.specs.Device.Finding.{IsWellFormed};
 ghost use Rattle.kfs_image.specs.Codec.RawImages.{raw_of};
+ghost use Rattle.kfs_image.specs.Raw.Rows.{AreHeaders};
 ghost use Rattle.kfs_fsck.specs.Faults.{Tells};
 
 use crate::fault::FsckFault;
 use crate::parts::InParts;
-use kfs_image::{Image, RawImage};
-use kfs_shape::{ShapeFault, check_asking};
+use kfs_image::{Header, Image, RawImage};
+use kfs_maps::Pages;
+use kfs_shape::{ShapeFault, check_keeping};
 use std::alloc::Allocator;
 use std::thread::Threads;
 
@@ -27,21 +29,26 @@ pub fn fsck<A: Allocator + Copy>(
     ensures image { IfOk result (λ image. image ≡ image_of (raw_of raw)) }
     ensures fault { IfErr result (Tells raw) }
 {
-    match check_asking(alloc, &raw, &InParts { threads: rt }) {
-        Ok(()) => image_from(alloc, raw),
+    match check_keeping(alloc, &raw, &InParts { threads: rt }) {
+        Ok(headers) => image_from(alloc, raw, headers),
         Err(ShapeFault::Found(finding)) => Err(FsckFault::Found(finding)),
         Err(ShapeFault::OutOfMemory) => Err(FsckFault::OutOfMemory(raw)),
     }
 }
 
-/// The image of rows that break no rule.
-fn image_from<A: Allocator + Copy>(alloc: A, raw: RawImage<A>) -> Result<Image<A>, FsckFault<A>>
-    requires { IsWellFormed (raw_of raw) }
+/// The image of rows that break no rule, given their headers.
+fn image_from<A: Allocator + Copy>(
+    alloc: A,
+    raw: RawImage<A>,
+    headers: Pages<Header, A>,
+) -> Result<Image<A>, FsckFault<A>>
+    requires well_formed { IsWellFormed (raw_of raw) }
+    requires headers { AreHeaders headers raw }
     ensures well_formed { IfOk result (λ image. IsWellFormed (raw_of raw)) }
     ensures image { IfOk result (λ image. image ≡ image_of (raw_of raw)) }
     ensures fault { IfErr result (Tells raw) }
 {
-    match Image::from_raw(alloc, raw) {
+    match Image::from_raw_with(alloc, raw, headers) {
         Ok(image) => Ok(image),
         Err(back) => Err(FsckFault::OutOfMemory(back)),
     }

@@ -24,14 +24,14 @@ use Rattle.kfs_image.specs.Net.{CanApply, applied}
 use Rattle.kfs_image.proofs.ShownTrees.{lawful_fits}
 
 -- Runs and rows of blocks, as a change finds them: the runs by lists that are those of the net and the fill.
-pub record AreOf {A : Type 0} (net : Net A) (fill : Fill A) (nodes : List NodeRow) (zero found released : List BlockRun) (rows : List (BlockRow A)) : Type 0 where
+pub record AreOf {A : Type 0} (net : Net A (List ℕ)) (fill : Fill A) (nodes : List NodeRow) (zero found released : List BlockRun) (rows : List (BlockRow A)) : Type 0 where
   pub nodes_are : nodes ≡ net.nodes.items
   pub zero_are : zero ≡ fill.zero.items
   pub released_are : released ≡ found
   pub rows_are : rows ≡ fill.rows.items
   pub found_are : AreReleased nodes zero found
 
-module _ {A : Type 0} {net : Net A} {fill : Fill A} {nodes : List NodeRow} {zero found released : List BlockRun} {rows : List (BlockRow A)} (of : AreOf net fill nodes zero found released rows) where
+module _ {A : Type 0} {net : Net A (List ℕ)} {fill : Fill A} {nodes : List NodeRow} {zero found released : List BlockRun} {rows : List (BlockRow A)} (of : AreOf net fill nodes zero found released rows) where
   are_released : AreReleased net.nodes.items fill.zero.items released
   are_released =
       subst (AreReleased net.nodes.items fill.zero.items) (sym of.released_are) (subst (λ runs. AreReleased net.nodes.items runs found) of.zero_are (subst (λ rows. AreReleased rows zero found) of.nodes_are of.found_are))

@@ -1,5 +1,5 @@
 -- A fill without a block leaves the image of the net alone.
-use Rattle.std.proofs.Common.{◌≡◌, ◌<◌, true, [], All, refl, sym, ap, subst, ◌∙◌, arith}
+use Rattle.std.proofs.Common.{◌≡◌, ℕ, ◌<◌, true, List, [], All, refl, sym, ap, subst, ◌∙◌, arith}
 use Rattle.std.specs.Prelude.{vec_len}
 use Rattle.kfs_model.specs.Limits.{block_size}
 use Rattle.kfs_model.specs.Placement.{Placement, tier_size}
@@ -15,7 +15,7 @@ use Rattle.kfs_image.specs.Net.{CanApply, after_net, applied, cut}
 less_nothing : (placement : Placement) → less [] placement ≡ placement
 less_nothing placement = same_table _ _ (λ block. get-retain (λ block. true) placement block)
 
-module _ {A : Type 0} (net : Net A) (fill : Fill A) (rows : fill.rows.items ≡ []) (zero : fill.zero.items ≡ []) (image : DeviceImage) where
+module _ {A : Type 0} (net : Net A (List ℕ)) (fill : Fill A) (rows : fill.rows.items ≡ []) (zero : fill.zero.items ≡ []) (image : DeviceImage) where
   placed_alone : (placement : Placement) → mapped_by {A = A} [] placement ≡ placement
   unfolding mapped_by
   placed_alone placement = refl

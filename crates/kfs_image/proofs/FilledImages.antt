@@ -273,10 +273,10 @@ module _ {A : Type 0} where
 -- ---- a net and a fill
 
 -- the image of the net, with its blocks where they were
-abbrev pub still_placed : {A : Type 0} → Net A → DeviceImage → DeviceImage
+abbrev pub still_placed : {A : Type 0} → Net A (List ℕ) → DeviceImage → DeviceImage
 still_placed net image = record (after_net net image) { placement = image.placement }
 
-module _ {A : Type 0} (net : Net A) (fill : Fill A) (image : DeviceImage) where
+module _ {A : Type 0} (net : Net A (List ℕ)) (fill : Fill A) (image : DeviceImage) where
   -- the image of the net, of which the fill's rows aren't made yet
   abbrev pub emptied : DeviceImage
   emptied = record (after_net net image) { placement = cut (reheaded image.heads net.nodes.items) (less fill.zero.items image.placement) }

@@ -7,7 +7,6 @@ use Rattle.std.proofs.lemmas.List.{drop_all}
 use Rattle.std.proofs.lemmas.List.Folds.{list_any-append}
 use Rattle.std.specs.Cmp.{unsigned_tied}
 use Rattle.std.specs.List.{list_any}
-use Rattle.std.specs.Ordering.{nat_cmp, eq_by_cmp}
 use Rattle.kfs_types.specs.declared.entry.Header.{Header as CodeHeader}
 use Rattle.kfs_types.specs.declared.entry.Kind.{Kind as CodeKind}
 use Rattle.kfs_types.specs.declared.entry.Kind.TheVariants as kinds
@@ -15,9 +14,9 @@ use Rattle.kfs_types.specs.declared.plan.NodeRow.{NodeRow}
 use Rattle.kfs_types.specs.Views.{header_of}
 use Rattle.kfs_model.specs.Header.{Kind, File, Directory, Header}
 use Rattle.kfs_model.specs.Sight.{is_file}
-use Rattle.kfs_model.specs.Table.{Table, numbers, get, changed}
+use Rattle.kfs_model.specs.Table.{Table, numbers, get}
 use Rattle.kfs_model.specs.Placement.{Place, Placement, block_count}
-use Rattle.kfs_model.proofs.TableLaws.{same_table, get-changed, get-retain}
+use Rattle.kfs_model.proofs.TableLaws.{same_table, get-retain}
 use Rattle.kfs_model.specs.Device.ShownTree.{DeviceImage, IsLawful}
 use Rattle.kfs_maps.specs.declared.pages.change.NumberEdit.{NumberEdit}
 use Rattle.kfs_maps.specs.Pages.Edits.{edited, AreEdits}

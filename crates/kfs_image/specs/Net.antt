@@ -1,5 +1,5 @@
 -- What a landing does to an image: names and headers become those of the net, blocks those of the fill.
-use Rattle.std.specs.Prelude.{◌≡◌, ℕ, ◌<◌, nat_lt, Bool, All, Option, Some, None, vec_len, if◌then◌else◌}
+use Rattle.std.specs.Prelude.{◌≡◌, ℕ, ◌<◌, nat_lt, Bool, All, List, Option, Some, None, vec_len, if◌then◌else◌}
 use Rattle.kfs_model.specs.Header.{Header}
 use Rattle.kfs_model.specs.Limits.{block_size}
 use Rattle.kfs_model.specs.Table.{Table, numbers, get, retain}
@@ -26,7 +26,7 @@ cut heads placement = retain (is_block heads) placement
 
 module _ {A : Type 0} where
   -- the image with the net's rows, and no block written
-  abbrev pub after_net : Net A → DeviceImage → DeviceImage
+  abbrev pub after_net : Net A (List ℕ) → DeviceImage → DeviceImage
   after_net net image = record image {
     heads = reheaded image.heads net.nodes.items;
     names = renamed image.names net.names.items;
@@ -35,7 +35,7 @@ module _ {A : Type 0} where
 
   -- Names and headers become those of the net's rows. Blocks that become zero, or belong to no file any
   -- more, are unmapped. Then the written blocks are put at their places, with their bytes.
-  abbrev pub applied : Net A → Fill A → DeviceImage → DeviceImage
+  abbrev pub applied : Net A (List ℕ) → Fill A → DeviceImage → DeviceImage
   applied net fill image = record {
     sizes = image.sizes;
     heads = reheaded image.heads net.nodes.items;
@@ -45,7 +45,7 @@ module _ {A : Type 0} where
   }
 
   -- The image is lawful after the change. Each written block lies in its tier and is whole.
-  pub record CanApply (net : Net A) (fill : Fill A) (image : DeviceImage) : Type 0 where
+  pub record CanApply (net : Net A (List ℕ)) (fill : Fill A) (image : DeviceImage) : Type 0 where
     pub lawful : IsLawful (applied net fill image)
     pub in_tier : All (λ r. r.place.place < tier_size image.sizes r.place.tier) fill.rows.items
     pub whole : All (λ r. vec_len r.bytes ≡ block_size) fill.rows.items

@@ -14,11 +14,13 @@ ghost use Rattle.kfs_image.specs.Codec.RawImages.{raw_of};
 ghost use Rattle.kfs_maps.specs.Chunks.Starts.{is_from, IsNextEntry, IsNextRun};
 ghost use Rattle.kfs_image.specs.Tier.Unused.{IsNextUnused, AreTakenFrom, unused_places};
 ghost use Rattle.kfs_image_nodes.specs.Change.{reheaded};
+ghost use Rattle.kfs_image_nodes.specs.Lent.{net_in, rows_in};
 ghost use Rattle.kfs_image_nodes.specs.Look.{IsAfter, IsNext, IsNextNode};
 ghost use Rattle.kfs_image.specs.Blocks.Blocks.{CanChange};
 ghost use Rattle.kfs_image.specs.Edit.{CanEdit, edited_all};
 ghost use Rattle.kfs_image.specs.Image.{blocks_of, changed_image, contents_of, fresh_image, place_at};
 ghost use Rattle.kfs_image.specs.Net.{CanApply, applied};
+ghost use Rattle.kfs_image.specs.Raw.Rows.{AreHeaders};
 ghost use Rattle.kfs_image.specs.Read.{FileIsRead};
 ghost use Rattle.kfs_types.specs.Views.{header_of};
 
@@ -26,12 +28,12 @@ use crate::blocks::{BlockEdits, ChangeBlocks, FileBlocks, Place};
 use crate::codec::RawImage;
 use crate::edit::{Edit, Parts};
 use crate::net::Fill;
-use crate::raw::{raw_blocks, raw_shape, tell_spelled};
+use crate::raw::{raw_blocks, raw_headers, raw_shape, tell_spelled};
 use crate::read::{ReadFault, released_blocks};
-use kfs_image_nodes::{Answer, Cell, Net, NodeChanges, Shape, look};
-use kfs_maps::key_edits;
+use kfs_image_nodes::{Answer, Cell, LentNet, NameRows, Net, NodeChanges, Shape, look};
+use kfs_maps::{Pages, key_edits};
 use kfs_model::device::laws::well_formed_image_is_lawful;
-use kfs_types::{BLOCK_SIZE, Header, Kind, Name, NameRow, TierSizes};
+use kfs_types::{BLOCK_SIZE, Header, Kind, Name, TierSizes};
 use std::alloc::{AllocError, Allocator};
 use std::marker::Model;
 use std::ops::Bound;
@@ -89,7 +91,26 @@ impl<A: Allocator + Clone> Image<A> {
         ensures ok { IfOk result (λ image. image ≡ image_of (raw_of raw)) }
         ensures err { IfErr result (λ back. back ≡ raw) }
     {
-        match Image::of_rows(alloc, &raw) {
+        match raw_headers(&alloc, &raw) {
+            Ok(headers) => Image::from_raw_with(alloc, raw, headers),
+            // It can only be a lack of memory.
+            Err(_refused) => Err(raw),
+        }
+    }
+
+    /// `from_raw`, given the headers of the rows. A check of the rows has made them already.
+    #[doc(hidden)]
+    pub fn from_raw_with(
+        alloc: A,
+        raw: RawImage<A>,
+        headers: Pages<Header, A>,
+    ) -> Result<Image<A>, RawImage<A>>
+        requires well_formed { IsWellFormed (raw_of raw) }
+        requires headers { AreHeaders headers raw }
+        ensures ok { IfOk result (λ image. image ≡ image_of (raw_of raw)) }
+        ensures err { IfErr result (λ back. back ≡ raw) }
+    {
+        match Image::of_rows(alloc, &raw, headers) {
             Ok(image) => Ok(image),
             // It can only be a lack of memory.
             Err(_refused) => Err(raw),
@@ -97,13 +118,18 @@ impl<A: Allocator + Clone> Image<A> {
     }
 
     /// The image of the rows, which stay as they are.
-    fn of_rows(alloc: A, raw: &RawImage<A>) -> Result<Image<A>, AllocError>
-        requires { IsWellFormed (raw_of raw.now) }
+    fn of_rows(
+        alloc: A,
+        raw: &RawImage<A>,
+        headers: Pages<Header, A>,
+    ) -> Result<Image<A>, AllocError>
+        requires well_formed { IsWellFormed (raw_of raw.now) }
+        requires headers { AreHeaders headers raw.now }
         ensures { IfOk result (λ image. image ≡ image_of (raw_of raw.now)) }
     {
         tell_spelled(raw);
         well_formed_image_is_lawful();
-        let shape = raw_shape(&alloc, raw)?;
+        let shape = raw_shape(&alloc, raw, headers)?;
         let shape = Arc::new(alloc.clone()?, shape)?;
         let blocks = raw_blocks(&alloc, raw)?;
         Ok(Image {
@@ -133,7 +159,7 @@ impl<A: Allocator + Clone> Image<A> {
         let nodes = NodeChanges::of(&alloc, nodes.as_slice())?;
         let places = key_edits(&alloc, &block_places)?;
         let edits = BlockEdits { places, written };
-        self.change_all(&alloc, names.as_slice(), &nodes, edits)
+        self.change_all(&alloc, NameRows::Owned(names.as_slice()), &nodes, edits)
     }
 
     /// `net_apply`. Pages and chunks that a view shares are copied where they change, and the others
@@ -153,39 +179,39 @@ impl<A: Allocator + Clone> Image<A> {
         let edits = self
             .blocks
             .copied_edits(released.as_slice(), fill.rows.as_slice())?;
-        self.change_all(alloc, net.names.as_slice(), &nodes, edits)
+        self.change_all(alloc, LentNet::Owned(net).names(), &nodes, edits)
     }
 
     /// The same, where the fill is given away: no byte of its blocks is copied. `nodes` are the net's.
     pub(crate) fn change_moving(
         &mut self,
         alloc: &A,
-        net: &Net<A>,
+        net: LentNet<'_, '_, A>,
         nodes: &NodeChanges<'_, A>,
         fill: Fill<A>,
     ) -> Result<(), AllocError>
-        requires nodes { nodes.now ≡ net.now.nodes.items }
-        requires can { CanApply net.now fill self.old }
-        ensures ok { OnOk result (self.new ≡ applied net.now fill self.old) }
+        requires nodes { nodes.now ≡ (net_in net).nodes.items }
+        requires can { CanApply (net_in net) fill self.old }
+        ensures ok { OnOk result (self.new ≡ applied (net_in net.entry) fill self.old) }
         ensures err { OnErr result (self.new ≡ self.old) }
     {
         let Fill { rows, zero } = fill;
         let released = released_blocks(alloc, nodes, zero.as_slice())?;
         let edits = self.blocks.moved_edits(released.as_slice(), rows)?;
-        self.change_all(alloc, net.names.as_slice(), nodes, edits)
+        self.change_all(alloc, net.names(), nodes, edits)
     }
 
     /// Makes the changes of names, of nodes and of blocks: all of them, or none where memory runs out.
     fn change_all(
         &mut self,
         alloc: &A,
-        names: &[NameRow],
+        names: NameRows<'_, '_>,
         nodes: &NodeChanges<'_, A>,
         edits: BlockEdits<A>,
     ) -> Result<(), AllocError>
         requires blocks { CanChange (blocks_of self.old) edits.places.items edits.written.items }
-        requires lawful { IsLawful (changed_image names.now nodes.now edits self.old) }
-        ensures ok { OnOk result (self.new ≡ changed_image names.now nodes.now edits self.old) }
+        requires lawful { IsLawful (changed_image (rows_in names) nodes.now edits self.old) }
+        ensures ok { OnOk result (self.new ≡ changed_image (rows_in names.entry) nodes.now edits self.old) }
         ensures err { OnErr result (self.new ≡ self.old) }
     {
         let BlockEdits {

@@ -1,10 +1,11 @@
 //! The change that a landing makes to an image.
 ghost use Rattle.std.specs.Prelude.{◌≡◌, [], IfOk, OnOk, OnErr};
+ghost use Rattle.kfs_image_nodes.specs.Lent.{net_in};
 ghost use Rattle.kfs_image.specs.Net.{CanApply, applied};
 
 use crate::blocks::{BlockRow, BlockRun};
 use crate::image::Image;
-use kfs_image_nodes::{Net, NodeChanges};
+use kfs_image_nodes::{LentNet, Net, NodeChanges};
 use std::alloc::{AllocError, Allocator};
 
 /// The change of a landing to the blocks of files.
@@ -49,17 +50,17 @@ pub fn net_apply<A: Allocator + Clone>(
 }
 
 /// `net_apply`, where the fill is given away: no byte of its blocks is copied. The new headers of the
-/// net's rows are made already.
+/// net's rows are made already, and its names may lie in a log's bytes.
 pub fn net_apply_moving<A: Allocator + Clone>(
     alloc: A,
     image: &mut Image<A>,
-    net: &Net<A>,
+    net: LentNet<'_, '_, A>,
     nodes: &NodeChanges<'_, A>,
     fill: Fill<A>,
 ) -> Result<(), AllocError>
-    requires nodes { nodes.now ≡ net.now.nodes.items }
-    requires can { CanApply net.now fill image.old }
-    ensures ok { OnOk result (image.new ≡ applied net.now fill image.old) }
+    requires nodes { nodes.now ≡ (net_in net).nodes.items }
+    requires can { CanApply (net_in net) fill image.old }
+    ensures ok { OnOk result (image.new ≡ applied (net_in net.entry) fill image.old) }
     ensures err { OnErr result (image.new ≡ image.old) }
 {
     image.change_moving(&alloc, net, nodes, fill)

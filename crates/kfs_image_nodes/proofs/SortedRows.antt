@@ -1,6 +1,7 @@
 -- The tables of name rows that ascend, made of one row after another.
 use Rattle.std.proofs.Common.{◌≡◌, ℕ, ◌==◌, ◌&&◌, Bool, cond, T, List, [], ◌∷◌, Some, count_by, map, refl, sym, ap, subst, ◌∙◌, arith}
 use Rattle.std.proofs.lemmas.List.Sums.{sum_by-cons}
+use Rattle.std.proofs.lemmas.Simd.{map-map}
 use Rattle.std.specs.declared.cmp.Ordering.{Ordering}
 use Rattle.std.specs.declared.cmp.Ordering.TheVariants.{Less, Equal, Greater}
 use Rattle.std.specs.Ordering.{is_eq, nat_cmp, eq_by_cmp}
@@ -28,7 +29,7 @@ counted_alike p part passes same (row ∷ rows) =
     omega (arith, left, right, first, counted_alike p part passes same rows)
 
 -- how often the rows have each directory, and each uplink, are the counts of the table of their entries
-pub counted_rows : (rows : List (NameRow (List ℕ))) (tally : Table numbers ℕ) (ways : Table by_node ℕ) → T (is_sorted name_order.compare (name_entries rows)) → ((d : ℕ) → count_at tally d ≡ count_by (λ k. eq_by_cmp nat_cmp d k) (map dir_of rows))
+pub counted_rows : (rows : List (NameRow (List ℕ))) (tally : Table numbers ℕ) (ways : Table by_node ℕ) → T (is_sorted name_order.compare (name_entries rows)) → ((d : ℕ) → count_at tally d ≡ count_by (λ k. eq_by_cmp nat_cmp d k) (map dir_of (map uplink_of rows)))
     → ArePositive ways
     → ((q : ℕ × ℕ) → count_at ways q ≡ count_by (λ k. eq_by_cmp by_node.compare q k) (map uplink_of rows))
     → IsCounted (table name_order (name_entries rows)) tally ways
@@ -38,7 +39,8 @@ counted_rows rows tally ways sorted dirs positive uplinks =
       positive = positive;
       counts = λ d.
           dirs d
-          ∙ counted_alike (λ k. eq_by_cmp nat_cmp d k) dir_of (λ (e : Entry). e.0.0 == d) (λ row. sym (turned row.dir d)) rows
+          ∙ ap (λ ks. count_by (λ k. eq_by_cmp nat_cmp d k) ks) (map-map dir_of uplink_of rows)
+          ∙ counted_alike (λ k. eq_by_cmp nat_cmp d k) (λ row. row.dir) (λ (e : Entry). e.0.0 == d) (λ row. sym (turned row.dir d)) rows
           ∙ sym (ap (λ es. count_by (λ (e : Entry). e.0.0 == d) es) entries);
       uplinks = λ n d.
           uplinks (n, d)

@@ -2,6 +2,7 @@ pub mod Change
 pub mod Contents
 pub mod HeaderEdits
 pub mod Indexes
+pub mod Lent
 pub mod Look
 pub mod NameEdits
 pub mod NodeEdits

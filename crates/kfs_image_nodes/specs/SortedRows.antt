@@ -15,12 +15,13 @@ name_entry row = ((row.dir, row.name), row.number)
 abbrev pub name_entries : List (NameRow (List ℕ)) → List ((ℕ × List ℕ) × ℕ)
 name_entries rows = map name_entry rows
 
--- the directory of a row, and the uplink that its name is: its number, and its directory
-abbrev pub dir_of : NameRow (List ℕ) → ℕ
-dir_of row = row.dir
-
+-- the uplink that the name of a row is: its number, and its directory
 abbrev pub uplink_of : NameRow (List ℕ) → ℕ × ℕ
 uplink_of row = (row.number, row.dir)
+
+-- the directory of an uplink
+abbrev pub dir_of : ℕ × ℕ → ℕ
+dir_of uplink = uplink.1
 
 -- the count that is set for a directory, over no counts
 abbrev pub tallied_at : List (ℕ × Option ℕ) → ℕ → ℕ

@@ -9,6 +9,7 @@ ghost use Rattle.kfs_model.specs.Spelling.{IsName};
 ghost use Rattle.kfs_model.specs.Tree.{entry_count, name_order, target};
 ghost use Rattle.kfs_model.specs.Sight.{parent_in};
 ghost use Rattle.kfs_image_nodes.specs.Contents.{root_alone};
+ghost use Rattle.kfs_image_nodes.specs.Lent.{rows_in};
 ghost use Rattle.kfs_image_nodes.specs.Look.{IsAnswer, IsAfter, IsNext, IsNextNode};
 ghost use Rattle.kfs_image_nodes.specs.Change.{after_rows, renamed, reheaded};
 ghost use Rattle.kfs_image_nodes.specs.NodeEdits.{IsNumber};
@@ -20,6 +21,7 @@ ghost use Rattle.kfs_maps.specs.Chunks.Tables.{table};
 use crate::cell::{Answer, Cell};
 use crate::edits::NodeChanges;
 use crate::name_edits::LastPlaces;
+use crate::net::NameRows;
 use crate::rows::{NodeTables, name_key};
 use kfs_maps::{Near, Page, Pages};
 use kfs_types::{Change, GREATEST_MODE_OF_VERSION_1, Header, Kind, Name, NameRow, ROOT};
@@ -199,14 +201,14 @@ impl<A: Allocator + Clone> Shape<A> {
     pub fn apply<T: Change>(
         &mut self,
         alloc: &A,
-        names: &[NameRow],
+        names: NameRows<'_, '_>,
         nodes: &NodeChanges<'_, A>,
         then: &mut T,
     ) -> Result<(), AllocError>
         requires before { FitPages self.old.heads self.old.names }
-        requires after { FitPages (reheaded self.old.heads nodes.now) (renamed self.old.names names.now) }
+        requires after { FitPages (reheaded self.old.heads nodes.now) (renamed self.old.names (rows_in names)) }
         requires then { T.can_make then.old }
-        ensures ok { OnOk result (self.new ≡ after_rows self.old names.now nodes.now) }
+        ensures ok { OnOk result (self.new ≡ after_rows self.old (rows_in names.entry) nodes.now) }
         ensures err { OnErr result (self.new ≡ self.old) }
         ensures made { OnOk result (T.made then.old then.new) }
         ensures kept { OnErr result (T.kept then.old then.new) }

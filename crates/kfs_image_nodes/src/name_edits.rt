@@ -7,18 +7,19 @@ ghost use Rattle.kfs_model.specs.Tree.{name_order};
 ghost use Rattle.kfs_maps.specs.Pages.Edits.{AreEdits};
 ghost use Rattle.kfs_maps.specs.Chunks.Edits.{KeysAscend};
 ghost use Rattle.kfs_maps.specs.Chunks.Tables.{table, table_after};
-ghost use Rattle.kfs_image_nodes.specs.Change.{led_to};
+ghost use Rattle.kfs_model.specs.Spelling.{IsName};
 ghost use Rattle.kfs_image_nodes.specs.Indexes.{AreNames, IsCounted, by_node};
+ghost use Rattle.kfs_image_nodes.specs.Lent.{rows_in};
 ghost use Rattle.kfs_image_nodes.specs.NameEdits.{names_seen, counts_seen, ways_seen, IsCountedOver, AreCountEdits, AreEditsOf, AreRowsInOrder};
 ghost use Rattle.std.specs.Ordering.{nat_cmp};
 ghost use Rattle.std.specs.BTreeMap.{IsOrdered};
 ghost use Rattle.kfs_image_nodes.specs.NodeEdits.{edits_from};
 ghost use Rattle.kfs_image_nodes.specs.Overlays.{SayOfNumbers};
 
-use crate::rows::{name_key, target_of};
+use crate::net::NameRows;
 use crate::tallies::{CountEdits, Tallies, edits_of_one};
 use kfs_maps::{Chunks, KeyEdit, Near, NumberEdit, Overlay, Pages, key_edits, push_above};
-use kfs_types::{GREATEST_NUMBER, Name, NameRow};
+use kfs_types::{GREATEST_NUMBER, Name};
 use std::alloc::{AllocError, Allocator};
 use std::collections::BTreeMap;
 
@@ -58,10 +59,10 @@ pub(crate) fn name_edits<A: Allocator + Clone>(
     counts: &Pages<u64, A>,
     uplinks: &Chunks<(u32, u32), u64, A>,
     last: &mut LastPlaces,
-    rows: &[NameRow],
+    rows: NameRows<'_, '_>,
 ) -> Result<NameEdits<A>, AllocError>
     requires { IsCounted (table name_order names.now) counts.now (table by_node uplinks.now) }
-    ensures { IfOk result (AreEditsOf names.now counts.now uplinks.now rows.now) }
+    ensures { IfOk result (AreEditsOf names.now counts.now uplinks.now (rows_in rows.entry)) }
 {
     let Some(edits) = rows_in_order(alloc, rows)? else {
         return edits_of_all(alloc, names, counts, uplinks, rows);
@@ -88,14 +89,15 @@ fn puts_first(edits: &[KeyEdit<(u32, Name), u32>]) -> bool {
 /// The rows as edits of the names, or none where their keys don't ascend.
 fn rows_in_order<A: Allocator + Clone>(
     alloc: &A,
-    rows: &[NameRow],
+    rows: NameRows<'_, '_>,
 ) -> Result<Option<Vec<KeyEdit<(u32, Name), u32>, A>>, AllocError>
-    ensures { IfOk result (λ made. IfSome made (λ edits. AreRowsInOrder rows.now edits.items)) }
+    ensures { IfOk result (λ made. IfSome made (λ edits. AreRowsInOrder (rows_in rows.entry) edits.items)) }
 {
-    let mut edits = Vec::with_capacity(alloc.clone()?, rows.len())?;
-    for row in rows {
-        let key = name_key(row.dir, &row.name);
-        if !push_above(&mut edits, key, target_of(row))? {
+    let count = rows.len();
+    let mut edits = Vec::with_capacity(alloc.clone()?, count)?;
+    for index in 0..count {
+        let edit = rows.edit(index);
+        if !push_above(&mut edits, edit.key, edit.value)? {
             return Ok(None);
         }
     }
@@ -198,14 +200,14 @@ fn edits_of_all<A: Allocator + Clone>(
     names: &Chunks<(u32, Name), u32, A>,
     counts: &Pages<u64, A>,
     uplinks: &Chunks<(u32, u32), u64, A>,
-    rows: &[NameRow],
+    rows: NameRows<'_, '_>,
 ) -> Result<NameEdits<A>, AllocError>
     requires { IsCounted (table name_order names.now) counts.now (table by_node uplinks.now) }
-    ensures { IfOk result (AreEditsOf names.now counts.now uplinks.now rows.now) }
+    ensures { IfOk result (AreEditsOf names.now counts.now uplinks.now (rows_in rows.entry)) }
 {
     let mut overlays = Overlays::new(alloc)?;
-    for row in rows {
-        overlays.rename(names, counts, uplinks, row)?;
+    for index in 0..rows.len() {
+        overlays.rename(names, counts, uplinks, rows.edit(index))?;
     }
     Ok(NameEdits {
         names: key_edits(alloc, &overlays.names)?,
@@ -241,24 +243,24 @@ impl<A: Allocator + Clone> Overlays<A> {
         self.names.get_or(key, names.get(key).copied())
     }
 
-    /// Sets where the row's name leads, and changes the counts with it.
+    /// Sets where the edit's name leads, and changes the counts with it.
     fn rename(
         &mut self,
         names: &Chunks<(u32, Name), u32, A>,
         counts: &Pages<u64, A>,
         uplinks: &Chunks<(u32, u32), u64, A>,
-        row: &NameRow,
+        edit: KeyEdit<(u32, Name), u32>,
     ) -> Result<(), AllocError>
-        requires { IsCountedOver names.now counts.now uplinks.now self.old }
-        ensures names { OnOk result (names_seen self.new names.now ≡ changed (names_seen self.old names.now) (row.now.dir, row.now.name) (led_to row.now.number)) }
+        requires counted { IsCountedOver names.now counts.now uplinks.now self.old }
+        requires name { IsName edit.key.1 }
+        ensures names { OnOk result (names_seen self.new names.now ≡ changed (names_seen self.old names.now) edit.key edit.value) }
         ensures named { OnOk result (AreNames (names_seen self.old names.now) → AreNames (names_seen self.new names.now)) }
         ensures counted { OnOk result (IsCountedOver names.now counts.now uplinks.now self.new) }
     {
-        let key = name_key(row.dir, &row.name);
-        let to = target_of(row);
-        let from = self.target(names, &key);
-        self.tallies.recount(counts, uplinks, key.0, from, to)?;
-        self.names.set(key, to)?;
+        let from = self.target(names, &edit.key);
+        self.tallies
+            .recount(counts, uplinks, edit.key.0, from, edit.value)?;
+        self.names.set(edit.key, edit.value)?;
         Ok(())
     }
 }

@@ -11,8 +11,9 @@ ghost use Rattle.kfs_model.specs.Sight.{holder};
 ghost use Rattle.kfs_maps.specs.Pages.Edits.{rewritten, AreEdits};
 ghost use Rattle.kfs_maps.specs.Chunks.Edits as keyed;
 ghost use Rattle.kfs_maps.specs.Chunks.Starts.{is_from, IsNextRun};
-ghost use Rattle.kfs_image_nodes.specs.Change.{led_to, renamed, reheaded};
+ghost use Rattle.kfs_image_nodes.specs.Change.{renamed, reheaded};
 ghost use Rattle.kfs_image_nodes.specs.Indexes.{by_node};
+ghost use Rattle.kfs_image_nodes.specs.Lent.{rows_in};
 ghost use Rattle.kfs_image_nodes.specs.Look.{IsAfter, IsNext, IsNextNode};
 ghost use Rattle.kfs_image_nodes.specs.NodeEdits.{IsNumber};
 ghost use Rattle.kfs_image_nodes.specs.Rows.{heads_in, names_in, CountsAreExact, FitPages};
@@ -20,6 +21,7 @@ ghost use Rattle.kfs_image_nodes.specs.SortedRows.{name_entries};
 
 use crate::edits::NodeChanges;
 use crate::name_edits::{LastPlaces, NameEdits, name_edits};
+use crate::net::NameRows;
 use crate::sorted_rows::{NameCounts, counts_of, names_of};
 use kfs_maps::{Chunks, EditChunks, EditPages, Near, NumberEdit, Pages};
 use kfs_types::{Change, Header, Name, NameRow, Nothing};
@@ -166,17 +168,6 @@ pub(crate) fn name_key(dir: u32, name: &Name) -> (u32, Name)
     (dir, *name)
 }
 
-/// The number in a row; 0 stands for none.
-pub(crate) fn target_of(row: &NameRow) -> Option<u32>
-    ensures { result ≡ led_to row.now.number }
-{
-    if row.number == 0 {
-        None
-    } else {
-        Some(row.number)
-    }
-}
-
 impl<A: Allocator + Clone> NodeTables<A> {
     /// The tables with one node and no name.
     pub(crate) fn with_node(
@@ -272,17 +263,17 @@ impl<A: Allocator + Clone> NodeTables<A> {
         &mut self,
         alloc: &A,
         last: &mut LastPlaces,
-        names: &[NameRow],
+        names: NameRows<'_, '_>,
         nodes: &NodeChanges<'_, A>,
         then: &mut T,
     ) -> Result<(), AllocError>
         requires indexed { CountsAreExact self.old }
         requires before { FitPages (heads_in self.old) (names_in self.old) }
-        requires after { FitPages (reheaded (heads_in self.old) nodes.now) (renamed (names_in self.old) names.now) }
+        requires after { FitPages (reheaded (heads_in self.old) nodes.now) (renamed (names_in self.old) (rows_in names)) }
         requires then { T.can_make then.old }
         ensures indexed { CountsAreExact self.new }
         ensures headers { OnOk result (heads_in self.new ≡ reheaded (heads_in self.old) nodes.now) }
-        ensures names { OnOk result (names_in self.new ≡ renamed (names_in self.old) names.now) }
+        ensures names { OnOk result (names_in self.new ≡ renamed (names_in self.old) (rows_in names.entry)) }
         ensures err { OnErr result (self.new ≡ self.old) }
         ensures made { OnOk result (T.made then.old then.new) }
         ensures kept { OnErr result (T.kept then.old then.new) }

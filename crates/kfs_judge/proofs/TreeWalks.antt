@@ -29,7 +29,7 @@ module _ (client : Client) (held : ℕ → Bool) (t : Tree ℕ) (entries : List 
   seen : shown_run (run over_bytes client (client_sight t held) t entries) ≡ seen_run_from client (client_sight t held) 0 [] (sight t) entries
   seen = run_is_seen over_bytes bytes_faithful client (client_sight t held) fits.in_range 0 [] t fits.version entries fits.sound fits.fitting
 
-  pub comes_to_tree : {A : Type 0} (outcome : Result (Net A) CodeEntryFault) (sizes : List FileSize) → WalkEndsIn client (client_sight t held) entries outcome sizes → ComesToTree client held t entries outcome sizes
+  pub comes_to_tree : {A : Type 0} (outcome : Result (Net A (List ℕ)) CodeEntryFault) (sizes : List FileSize) → WalkEndsIn client (client_sight t held) entries outcome sizes → ComesToTree client held t entries outcome sizes
   comes_to_tree (Err fault) sizes comes = stopped (fault_of fault) _ (seen ∙ comes)
   comes_to_tree (Ok net) sizes comes =
       let (after, is, shown) = ended comes.0 _ (seen ∙ comes.1) in (

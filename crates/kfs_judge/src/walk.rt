@@ -10,12 +10,12 @@ ghost use Rattle.kfs_judge.specs.Check.Kept.{keeps_reads};
 ghost use Rattle.kfs_judge.specs.Check.Reads.{Agrees, AreOnce};
 ghost use Rattle.kfs_judge.specs.Check.Recorders.{GoesOn};
 ghost use Rattle.kfs_judge.specs.Check.View.{clients_of, client_sight_in};
-ghost use Rattle.kfs_judge.specs.Walks.{HasOrderedSizes, IsRowOf, IsWalkOf, IsCellWalkOf, ReadsLookedCells};
+ghost use Rattle.kfs_judge.specs.Walks.{HasOrderedSizes, IsRowOf, IsSameOutcome, IsWalkOf, IsCellWalkOf, ReadsLookedCells};
 
 use crate::check::{Keeping, Reads, Reason, View};
 use crate::step::LogJudge;
-use kfs_entry::{BorrowedEntry, BorrowedName, Log, borrowed_log};
-use kfs_image_nodes::Net;
+use kfs_entry::{BorrowedEntry, BorrowedName, Log, Name, borrowed_log};
+use kfs_image_nodes::{Net, owned_net};
 use kfs_pieces::FileSize;
 use std::alloc::{AllocError, Allocator};
 use thiserror::Error;
@@ -31,12 +31,13 @@ pub struct EntryFault {
 }
 
 /// The outcome of judging a log's entries, with the reads that it rests on.
+/// `N` is how a name stands in the net, as in an `Entry`.
 #[derive(Drop)]
-pub struct Walk<A: Allocator> {
+pub struct Walk<A: Allocator, N = Name> {
     /// What was read of the view, with the answers, in order.
     pub reads: Reads<A>,
     /// The net change, or the first bad entry.
-    pub outcome: Result<Net<A>, EntryFault>,
+    pub outcome: Result<Net<A, N>, EntryFault>,
     /// The sizes of the files that the log changes or reaches, ascending by number. Empty where there
     /// is a bad entry.
     pub sizes: Vec<FileSize, A>,
@@ -85,16 +86,42 @@ pub fn judge_entries_keeping<A: Allocator + Copy>(
 {
     let borrowed = borrowed_log(alloc, log)?;
     let walk = judge_borrowed(alloc, view, &borrowed, keeping)?;
-    Ok(walk)
+    let owned = owned_walk(alloc, walk)?;
+    Ok(owned)
+}
+
+/// The same walk, with names of its own in the net. `Err` where memory runs out.
+fn owned_walk<A: Allocator + Copy>(
+    alloc: A,
+    walk: Walk<A, BorrowedName<'_>>,
+) -> Result<Walk<A>, AllocError>
+    ensures reads { IfOk result (λ owned. owned.reads ≡ walk.entry.reads) }
+    ensures outcome { IfOk result (λ owned. IsSameOutcome walk.entry.outcome owned.outcome) }
+    ensures sizes { IfOk result (λ owned. owned.sizes ≡ walk.entry.sizes) }
+{
+    let Walk {
+        reads,
+        sizes,
+        outcome,
+    } = walk;
+    let outcome = match outcome {
+        Ok(net) => Ok(owned_net(alloc, net)?),
+        Err(fault) => Err(fault),
+    };
+    Ok(Walk {
+        reads,
+        sizes,
+        outcome,
+    })
 }
 
 /// The same of a log whose names lie in its bytes.
-pub fn judge_borrowed<A: Allocator + Copy>(
+pub fn judge_borrowed<'s, A: Allocator + Copy>(
     alloc: A,
     view: &View<A>,
-    log: &Log<A, BorrowedName<'_>>,
+    log: &Log<A, BorrowedName<'s>>,
     keeping: Keeping,
-) -> Result<Walk<A>, AllocError>
+) -> Result<Walk<A, BorrowedName<'s>>, AllocError>
     requires client { IsSome (row_of (clients_of view.now) log.now.client) }
     requires count { length log.now.entries ≤ entry_limit }
     // The outcome is right at every sound tree, with all leases, that agrees with the reads, whatever
@@ -111,12 +138,12 @@ pub fn judge_borrowed<A: Allocator + Copy>(
 }
 
 /// The same over cells. What is read goes into `reads`, where there is none yet.
-fn walk_entries<A: Allocator + Copy>(
+fn walk_entries<'s, A: Allocator + Copy>(
     alloc: A,
     view: &View<A>,
-    log: &Log<A, BorrowedName<'_>>,
+    log: &Log<A, BorrowedName<'s>>,
     reads: Reads<A>,
-) -> Result<Walk<A>, AllocError>
+) -> Result<Walk<A, BorrowedName<'s>>, AllocError>
     requires client { IsSome (row_of (clients_of view.now) log.now.client) }
     requires count { length log.now.entries ≤ entry_limit }
     requires none { reads.entries ≡ [] }
@@ -148,9 +175,9 @@ fn walk_entries<A: Allocator + Copy>(
 }
 
 /// Enters the entries in order, up to the first bad one.
-fn enter_all<'e, A: Allocator + Copy>(
-    judge: &mut LogJudge<'_, 'e, A>,
-    entries: &'e [BorrowedEntry<'e>],
+fn enter_all<'e, 's, A: Allocator + Copy>(
+    judge: &mut LogJudge<'_, 'e, 's, A>,
+    entries: &'e [BorrowedEntry<'s>],
 ) -> Result<Option<EntryFault>, AllocError>
     requires count { length entries.now ≤ entry_limit }
     requires shown { (s : Sight) → over judge.old.draft s ≡ s }

@@ -3,3 +3,4 @@ pub mod MarkedRuns
 pub mod RowsCompared
 pub mod PlanChecked
 pub mod Verdicts
+pub mod SameFindings

@@ -29,7 +29,7 @@ use Rattle.kfs_judge.specs.Walks.{ComesToTree}
 use Rattle.kfs_judge.specs.Step.Nets.{IsNetOf}
 use Rattle.kfs_plan.proofs.MarkedRuns.{EndsBeside, ends_beside}
 
-module _ {A : Type 0} (client : Client) (before : ClientSight) (tree : Tree ℕ) (entries : List Entry) (after : Tree ℕ) (net : Net A) (plan : CodePlan A (List ℕ)) (beside : EndsBeside client before tree entries after) (differs : IsNetOf (sight tree) (sight after) net) where
+module _ {A : Type 0} (client : Client) (before : ClientSight) (tree : Tree ℕ) (entries : List Entry) (after : Tree ℕ) (net : Net A (List ℕ)) (plan : CodePlan A (List ℕ)) (beside : EndsBeside client before tree entries after) (differs : IsNetOf (sight tree) (sight after) net) where
   wrong_name : first_wrong_name tree.names beside.marked_after.names (plan_of plan).names ≡ first_difference (same_pair same_place nat_eq) (map keyed_name_row plan.names) (map keyed_name_row net.names.items)
   wrong_name =
       let shown = map-map keyed_name name_row_of plan.names in
@@ -50,7 +50,7 @@ module _ {A : Type 0} (client : Client) (before : ClientSight) (tree : Tree ℕ)
 
 -- ---- at the end of a walk without a fault
 
-module _ {A : Type 0} (client : Client) (held : ℕ → Bool) (tree : Tree ℕ) (entries : List Entry) (sizes : List FileSize) (net : Net A) (comes : ComesToTree client held tree entries (Ok net) sizes) where
+module _ {A : Type 0} (client : Client) (held : ℕ → Bool) (tree : Tree ℕ) (entries : List Entry) (sizes : List FileSize) (net : Net A (List ℕ)) (comes : ComesToTree client held tree entries (Ok net) sizes) where
   abbrev before : ClientSight
   before = client_sight tree held
 

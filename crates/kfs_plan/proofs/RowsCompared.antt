@@ -125,7 +125,7 @@ node_rows-alike r q = ap (λ b. nat_eq r.number q.number && b) (options-alike r.
 
 -- ---- what the code's searches find, and the first row that isn't the net's
 
-module _ {A : Type 0} (net : Net A) (plan : CodePlan A (List ℕ)) where
+module _ {A : Type 0} (net : Net A (List ℕ)) (plan : CodePlan A (List ℕ)) where
   abbrev in_names : Option ℕ
   in_names = first_difference (same_pair same_place nat_eq) (map keyed_name_row plan.names) (map keyed_name_row net.names.items)
 

@@ -151,7 +151,7 @@ module _ (A : Type 0) (s : State) (submission : Submission) where
           refused (faults.Entry fault) (AtEntry (fault_of fault)) (Ok the_log) (Ok (plan_of plan)) spelled.log_read spelled.plan_read
           (judged-entry s submission.client client row the_log (plan_of plan) spelled.owner (fault_of fault) (ap (λ before. run over_bytes client before s.tree the_log.entries) (sym sights) ∙ comes)) refl
 
-      module _ (sizes : List FileSize) (net : Net A) (comes : ComesToTree client (holds s.leases submission.client) s.tree the_log.entries (Ok net) sizes) where
+      module _ (sizes : List FileSize) (net : Net A (List ℕ)) (comes : ComesToTree client (holds s.leases submission.client) s.tree the_log.entries (Ok net) sizes) where
         ran : run over_bytes client (client_sight_of s client.number) s.tree the_log.entries ≡ Ok comes.0
         ran = ap (λ before. run over_bytes client before s.tree the_log.entries) (sym sights) ∙ comes.1
 
@@ -205,7 +205,7 @@ module _ (A : Type 0) (s : State) (submission : Submission) where
               };
             }
 
-      pub settled : (sizes : List FileSize) (walked : Result (Net A) CodeEntryFault) (outcome : Outcome A (List ℕ)) → ComesToTree client (holds s.leases submission.client) s.tree the_log.entries walked sizes → OutcomeIsSettled log plan sizes walked outcome → IsVerdict s submission outcome
+      pub settled : (sizes : List FileSize) (walked : Result (Net A (List ℕ)) CodeEntryFault) (outcome : Outcome A (List ℕ)) → ComesToTree client (holds s.leases submission.client) s.tree the_log.entries walked sizes → OutcomeIsSettled log plan sizes walked outcome → IsVerdict s submission outcome
       settled sizes (Err fault) (outcomes.No refusal) comes is = subst (λ (f : CodeFault). IsVerdict {A = A} s submission (outcomes.No f)) (sym is) (bad_entry sizes fault comes)
       settled sizes (Err fault) (outcomes.Yes l p n told) comes is = absurd is
       settled sizes (Ok net) (outcomes.No (faults.Row fault)) comes is = bad_row sizes net comes fault is.0 (told_of sizes net comes (Err fault) is.1)
@@ -219,7 +219,7 @@ module _ (A : Type 0) (s : State) (submission : Submission) where
           subst (λ (o : Outcome A (List ℕ)). IsVerdict s submission o) same (right sizes net comes told (told_of sizes net comes (Ok told) is.3))
 
 -- a finding on a log that was walked
-pub walked_verdict : (A : Type 0) (s : State) (submission : Submission) (client : Client) (found : Option Client) (log : CodeLog A (List ℕ)) (plan : CodePlan A (List ℕ)) (walk : Walk A) (reads : List (Read × ReadAnswer)) (outcome : Outcome A (List ℕ))
+pub walked_verdict : (A : Type 0) (s : State) (submission : Submission) (client : Client) (found : Option Client) (log : CodeLog A (List ℕ)) (plan : CodePlan A (List ℕ)) (walk : Walk A (List ℕ)) (reads : List (Read × ReadAnswer)) (outcome : Outcome A (List ℕ))
     → AreSpelled submission log plan → IsClient client → found ≡ Some client → reads ≡ walk.reads.entries → IsWalkOf client log walk → OutcomeIsSettled log plan walk.sizes.items walk.outcome outcome
     → AgreesWithReads s submission.client found reads → IsVerdict s submission outcome
 walked_verdict A s submission client found log plan walk reads outcome spelled in_range is same_reads walks is_settled alike =
@@ -246,7 +246,7 @@ module _ {A : Type 0} (view : View A) (submission : Submission) where
     looked = λ _. of;
   }
 
-  pub settled_looked : (log : CodeLog A (List ℕ)) (plan : CodePlan A (List ℕ)) (sizes : List FileSize) (walked : Result (Net A) CodeEntryFault) (outcome : Outcome A (List ℕ)) (reads : List (Read × ReadAnswer)) → OutcomeIsSettled log plan sizes walked outcome → AreOfLog view submission reads → AreLooked view submission outcome reads
+  pub settled_looked : (log : CodeLog A (List ℕ)) (plan : CodePlan A (List ℕ)) (sizes : List FileSize) (walked : Result (Net A (List ℕ)) CodeEntryFault) (outcome : Outcome A (List ℕ)) (reads : List (Read × ReadAnswer)) → OutcomeIsSettled log plan sizes walked outcome → AreOfLog view submission reads → AreLooked view submission outcome reads
   settled_looked log plan sizes (Err fault) (outcomes.No refusal) reads is of = of_log (outcomes.No refusal) reads (ap is_before_entries is) of
   settled_looked log plan sizes (Err fault) (outcomes.Yes l p n told) reads is of = absurd is
   settled_looked log plan sizes (Ok net) (outcomes.No (faults.Row fault)) reads is of = of_log (outcomes.No (faults.Row fault)) reads refl of
@@ -283,7 +283,7 @@ row_is_fault (rows.Nodes index) memory = refl
 row_is_fault (rows.Pieces index) memory = refl
 row_is_fault rows.OutOfMemory memory = absurd (memory refl)
 
-pub settled_is_fault : {A : Type 0} (log : CodeLog A (List ℕ)) (plan : CodePlan A (List ℕ)) (sizes : List FileSize) (walked : Result (Net A) CodeEntryFault) (outcome : Outcome A (List ℕ)) → OutcomeIsSettled log plan sizes walked outcome → RefusesByFault outcome
+pub settled_is_fault : {A : Type 0} (log : CodeLog A (List ℕ)) (plan : CodePlan A (List ℕ)) (sizes : List FileSize) (walked : Result (Net A (List ℕ)) CodeEntryFault) (outcome : Outcome A (List ℕ)) → OutcomeIsSettled log plan sizes walked outcome → RefusesByFault outcome
 settled_is_fault log plan sizes (Err fault) (outcomes.No refusal) is = subst (λ f. IsSome (refusal_of f)) (sym is) refl
 settled_is_fault log plan sizes (Ok net) (outcomes.No (faults.Row fault)) is = row_is_fault fault is.0
 settled_is_fault log plan sizes (Ok net) (outcomes.No faults.UnknownClient) is = absurd is

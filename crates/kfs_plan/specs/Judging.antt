@@ -20,6 +20,7 @@ use Rattle.kfs_types.specs.declared.entry.Log.{Log as CodeLog}
 use Rattle.kfs_types.specs.declared.plan.Plan.{Plan as CodePlan}
 use Rattle.kfs_entry.specs.declared.fault.SpellFault.{SpellFault}
 use Rattle.kfs_entry.specs.declared.fault.SpellFault.TheVariants as spelling
+use Rattle.kfs_image_nodes.specs.Lent.{IsSameNet}
 use Rattle.kfs_image_nodes.specs.declared.net.Net.{Net}
 use Rattle.kfs_plan.specs.declared.rows.RowFault.{RowFault as CodeRowFault}
 use Rattle.kfs_plan.specs.declared.rows.RowFault.TheVariants as rows
@@ -135,7 +136,7 @@ pub record AreLooked {A : Type 0} (view : View A) (submission : Submission) (out
 
 -- the entries of the log lead to a sound tree, one by one and each allowed, with this net change and
 -- these marks
-pub record ComesToNet {A : Type 0} (s : State) (client : Client) (entries : List Entry) (net : Net A) (after : Tree ℕ) (marked_after : Tree Mark) : Type 0 where
+pub record ComesToNet {A : Type 0} (s : State) (client : Client) (entries : List Entry) (net : Net A (List ℕ)) (after : Tree ℕ) (marked_after : Tree Mark) : Type 0 where
   pub ran : run over_bytes client (client_sight_of s client.number) s.tree entries ≡ Ok after
   pub sound : IsSound after
   pub allowed : OneByOne client (client_sight_of s client.number) 0 [] s.tree entries after
@@ -146,7 +147,7 @@ pub record ComesToNet {A : Type 0} (s : State) (client : Client) (entries : List
 pub record YesParts (A : Type 0) : Type 0 where
   pub log : CodeLog A (List ℕ)
   pub plan : CodePlan A (List ℕ)
-  pub net : Net A
+  pub net : Net A (List ℕ)
   pub told : ℕ
 
 -- a Yes is right: the bytes decode to its log and plan, the entries lead to its net, and `need` blocks are
@@ -172,6 +173,13 @@ pub record IsVerdict {A : Type 0} (s : State) (submission : Submission) (outcome
   pub judgement : IsJudgement s submission verdict
   pub told : TellsVerdict s submission outcome verdict
 
+-- the same fault, or the same log and plan with a net of the same rows
+abbrev pub IsSameFinding : {A : Type 0} → Outcome A (List ℕ) → Outcome A (List ℕ) → Type 0
+IsSameFinding (outcomes.No fault) (outcomes.No other) = other ≡ fault
+IsSameFinding (outcomes.Yes log plan net told) (outcomes.Yes l p n t) = (l ≡ log) × (p ≡ plan) × IsSameNet net n × (t ≡ told)
+IsSameFinding (outcomes.No fault) (outcomes.Yes l p n t) = ⊥
+IsSameFinding (outcomes.Yes log plan net told) (outcomes.No other) = ⊥
+
 -- what the bytes decode to is right; a fault found in them is the verdict in all states that have the
 -- client
 abbrev pub IsReading : {A : Type 0} → Submission → Spelled A → Type 0
@@ -184,7 +192,7 @@ IsEarly (readings.No fault) = is_before_entries fault ≡ true
 
 -- the outcome is the bad entry; or it says what is right of the net, and of the marks of each run with
 -- these file sizes
-abbrev pub OutcomeIsSettled : {A : Type 0} → CodeLog A (List ℕ) → CodePlan A (List ℕ) → List FileSize → Result (Net A) CodeEntryFault → Outcome A (List ℕ) → Type 0
+abbrev pub OutcomeIsSettled : {A : Type 0} → CodeLog A (List ℕ) → CodePlan A (List ℕ) → List FileSize → Result (Net A (List ℕ)) CodeEntryFault → Outcome A (List ℕ) → Type 0
 OutcomeIsSettled log plan sizes (Err fault) (outcomes.No refusal) = refusal ≡ faults.Entry fault
 OutcomeIsSettled log plan sizes (Err fault) (outcomes.Yes l p n told) = ⊥
 OutcomeIsSettled log plan sizes (Ok net) (outcomes.No (faults.Row fault)) = (fault ≢ rows.OutOfMemory) × TellsOfEachRun sizes log net plan (Err fault)

@@ -34,18 +34,18 @@ TellsRow first need (Err faults.OutOfMemory) = Unit {0}
 
 -- P holds of each tree before the log and the marks after it, at every tree and all leases that agree
 -- with the walk's reads, and whatever bytes the payloads are
-abbrev pub AtEachEnd : {A : Type 0} → Client → CodeLog A (List ℕ) → Walk A → (Tree ℕ → Tree Mark → Type 0) → Type 0
+abbrev pub AtEachEnd : {A : Type 0} → Client → CodeLog A (List ℕ) → Walk A (List ℕ) → (Tree ℕ → Tree Mark → Type 0) → Type 0
 AtEachEnd client log walk P =
     (source : List ℕ) → SpansAreWithin (length source) log → (tree : Tree ℕ) (held : ℕ → Bool) → Fits client tree (map (entry_of source) log.entries) → Agrees walk.reads.entries (client_sight tree held)
     → (after : Tree Mark) × (run over_marks client (client_sight tree held) (marked tree) (map (entry_of source) log.entries) ≡ Ok after) × P tree after
 
 -- these are right pieces of the client's log
-abbrev pub ArePiecesOf : {A : Type 0} → Client → CodeLog A (List ℕ) → Walk A → List Piece → Type 0
+abbrev pub ArePiecesOf : {A : Type 0} → Client → CodeLog A (List ℕ) → Walk A (List ℕ) → List Piece → Type 0
 ArePiecesOf client log walk pieces = AtEachEnd client log walk (λ tree after. ArePieces after pieces)
 
 -- the answer names the first wrong row of the plan for the client's log, or is the number of blocks
 -- that the log writes
-abbrev pub TellsOfEachTree : {A : Type 0} → Client → CodeLog A (List ℕ) → Walk A → CodePlan A (List ℕ) → Result ℕ CodeRowFault → Type 0
+abbrev pub TellsOfEachTree : {A : Type 0} → Client → CodeLog A (List ℕ) → Walk A (List ℕ) → CodePlan A (List ℕ) → Result ℕ CodeRowFault → Type 0
 TellsOfEachTree client log walk plan result = AtEachEnd client log walk (λ tree after. TellsRow (first_wrong_row tree after (plan_of plan)) (need after) result)
 
 -- ---- two lists of rows
@@ -63,7 +63,7 @@ is_same_row row other = same_pair same_place nat_eq (keyed_name_row row) (keyed_
 
 -- the first row of the plan that differs from the net's, or else the first piece that is wrong for
 -- these marks
-abbrev pub first_unlike : {A : Type 0} → Net A → (after : Tree Mark) → CodePlan A (List ℕ) → Option RowFault
+abbrev pub first_unlike : {A : Type 0} → Net A (List ℕ) → (after : Tree Mark) → CodePlan A (List ℕ) → Option RowFault
 first_unlike net after plan =
     or_else Names (first_difference (same_pair same_place nat_eq) (map keyed_name_row plan.names) (map keyed_name_row net.names.items))
     (or_else Nodes (first_difference (same_pair nat_eq same_headers) (map keyed_node_row plan.nodes) (map keyed_node_row net.nodes.items))
@@ -71,7 +71,7 @@ first_unlike net after plan =
 
 -- for each run of the entries with these file sizes, whatever bytes the payloads are, the answer is
 -- right for the net and for the marks at its end
-abbrev pub TellsOfEachRun : {A : Type 0} → List FileSize → CodeLog A (List ℕ) → Net A → CodePlan A (List ℕ) → Result ℕ CodeRowFault → Type 0
+abbrev pub TellsOfEachRun : {A : Type 0} → List FileSize → CodeLog A (List ℕ) → Net A (List ℕ) → CodePlan A (List ℕ) → Result ℕ CodeRowFault → Type 0
 TellsOfEachRun sizes log net plan result =
     (source : List ℕ) → SpansAreWithin (length source) log → (client : Client) (before : ClientSight) (tree : Tree ℕ) → before.sight ≡ sight tree
     → IfOk (run over_marks client before (marked tree) (map (entry_of source) log.entries)) (λ after. AreSizes tree (map (entry_of source) log.entries) after sizes → TellsRow (first_unlike net after plan) (need after) result)

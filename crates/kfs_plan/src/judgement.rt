@@ -9,7 +9,7 @@ ghost use Rattle.kfs_judge.specs.Check.Kept.{keeps_reads};
 ghost use Rattle.kfs_judge.specs.Check.Reads.{Agrees};
 ghost use Rattle.kfs_judge.specs.Walks.{HasOrderedSizes};
 ghost use Rattle.kfs_judge.specs.Check.View.{clients_of, client_sight_in};
-ghost use Rattle.kfs_plan.specs.Judging.{AreLooked, AgreesWithReads, OutcomeIsSettled, IsVerdict, RefusesByFault, ShowsAs, submission_of, submission_with, IsEarly, IsReading, StopsByFault};
+ghost use Rattle.kfs_plan.specs.Judging.{AreLooked, AgreesWithReads, OutcomeIsSettled, IsSameFinding, IsVerdict, RefusesByFault, ShowsAs, submission_of, submission_with, IsEarly, IsReading, StopsByFault};
 
 use crate::judged::Judged;
 use crate::rows::{RowFault, check_rows};
@@ -18,6 +18,7 @@ use kfs_entry::{
     BorrowedName, Log, Name, Plan, SpellFault, decode_borrowed_log, decode_borrowed_plan,
     owned_log, owned_plan,
 };
+use kfs_image_nodes::{LentNet, owned_net};
 use kfs_judge::{Keeping, Reads, View, Walk, judge_borrowed};
 use kfs_mode::Client;
 use std::alloc::{AllocError, Allocator};
@@ -169,7 +170,7 @@ pub fn owned_outcome<A: Allocator + Copy>(
     alloc: A,
     outcome: Outcome<A, BorrowedName<'_>>,
 ) -> Result<Outcome<A>, AllocError>
-    ensures { IfOk result (λ owned. owned ≡ outcome.entry) }
+    ensures { IfOk result (IsSameFinding outcome.entry) }
 {
     match outcome {
         Outcome::Yes {
@@ -180,6 +181,7 @@ pub fn owned_outcome<A: Allocator + Copy>(
         } => {
             let log = owned_log(alloc, &log)?;
             let plan = owned_plan(alloc, plan)?;
+            let net = owned_net(alloc, net)?;
             Ok(Outcome::Yes {
                 log,
                 plan,
@@ -203,13 +205,13 @@ fn settle<'b, A: Allocator + Copy>(
     alloc: A,
     log: Log<A, BorrowedName<'b>>,
     plan: Plan<A, BorrowedName<'b>>,
-    walk: Walk<A>,
+    walk: Walk<A, BorrowedName<'b>>,
 ) -> Result<VerdictParts<A, BorrowedName<'b>>, Why>
     requires sizes { HasOrderedSizes walk }
     requires spans { AllByRecursion IsSpanned log.entries }
     requires count { length log.entries ≤ entry_limit }
-    ensures reads { IfOk result (λ f. f.reads ≡ walk.reads) }
-    ensures outcome { IfOk result (λ f. OutcomeIsSettled log.entry plan.entry walk.sizes.items walk.outcome f.outcome) }
+    ensures reads { IfOk result (λ f. f.reads ≡ walk.entry.reads) }
+    ensures outcome { IfOk result (λ f. OutcomeIsSettled log.entry plan.entry walk.entry.sizes.items walk.entry.outcome f.outcome) }
     ensures memory { IfErr result (λ why. why ≡ Why.OutOfMemory) }
 {
     let Walk {
@@ -224,7 +226,8 @@ fn settle<'b, A: Allocator + Copy>(
             return Ok(VerdictParts { reads, outcome });
         }
     };
-    match check_rows(alloc, &log, sizes.as_slice(), &net, &plan) {
+    let lent = LentNet::Borrowed(&net);
+    match check_rows(alloc, &log, sizes.as_slice(), lent, &plan) {
         Ok(need) => {
             let outcome = Outcome::Yes {
                 log,

@@ -5,6 +5,7 @@ ghost use Rattle.kfs_model.specs.Access.{Client as ClientRow};
 ghost use Rattle.kfs_model.specs.FirstWrong.{first_difference, same_pair, same_place};
 ghost use Rattle.kfs_model.specs.Limits.{entry_limit};
 ghost use Rattle.kfs_types.specs.Views.{IsSpanned};
+ghost use Rattle.kfs_image_nodes.specs.Lent.{net_in, rows_in};
 ghost use Rattle.kfs_pieces.specs.Sizes.{SizesAscend, IsSize};
 ghost use Rattle.kfs_judge.specs.Walks.{HasOrderedSizes, IsWalkOf};
 ghost use Rattle.kfs_judge.specs.Step.Rows.{keyed_name_row};
@@ -12,7 +13,7 @@ ghost use Rattle.kfs_plan.specs.PlanCheck.{at_end, is_same_row, TellsOfEachRun, 
 ghost use Rattle.kfs_plan.specs.declared.rows.RowFault.TheVariants.{OutOfMemory};
 
 use kfs_entry::{BorrowedName, BorrowedRow, Log, NameRow, Plan, borrowed_log, borrowed_plan};
-use kfs_image_nodes::Net;
+use kfs_image_nodes::{LentNet, NameRows};
 use kfs_judge::Walk;
 use kfs_pieces::{FileSize, first_piece_apart, need_of, sweep};
 use std::alloc::{AllocError, Allocator};
@@ -69,7 +70,8 @@ pub fn check_plan<A: Allocator + Copy>(
     let net = walk.outcome.as_ref().unwrap();
     let lent_log = borrowed_log(alloc, log)?;
     let lent_plan = borrowed_plan(alloc, plan)?;
-    check_rows(alloc, &lent_log, walk.sizes.as_slice(), net, &lent_plan)
+    let sizes = walk.sizes.as_slice();
+    check_rows(alloc, &lent_log, sizes, LentNet::Owned(net), &lent_plan)
 }
 
 /// Checks a plan against a net, and against right pieces of the log; `sizes` are the sizes of its
@@ -78,19 +80,19 @@ pub fn check_rows<A: Allocator + Copy>(
     alloc: A,
     log: &Log<A, BorrowedName<'_>>,
     sizes: &[FileSize],
-    net: &Net<A>,
+    net: LentNet<'_, '_, A>,
     plan: &Plan<A, BorrowedName<'_>>,
 ) -> Result<u64, RowFault>
     requires ascending { SizesAscend 0 sizes.now }
     requires sizes { AllByRecursion IsSize sizes.now }
     requires spans { AllByRecursion IsSpanned log.now.entries }
     requires count { length log.now.entries ≤ entry_limit }
-    ensures { TellsOfEachRun sizes.now log.now net.now plan.now result }
+    ensures { TellsOfEachRun sizes.now log.now (net_in net.entry) plan.now result }
 {
-    if let Some(row) = first_name_apart(plan.names.as_slice(), net.names.as_slice()) {
+    if let Some(row) = first_name_apart(plan.names.as_slice(), net.names()) {
         return Err(RowFault::Names(row));
     }
-    if let Some(row) = first_difference(plan.nodes.as_slice(), net.nodes.as_slice()) {
+    if let Some(row) = first_difference(plan.nodes.as_slice(), net.nodes().as_slice()) {
         return Err(RowFault::Nodes(row));
     }
     let right = sweep(alloc, sizes, log.entries.as_slice())?;
@@ -102,15 +104,32 @@ pub fn check_rows<A: Allocator + Copy>(
 
 /// The index of the first name row that differs from the net's; where one list is a prefix of the other,
 /// the shorter length.
-fn first_name_apart(rows: &[BorrowedRow<'_>], right: &[NameRow]) -> Option<usize>
-    ensures { result ≡ first_difference (same_pair same_place nat_eq) (map keyed_name_row rows.now) (map keyed_name_row right.now) }
+fn first_name_apart(rows: &[BorrowedRow<'_>], right: NameRows<'_, '_>) -> Option<usize>
+    ensures { result ≡ first_difference (same_pair same_place nat_eq) (map keyed_name_row rows.now) (map keyed_name_row (rows_in right.entry)) }
 {
-    let differs = first_unequal_name(rows, right);
-    at_end(differs, rows.len(), right.len())
+    match right {
+        NameRows::Owned(right) => {
+            let differs = first_unlike_owned(rows, right);
+            at_end(differs, rows.len(), right.len())
+        }
+        NameRows::Borrowed(right) => {
+            let differs = first_unlike_borrowed(rows, right);
+            at_end(differs, rows.len(), right.len())
+        }
+    }
 }
 
 /// The first index at which both lists have a name row and the rows differ.
-fn first_unequal_name(rows: &[BorrowedRow<'_>], right: &[NameRow]) -> Option<usize>
+fn first_unlike_owned(rows: &[BorrowedRow<'_>], right: &[NameRow]) -> Option<usize>
+    ensures { result ≡ position (λ pair. not (is_same_row pair.0 pair.1)) (zip rows.now right.now) }
+{
+    rows.iter()
+        .zip(right)
+        .position(|pair| !is_same_row(pair.0, &pair.1.borrowed()))
+}
+
+/// The same where names are borrowed.
+fn first_unlike_borrowed(rows: &[BorrowedRow<'_>], right: &[BorrowedRow<'_>]) -> Option<usize>
     ensures { result ≡ position (λ pair. not (is_same_row pair.0 pair.1)) (zip rows.now right.now) }
 {
     rows.iter()
@@ -118,10 +137,10 @@ fn first_unequal_name(rows: &[BorrowedRow<'_>], right: &[NameRow]) -> Option<usi
         .position(|pair| !is_same_row(pair.0, pair.1))
 }
 
-fn is_same_row(row: &BorrowedRow<'_>, right: &NameRow) -> bool
+fn is_same_row(row: &BorrowedRow<'_>, right: &BorrowedRow<'_>) -> bool
     ensures { result ≡ is_same_row row.now right.now }
 {
-    row.dir == right.dir && row.name == right.name.borrowed() && row.number == right.number
+    row.dir == right.dir && row.name == right.name && row.number == right.number
 }
 
 /// The index of the first difference; where one list is a prefix of the other, the shorter length.

@@ -45,7 +45,7 @@ pub enum Fault {
     Row(RowFault),
 }
 
-/// What a judgement found. `N` is how a name stands in the log and in the plan, as in an `Entry`.
+/// What a judgement found. `N` is how a name stands in the log, the plan and the net, as in an `Entry`.
 #[derive(Drop)]
 pub enum Outcome<A: Allocator, N = Name> {
     /// The plan is right for the log. Has both, the net change, and `need`, the number of blocks that a
@@ -53,7 +53,7 @@ pub enum Outcome<A: Allocator, N = Name> {
     Yes {
         log: Log<A, N>,
         plan: Plan<A, N>,
-        net: Net<A>,
+        net: Net<A, N>,
         need: u64,
     },
     /// The submission is refused.

@@ -32,7 +32,7 @@ use Rattle.kfs_plan_maker.proofs.LeasedRuns.{clean_run_from, same_marked_run, sa
 use Rattle.kfs_plan_maker.proofs.PlanLength.{few_files, few_names, few_nodes}
 
 -- a net's rows are right for the run over marks that ends beside
-module _ {A : Type 0} (t after : Tree ℕ) (net : Net A) (differs : IsNetOf (sight t) (sight after) net) (end : Tree Mark) where
+module _ {A : Type 0} (t after : Tree ℕ) (net : Net A (List ℕ)) (differs : IsNetOf (sight t) (sight after) net) (end : Tree Mark) where
   right_names : after.names ≡ end.names → AreNameRows t.names end.names (map name_row_of net.names.items)
   right_names same =
       subst (AreDifferences name_order number_now (get t.names) (get end.names)) (sym (map-map keyed_name name_row_of net.names.items))
@@ -52,7 +52,7 @@ only_end client t entries after ran held = at (run over_marks client (client_sig
     at (Ok end) is = let all = clean_run_from client (sight t) held over_marks 0 [] (marked t) entries end is in cc
     at (Err fault) is = tt
 
-module _ {A : Type 0} (client : Client) (t : Tree ℕ) (source : List ℕ) (log : CodeLog A (List ℕ)) (from : IsLogFrom client.number source log) (in_range : IsClient client) (sound : IsSound t) (walk : Walk A) (leased : IsWalkWithLeases client t log walk) where
+module _ {A : Type 0} (client : Client) (t : Tree ℕ) (source : List ℕ) (log : CodeLog A (List ℕ)) (from : IsLogFrom client.number source log) (in_range : IsClient client) (sound : IsSound t) (walk : Walk A (List ℕ)) (leased : IsWalkWithLeases client t log walk) where
   abbrev entries : List Entry
   entries = (log_of source log).entries
 
@@ -69,7 +69,7 @@ module _ {A : Type 0} (client : Client) (t : Tree ℕ) (source : List ℕ) (log 
   pub no_plan : IsErr walk.outcome → HasNoPlan client t source
   no_plan bad other own = at walk.outcome refl bad
     where
-      at : (outcome : Result (Net A) CodeEntryFault) → walk.outcome ≡ outcome → IsErr outcome → IsErr (run over_bytes client (sight_with_leases t) t other.entries)
+      at : (outcome : Result (Net A (List ℕ)) CodeEntryFault) → walk.outcome ≡ outcome → IsErr outcome → IsErr (run over_bytes client (sight_with_leases t) t other.entries)
       at (Ok net) is bad = cc
       at (Err fault) is bad =
           let stops : run over_bytes client (client_sight t leased.held) t entries ≡ Err (fault_of fault) = subst (λ o. ComesToTree client leased.held t entries o walk.sizes.items) is comes in
@@ -78,14 +78,14 @@ module _ {A : Type 0} (client : Client) (t : Tree ℕ) (source : List ℕ) (log 
           subst (λ (l : Log). IsErr (run over_bytes client (sight_with_leases t) t l.entries)) same (subst IsErr (sym with_all) refl)
 
   -- a plan of the walk's rows is right
-  pub plan_is_right : (net : Net A) → walk.outcome ≡ Ok net → (plan : CodePlan A (List ℕ)) → HasRowsOf log walk plan → IsPlanOf client t entries (plan_of plan)
+  pub plan_is_right : (net : Net A (List ℕ)) → walk.outcome ≡ Ok net → (plan : CodePlan A (List ℕ)) → HasRowsOf log walk plan → IsPlanOf client t entries (plan_of plan)
   plan_is_right net is plan rows =
       let came : ComesToTree client leased.held t entries (Ok net) walk.sizes.items = subst (λ o. ComesToTree client leased.held t entries o walk.sizes.items) is comes in
       let end = ends_beside client (client_sight t leased.held) t entries came.0 came.1 in
       let pieces = rows.pieces client leased.walks source from.within t leased.held fits leased.agrees in
       let same_end : pieces.0 ≡ end.marked_after = (let one = pieces.1 in let two = end.ran in cc) in
       let ran = sym (same_marked_run client t entries fits leased.held (leased.named source)) ∙ end.ran in
-      let parts = subst (λ o. IfOk o (λ (net : Net A). (plan.names ≡ net.names.items) × (plan.nodes ≡ net.nodes.items))) is rows.net in
+      let parts = subst (λ o. IfOk o (λ (net : Net A (List ℕ)). (plan.names ≡ net.names.items) × (plan.nodes ≡ net.nodes.items))) is rows.net in
       record {
         after = end.marked_after;
         ran = ran;
@@ -98,10 +98,10 @@ module _ {A : Type 0} (client : Client) (t : Tree ℕ) (source : List ℕ) (log 
       }
 
   -- the parts of a plan of the walk's rows are as short as their counts ask
-  pub plan_is_short : HasOrderedSizes walk → (net : Net A) → walk.outcome ≡ Ok net → (plan : CodePlan A (List ℕ)) → HasRowsOf log walk plan → IsShort plan
+  pub plan_is_short : HasOrderedSizes walk → (net : Net A (List ℕ)) → walk.outcome ≡ Ok net → (plan : CodePlan A (List ℕ)) → HasRowsOf log walk plan → IsShort plan
   plan_is_short ordered net is plan rows =
       let came : ComesToTree client leased.held t entries (Ok net) walk.sizes.items = subst (λ o. ComesToTree client leased.held t entries o walk.sizes.items) is comes in
-      let same = subst (λ o. IfOk o (λ (net : Net A). (plan.names ≡ net.names.items) × (plan.nodes ≡ net.nodes.items))) is rows.net in
+      let same = subst (λ o. IfOk o (λ (net : Net A (List ℕ)). (plan.names ≡ net.names.items) × (plan.nodes ≡ net.nodes.items))) is rows.net in
       let before = client_sight t leased.held in
       let names = few_names client before t came.0 entries fits came.1 (map keyed_name_row net.names.items) came.4.names in
       let nodes = few_nodes client before t came.0 entries fits came.1 (map keyed_node_row net.nodes.items) came.4.nodes in

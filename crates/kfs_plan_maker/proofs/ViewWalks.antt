@@ -29,7 +29,7 @@ one_row client number owner = ap (λ b. cond b (Some client) None) (eq-eqb clien
 pub row_is_there : (clients : List Client) (client : Client) (number : ℕ) → clients ≡ client ∷ [] → number ≡ client.number → is_some (row_of clients number) ≡ true
 row_is_there clients client number are owner = ap (λ rows. is_some (row_of rows number)) are ∙ ap is_some (one_row client number owner)
 
-module _ {A : Type 0} (image : DeviceImage) (lawful : IsLawful image) (client : Client) (log : CodeLog A (List ℕ)) (numbers : List ℕ) (view : View A) (walk : Walk A) where
+module _ {A : Type 0} (image : DeviceImage) (lawful : IsLawful image) (client : Client) (log : CodeLog A (List ℕ)) (numbers : List ℕ) (view : View A) (walk : Walk A (List ℕ)) where
   pub leased_walk : numbers ≡ flat_map (named_in (target image.names)) log.entries → contents_of view ≡ images.contents_of image → leases_of view ≡ leases_of_writer log.client numbers → clients_of view ≡ client ∷ []
       → log.client ≡ client.number → ((row : Client) × IsRowOf (clients_of view) log.client row × IsWalkOf row log walk) → Agrees walk.reads.entries (client_sight_in view log.client)
       → IsWalkWithLeases client (shown_tree image) log walk

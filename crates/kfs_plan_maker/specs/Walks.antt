@@ -31,7 +31,7 @@ module _ {A : Type 0} where
 
   -- the walk is right for the log, and agrees with a state of this tree in which the client holds all
   -- nodes that the entries name
-  pub record IsWalkWithLeases (client : Client) (t : Tree ℕ) (log : CodeLog A (List ℕ)) (walk : Walk A) : Type 0 where
+  pub record IsWalkWithLeases (client : Client) (t : Tree ℕ) (log : CodeLog A (List ℕ)) (walk : Walk A (List ℕ)) : Type 0 where
     pub held : ℕ → Bool
     pub named : (source : List ℕ) → AllByRecursion (HoldsNamed held (sight t).name) (map (entry_of source) log.entries)
     pub agrees : Agrees walk.reads.entries (client_sight t held)
@@ -39,9 +39,9 @@ module _ {A : Type 0} where
 
   -- the plan has the log's version, the names and nodes of the walk's net, and right pieces of the log,
   -- at most two for each file that grew and for each entry
-  pub record HasRowsOf (log : CodeLog A (List ℕ)) (walk : Walk A) (plan : CodePlan A (List ℕ)) : Type 0 where
+  pub record HasRowsOf (log : CodeLog A (List ℕ)) (walk : Walk A (List ℕ)) (plan : CodePlan A (List ℕ)) : Type 0 where
     pub version : plan.version ≡ log.version
-    pub net : IfOk walk.outcome (λ (net : Net A). (plan.names ≡ net.names.items) × (plan.nodes ≡ net.nodes.items))
+    pub net : IfOk walk.outcome (λ (net : Net A (List ℕ)). (plan.names ≡ net.names.items) × (plan.nodes ≡ net.nodes.items))
     pub pieces : (client : Client) → IsWalkOf client log walk → ArePiecesOf client log walk (map piece_of plan.pieces)
     pub few : length plan.pieces ≤ 2 * (grown_count walk.sizes.items + length log.entries)
 

@@ -21,6 +21,11 @@ told_before (Found found) (Err OutOfMemory) first later is told = tt
 told_before (Found found) (Err (Found other)) None later is told = cc
 told_before (Found found) (Err (Found other)) (Some finding) later is told = let same : other ≡ found = cc in told ∙ ap (λ f. Some (finding_shown f)) (sym same)
 
+-- what is told of the last finding, where a fault tells it
+pub told_last : {T : Type 0} (fault : ShapeFault) (result : Result T ShapeFault) (last : Option Finding) → IsErrAnd result (λ other. other ≡ fault) → Names fault last → FindsNoneWhere result last
+told_last fault result None is told = told_before fault result None None is told
+told_last fault result (Some finding) is told = told_before fault result (Some finding) None is told
+
 module _ (raw : RawImage) where
   in_turn : (first second : Rules) → finding_from raw (first ++ second) ≡ option_or (finding_from raw first) (finding_from raw second)
   in_turn [] second = refl

@@ -5,6 +5,7 @@ ghost use Rattle.kfs_model.specs.Device.Finding.{finding_from, finding_of, least
 ghost use Rattle.kfs_shape.specs.Findings.{found_at, node_rules, name_rules, extent_rules, FindsNoneWhere};
 ghost use Rattle.kfs_shape.specs.Heads.{ShowsHeads};
 ghost use Rattle.kfs_image.specs.Codec.RawImages.{raw_of};
+ghost use Rattle.kfs_image.specs.Raw.Rows.{AreHeaders};
 
 use crate::climbs::least_unrooted;
 use crate::extents::{least_misplaced, least_past_tier};
@@ -37,6 +38,7 @@ fn check_nodes<A: Allocator + Copy, T: AskRows>(
     ask: &T,
 ) -> Result<Pages<Header, A>, ShapeFault>
     requires { T.can_ask ask.now }
+    ensures headers { IfOk result (λ headers. AreHeaders headers raw.now) }
     ensures shown { IfOk result (λ headers. ShowsHeads headers raw.now) }
     ensures told { FindsNoneWhere result (finding_from (raw_of raw.now) node_rules) }
 {
@@ -81,6 +83,24 @@ fn check_extents<A: Allocator + Copy>(
     no_failure(10, least_shared(alloc, raw)?)
 }
 
+/// `check_asking`, which answers the headers by number where no rule is broken, so that an image can be
+/// made with them.
+#[doc(hidden)]
+pub fn check_keeping<A: Allocator + Copy, T: AskRows>(
+    alloc: A,
+    raw: &RawImage<A>,
+    ask: &T,
+) -> Result<Pages<Header, A>, ShapeFault>
+    requires { T.can_ask ask.now }
+    ensures headers { IfOk result (λ headers. AreHeaders headers raw.now) }
+    ensures told { FindsNoneWhere result (finding_of (raw_of raw.now)) }
+{
+    let headers = check_nodes(alloc, raw, ask)?;
+    check_names(alloc, raw, &headers, ask)?;
+    check_extents(alloc, raw, &headers)?;
+    Ok(headers)
+}
+
 /// `check_shape`, where the tests of many rows are asked by `ask`.
 #[doc(hidden)]
 pub fn check_asking<A: Allocator + Copy, T: AskRows>(
@@ -91,9 +111,10 @@ pub fn check_asking<A: Allocator + Copy, T: AskRows>(
     requires { T.can_ask ask.now }
     ensures { FindsNoneWhere result (finding_of (raw_of raw.now)) }
 {
-    let headers = check_nodes(alloc, raw, ask)?;
-    check_names(alloc, raw, &headers, ask)?;
-    check_extents(alloc, raw, &headers)
+    match check_keeping(alloc, raw, ask) {
+        Ok(_headers) => Ok(()),
+        Err(fault) => Err(fault),
+    }
 }
 
 /// Checks whether an image is well formed. crates/kfs_model/specs/Device/Rules.antt has the ten rules.

@@ -4,6 +4,7 @@ ghost use Rattle.kfs_model.specs.Sight.{is_directory};
 ghost use Rattle.kfs_model.specs.Device.Rules.{rule_1, rule_2};
 ghost use Rattle.kfs_model.specs.Device.Finding.{least_failed};
 ghost use Rattle.kfs_image.specs.Codec.RawImages.{raw_of};
+ghost use Rattle.kfs_image.specs.Raw.Rows.{AreHeaders};
 ghost use Rattle.kfs_shape.specs.Heads.{head_at, ShowsHeads};
 
 use crate::least::noted;
@@ -19,7 +20,8 @@ pub(crate) fn headers<A: Allocator + Copy>(
     raw: &RawImage<A>,
 ) -> Result<Pages<Header, A>, AllocError>
     requires { least_failed (rule_1 (raw_of raw.now)) ≡ None }
-    ensures { IfOk result (λ headers. ShowsHeads headers raw.now) }
+    ensures headers { IfOk result (λ headers. AreHeaders headers raw.now) }
+    ensures shown { IfOk result (λ headers. ShowsHeads headers raw.now) }
 {
     let headers = raw_headers(&alloc, raw)?;
     Ok(headers)

@@ -18,7 +18,7 @@ use Rattle.kfs_plan.specs.declared.submission.Outcome.TheVariants as outcomes
 use Rattle.kfs_types.specs.declared.entry.Log.{Log as CodeLog}
 use Rattle.kfs_types.specs.declared.plan.Plan.{Plan as CodePlan}
 
-module _ {A : Type 0} (image : DeviceImage) (lawful : IsLawful image) (s : State) (shown : s.tree ≡ shown_tree image) (submission : Submission) (log : CodeLog A (List ℕ)) (plan : CodePlan A (List ℕ)) (net : Net A) (told : ℕ) where
+module _ {A : Type 0} (image : DeviceImage) (lawful : IsLawful image) (s : State) (shown : s.tree ≡ shown_tree image) (submission : Submission) (log : CodeLog A (List ℕ)) (plan : CodePlan A (List ℕ)) (net : Net A (List ℕ)) (told : ℕ) where
   pub net_is_lawful : IsVerdict s submission (outcomes.Yes log plan net told) → IsLawful (after_net net image)
   net_is_lawful is = by is.verdict is.told
     where

@@ -24,7 +24,7 @@ module _ {A : Type 0} (first second : BlockRow A) (differ : first.place ≢ seco
   }
 
 -- a fill of rows that fit can be applied, if there was memory for it
-pub filled_ok : {A E : Type 0} (net : Net A) (image : DeviceImage) (rows : List (BlockRow A)) (r : Result (Fill A) E) (o : Option (Fill A)) → o ≡ result_ok r → IfOk r (λ fill. fill.rows.items ≡ rows)
+pub filled_ok : {A E : Type 0} (net : Net A (List ℕ)) (image : DeviceImage) (rows : List (BlockRow A)) (r : Result (Fill A) E) (o : Option (Fill A)) → o ≡ result_ok r → IfOk r (λ fill. fill.rows.items ≡ rows)
     → IsLawful (after_net net image) → Fit (still_placed net image) rows → IfSome o (λ fill. CanApply net fill image)
 filled_ok {A} {E} net image rows r o is listed lawful fit = subst (λ (found : Option (Fill A)). IfSome found (λ fill. CanApply net fill image)) (sym is) (by r listed)
   where

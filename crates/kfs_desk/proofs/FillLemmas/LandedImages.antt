@@ -46,7 +46,7 @@ use Rattle.kfs_desk.proofs.FillLemmas.TreesOver.{get_or-numbers_from, length-num
 
 -- A log ran on the tree of a lawful image, and its plan's pieces are right. The net makes the names and headers of the tree after,
 -- which is sound. The fill's rows have the written blocks, at the places that were chosen, and its runs the cleared ones.
-pub record IsLanding {A : Type 0} (image : DeviceImage) (s : State) (client : Client) (before : ClientSight) (entries : List Entry) (after : Tree ℕ) (marked_after : Tree Mark) (pieces : List Piece) (net : Net A) (fill : Fill A) (places : List ℕ) : Type 0 where
+pub record IsLanding {A : Type 0} (image : DeviceImage) (s : State) (client : Client) (before : ClientSight) (entries : List Entry) (after : Tree ℕ) (marked_after : Tree Mark) (pieces : List Piece) (net : Net A (List ℕ)) (fill : Fill A) (places : List ℕ) : Type 0 where
   pub lawful : IsLawful image
   pub tree : s.tree ≡ shown_tree image
   pub placement : s.placement ≡ image.placement
@@ -83,7 +83,7 @@ block_there t number place below = lt-ltb _ _ (subst (λ found. place / block_si
     at None below = absurd (omega (arith, below))
     at (Some node) below = of_body node.mode node.uid node.gid node.body below
 
-module _ {A : Type 0} (image : DeviceImage) (s : State) (client : Client) (before : ClientSight) (entries : List Entry) (after : Tree ℕ) (marked_after : Tree Mark) (pieces : List Piece) (net : Net A) (fill : Fill A) (places : List ℕ)
+module _ {A : Type 0} (image : DeviceImage) (s : State) (client : Client) (before : ClientSight) (entries : List Entry) (after : Tree ℕ) (marked_after : Tree Mark) (pieces : List Piece) (net : Net A (List ℕ)) (fill : Fill A) (places : List ℕ)
     (landing : IsLanding image s client before entries after marked_after pieces net fill places) where
   abbrev rows : List (BlockRow A)
   rows = fill.rows.items

@@ -64,11 +64,11 @@ IsFillOf image log nodes fill =
     → need marked_after ≤ length (unused_places image.sizes image.placement 0) → Fills s (entries_of log) (pieces_of log) after marked_after fill
 
 -- the net can be applied with any right fill of the log
-abbrev pub CanLandWith : {A : Type 0} → DeviceImage → LogBytes → Net A → Type 0
+abbrev pub CanLandWith : {A : Type 0} → DeviceImage → LogBytes → Net A (List ℕ) → Type 0
 CanLandWith {A} image log net = (fill : Fill A) → IsFillOf image log net.nodes.items fill → CanApply net fill image
 
 -- the net was applied, with a right fill of the log
-pub record HasLandedWith {A : Type 0} (old : DeviceImage) (log : LogBytes) (net : Net A) (new : DeviceImage) : Type 0 where
+pub record HasLandedWith {A : Type 0} (old : DeviceImage) (log : LogBytes) (net : Net A (List ℕ)) (new : DeviceImage) : Type 0 where
   pub fill : Fill A
   pub is : IsFillOf old log net.nodes.items fill
   pub made : new ≡ applied net fill old

@@ -9,14 +9,15 @@ ghost use Rattle.kfs_pieces.specs.BlockLists.{cleared_runs, listed};
 ghost use Rattle.kfs_pieces.specs.Lefts.{IsFilled, PieceIsInRange};
 ghost use Rattle.kfs_pieces.specs.Parts.{AreByNumber};
 ghost use Rattle.kfs_image_nodes.specs.Change.{reheaded};
+ghost use Rattle.kfs_image_nodes.specs.Lent.{net_in};
 ghost use Rattle.kfs_desk.specs.Fill.Bytes.{pieces_of, BlocksAscend, HasPayloads};
 ghost use Rattle.kfs_desk.specs.Fill.FillOf.{AreMadeZero, AreWritten, IsFillOf, run_of, size_among, CanLandWith, HasLandedWith};
 ghost use Rattle.kfs_image.specs.Tier.Unused.{unused_places};
 
 use crate::fill::bytes::LogBytes;
 use crate::fill::rows::block_rows;
-use kfs_image::{BlockRun, Fill, Image, Net, header_after, net_apply_moving};
-use kfs_image_nodes::NodeChanges;
+use kfs_image::{BlockRun, Fill, Image, header_after, net_apply_moving};
+use kfs_image_nodes::{LentNet, NodeChanges};
 use kfs_pieces::{cleared_in, front_len, written_in};
 use kfs_types::Piece;
 use std::alloc::{AllocError, Allocator};
@@ -146,23 +147,23 @@ pub fn land_bytes<A: Allocator + Copy>(
     alloc: A,
     image: &mut Image<A>,
     log: &LogBytes<'_, '_>,
-    net: &Net<A>,
+    net: &LentNet<'_, '_, A>,
 ) -> Result<(), AllocError>
     requires payloads { HasPayloads log.now }
     requires pieces { PiecesAscend (pieces_of log.now) }
     requires whole { AllByRecursion PieceIsInRange log.now.pieces.now }
     requires filled { AllByRecursion IsFilled log.now.pieces.now }
-    requires fits { CanLandWith image.old log.now net.now }
-    ensures ok { OnOk result (HasLandedWith image.old log.now net.now image.new) }
+    requires fits { CanLandWith image.old log.now (net_in net.now) }
+    ensures ok { OnOk result (HasLandedWith image.old log.now (net_in net.now) image.new) }
     ensures err { OnErr result (image.new ≡ image.old) }
 {
-    let nodes = NodeChanges::of(&alloc, net.nodes.as_slice())?;
+    let nodes = NodeChanges::of(&alloc, net.nodes().as_slice())?;
     let mut spares = Vec::new(alloc);
     image.swap_spares(&mut spares);
     let made = fill_of(alloc, image, log, &nodes, &mut spares);
     image.swap_spares(&mut spares);
     let fill = made?;
-    net_apply_moving(alloc, image, net, &nodes, fill)
+    net_apply_moving(alloc, image, *net, &nodes, fill)
 }
 
 /// The `count` least free places of tier 0, or all of them where there are fewer. `Err` where memory is

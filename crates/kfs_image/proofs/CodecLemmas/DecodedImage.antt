@@ -1,6 +1,5 @@
 -- A raw image that was decoded, and why one was not, as the definitions say it.
 use Rattle.std.proofs.Common.{◌≡◌, ℕ, ◌+◌, List, ◌++◌, length, drop, map, Result, Ok, Err, refl, ap, ◌∙◌}
-use Rattle.std.specs.List.{AllByRecursion}
 use Rattle.std.specs.Prelude.{All}
 use Rattle.std.proofs.lemmas.List.Elements.{All-from_recursion}
 use Rattle.kfs_model.specs.Spelling.{Begins, LacksRow, name_row_bytes, IsNameRow}

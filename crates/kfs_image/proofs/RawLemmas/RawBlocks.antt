@@ -1,15 +1,13 @@
 -- The blocks of a well formed image's extents, put at their places one after another.
-use Rattle.std.proofs.Common.{◌≡◌, ℕ, zero, suc, ◌+◌, ◌-◌, ◌*◌, ◌<◌, ◌≤◌, ◌^◌, ◌==◌, ◌&&◌, nat_lt, Bool, true, false, cond, All, List, [], ◌∷◌, length, map, get_or, Option, Some, None, inl, inr, refl, sym, ap, subst, ◌∙◌, arith, ltb-true}
-use Rattle.std.specs.Prelude.{vec_len}
+use Rattle.std.proofs.Common.{◌≡◌, ℕ, zero, suc, ◌+◌, ◌-◌, ◌*◌, ◌<◌, ◌≤◌, ◌^◌, ◌==◌, ◌&&◌, nat_lt, Bool, true, false, cond, All, List, [], ◌∷◌, length, map, get_or, Some, None, inl, inr, refl, sym, ap, subst, ◌∙◌, arith, ltb-true}
 use Rattle.std.specs.List.{flat_map, AllByRecursion}
-use Rattle.kfs_model.specs.Header.{Header}
-use Rattle.kfs_model.specs.Limits.{block_size, tier_limit}
+use Rattle.kfs_model.specs.Limits.{block_size}
 use Rattle.kfs_model.specs.Table.{pairs, numbers, empty, get, insert, retain, changed}
 use Rattle.kfs_model.proofs.TableLaws.{same_entries_table}
 use Rattle.kfs_model.specs.Sight.{is_file}
 use Rattle.kfs_model.specs.Placement.{Place, Placement, TierSizes, AreTierSizes, tier_size, IsLaid, below}
-use Rattle.kfs_model.proofs.CleanIsAllowed.{found, left, right}
-use Rattle.kfs_model.specs.Device.Device.{Devices, AreBlocks}
+use Rattle.kfs_model.proofs.CleanIsAllowed.{found, right}
+use Rattle.kfs_model.specs.Device.Device.{Devices}
 use Rattle.kfs_model.specs.Device.RawImage.{ExtentRow, RawImage, IsSpelled, heads_of, place_in, bytes_in, places_in, blocks_in, placement_of, devices_of}
 use Rattle.kfs_model.specs.Device.Rules.{kind_fits}
 use Rattle.kfs_model.specs.Device.Finding.{IsWellFormed}

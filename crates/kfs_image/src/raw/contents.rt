@@ -1,11 +1,10 @@
 //! The nodes and names that the rows of a raw image make.
 ghost use Rattle.std.specs.Prelude.{◌≡◌, None, map, IfOk};
-ghost use Rattle.kfs_model.specs.Device.RawImage.{IsSpelled, heads_of as heads_of_raw};
+ghost use Rattle.kfs_model.specs.Device.RawImage.{IsSpelled};
 ghost use Rattle.kfs_model.specs.Device.Rules.{rule_1};
 ghost use Rattle.kfs_model.specs.Device.Finding.{least_failed, IsWellFormed};
 ghost use Rattle.kfs_image.specs.Codec.RawImages.{raw_of};
-ghost use Rattle.kfs_image_nodes.specs.Rows.{heads_of};
-ghost use Rattle.kfs_image.specs.Raw.Rows.{header_edit, contents_of_raw};
+ghost use Rattle.kfs_image.specs.Raw.Rows.{header_edit, contents_of_raw, AreHeaders};
 
 use crate::codec::{RawImage, RawNode};
 use kfs_image_nodes::{Header, Shape};
@@ -13,13 +12,17 @@ use kfs_maps::{NumberEdit, Pages};
 use kfs_types::Nothing;
 use std::alloc::{AllocError, Allocator};
 
-/// The nodes and names of a raw image's rows. `Err` where memory runs out.
-pub fn raw_shape<A: Allocator + Clone>(alloc: &A, raw: &RawImage<A>) -> Result<Shape<A>, AllocError>
+/// The nodes and names of a raw image's rows, given their headers. `Err` where memory runs out.
+pub fn raw_shape<A: Allocator + Clone>(
+    alloc: &A,
+    raw: &RawImage<A>,
+    headers: Pages<Header, A>,
+) -> Result<Shape<A>, AllocError>
     requires spelled { IsSpelled (raw_of raw.now) }
     requires well_formed { IsWellFormed (raw_of raw.now) }
+    requires headers { AreHeaders headers raw.now }
     ensures { IfOk result (λ shape. shape ≡ contents_of_raw (raw_of raw.now)) }
 {
-    let headers = raw_headers(alloc, raw)?;
     let shape = Shape::of_rows(alloc, headers, raw.names.as_slice())?;
     Ok(shape)
 }
@@ -31,7 +34,7 @@ pub fn raw_headers<A: Allocator + Clone>(
     raw: &RawImage<A>,
 ) -> Result<Pages<Header, A>, AllocError>
     requires { least_failed (rule_1 (raw_of raw.now)) ≡ None }
-    ensures { IfOk result (λ headers. heads_of headers ≡ heads_of_raw (raw_of raw.now)) }
+    ensures { IfOk result (λ headers. AreHeaders headers raw.now) }
 {
     let edits = edits_of(alloc, raw.nodes.as_slice())?;
     let mut headers = Pages::new(alloc.clone()?)?;

@@ -1,9 +1,9 @@
 -- What a draft shows over a state: the cells that entries have written, and the state's own cells
 -- elsewhere.
-use Rattle.std.specs.Prelude.{◌≡◌, ℕ, ◌-◌, Bool, cond, ℤ, pos, negsuc, neg_ℤ, ◌+ℤ◌, ◌≤ℤ◌, List, Contains, Option, Some, None, IsTrue, unwrap_or, ◌==◌, ◌+◌, true, nat_lt}
+use Rattle.std.specs.Prelude.{◌≡◌, ℕ, ◌-◌, Bool, ℤ, pos, negsuc, neg_ℤ, ◌+ℤ◌, ◌≤ℤ◌, List, Contains, Option, Some, None, IsTrue, unwrap_or, ◌==◌, ◌+◌, true, nat_lt}
 use Rattle.std.specs.Option.{option_map, is_some}
 use Rattle.std.specs.declared.cmp.Ordering.{Ordering}
-use Rattle.std.specs.Ordering.{nat_cmp, eq_by_cmp}
+use Rattle.std.specs.Ordering.{nat_cmp}
 use Rattle.std.specs.BTreeMap.{BTreeMap, get}
 use Rattle.std.specs.List.{list_any}
 use Rattle.kfs_model.specs.Header.{Header, Kind}

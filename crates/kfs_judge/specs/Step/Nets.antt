@@ -20,12 +20,12 @@ AreNamesOf before after rows = AreDifferences name_order number_now (λ key. bef
 abbrev pub AreNodesOf : Sight → Sight → List CodeNodeRow → Type 0
 AreNodesOf before after rows = AreDifferences numbers header_now before.head after.head (map keyed_node_row rows)
 
-pub record IsNetOf {A : Type 0} (before after : Sight) (net : Net A) : Type 0 where
+pub record IsNetOf {A : Type 0} (before after : Sight) (net : Net A (List ℕ)) : Type 0 where
   pub names : AreNamesOf before after net.names.items
   pub nodes : AreNodesOf before after net.nodes.items
 
 -- the net change between a state and what the draft shows over it
-abbrev pub IsNetOver : {A B : Type 0} → Draft A → Sight → Net B → Type 0
+abbrev pub IsNetOver : {A B : Type 0} → Draft A → Sight → Net B (List ℕ) → Type 0
 IsNetOver draft s net = IsNetOf s (over draft s) net
 
 -- a look at all that a draft has written: its answer is true of each state that agrees with what was

@@ -62,7 +62,7 @@ pub enum Reason {
 
 /// One check: what must hold at an entry's point of the log. Nodes are given by number.
 #[derive(Clone, Copy)]
-pub enum Check<'a, 'e> {
+pub enum Check<'a, 'e, 's> {
     /// The number is a node's.
     Exists(u32),
     /// The node is a directory.
@@ -87,7 +87,7 @@ pub enum Check<'a, 'e> {
     /// The file may have one more name.
     HasRoomForLink(u32),
     /// The directory doesn't have the name.
-    NameIsFree(&'a NameKey<'e>),
+    NameIsFree(&'a NameKey<'e, 's>),
     /// The client may give the number to a new node.
     NumberIsGranted(u32),
     /// The number is no node's, was none's before the log, and wasn't created by the log.

@@ -26,18 +26,18 @@ const STICKY: u16 = 0o1000;
 
 /// Judges the next entry of a log: it has the log's client, and what the entries so far have changed.
 #[derive(Clone, Copy)]
-pub struct EntryJudge<'a, 'e, A: Allocator> {
+pub struct EntryJudge<'a, 'e, 's, A: Allocator> {
     /// The log's client.
     pub client: &'a Client,
     /// What the entries so far have changed.
-    pub draft: &'a Draft<'e, A>,
+    pub draft: &'a Draft<'e, 's, A>,
 }
 
-impl<'e, A: Allocator + Copy> EntryJudge<'_, 'e, A> {
+impl<'e, 's, A: Allocator + Copy> EntryJudge<'_, 'e, 's, A> {
     /// The node's header now, or none.
     pub fn header(
         &self,
-        recorder: &mut Recorder<'_, 'e, A>,
+        recorder: &mut Recorder<'_, 'e, 's, A>,
         number: u32,
     ) -> Result<Option<Header>, AllocError>
         ensures { LooksAtHeader recorder.old recorder.new result number (λ header before. (sight_in self.now before).head number ≡ option_map header_of header) }
@@ -49,7 +49,11 @@ impl<'e, A: Allocator + Copy> EntryJudge<'_, 'e, A> {
     }
 
     /// The node's kind now; a file's where there is no node.
-    pub fn kind(&self, recorder: &mut Recorder<'_, 'e, A>, number: u32) -> Result<Kind, AllocError>
+    pub fn kind(
+        &self,
+        recorder: &mut Recorder<'_, 'e, 's, A>,
+        number: u32,
+    ) -> Result<Kind, AllocError>
         ensures { LooksAtHeader recorder.old recorder.new result number (λ kind before. sight.kind_shown ((sight_in self.now before).head number) ≡ kind_of kind) }
     {
         let header = self.header(recorder, number)?;
@@ -59,8 +63,8 @@ impl<'e, A: Allocator + Copy> EntryJudge<'_, 'e, A> {
     /// The number that the name leads to now, or none.
     pub fn target(
         &self,
-        recorder: &mut Recorder<'_, 'e, A>,
-        key: &NameKey<'e>,
+        recorder: &mut Recorder<'_, 'e, 's, A>,
+        key: &NameKey<'e, 's>,
     ) -> Result<Option<u32>, AllocError>
         ensures { LooksAtName recorder.old recorder.new result key.now (λ number before. (sight_in self.now before).name key.now.0 key.now.1 ≡ number) }
     {
@@ -72,7 +76,7 @@ impl<'e, A: Allocator + Copy> EntryJudge<'_, 'e, A> {
 
     fn is_permitted(
         &self,
-        recorder: &mut Recorder<'_, 'e, A>,
+        recorder: &mut Recorder<'_, 'e, 's, A>,
         number: u32,
         want: Want,
     ) -> Result<bool, AllocError>
@@ -85,8 +89,8 @@ impl<'e, A: Allocator + Copy> EntryJudge<'_, 'e, A> {
     /// The reason of the first check that fails, if one does. `Err` where memory runs out.
     pub fn first_fault(
         &self,
-        recorder: &mut Recorder<'_, 'e, A>,
-        checks: &[Check<'_, 'e>],
+        recorder: &mut Recorder<'_, 'e, 's, A>,
+        checks: &[Check<'_, 'e, 's>],
     ) -> Result<Option<Reason>, AllocError>
         ensures { JudgesAll self.now recorder.old recorder.new result (λ _. map check_of checks.now) }
     {
@@ -101,8 +105,8 @@ impl<'e, A: Allocator + Copy> EntryJudge<'_, 'e, A> {
     #[tactic(auto, unfolding(kfs_model::specs::Check::fault, kfs_model::specs::Check::cells))]
     fn fault(
         &self,
-        recorder: &mut Recorder<'_, 'e, A>,
-        check: &Check<'_, 'e>,
+        recorder: &mut Recorder<'_, 'e, 's, A>,
+        check: &Check<'_, 'e, 's>,
     ) -> Result<Option<Reason>, AllocError>
         ensures { JudgesCheck self.now recorder.old recorder.new result check.now }
     {
@@ -145,8 +149,8 @@ impl<'e, A: Allocator + Copy> EntryJudge<'_, 'e, A> {
     #[tactic(auto, unfolding(kfs_model::specs::Check::fault, kfs_model::specs::Check::cells))]
     fn right_fault(
         &self,
-        recorder: &mut Recorder<'_, 'e, A>,
-        check: &Check<'_, 'e>,
+        recorder: &mut Recorder<'_, 'e, 's, A>,
+        check: &Check<'_, 'e, 's>,
     ) -> Result<Option<Reason>, AllocError>
         requires { IsOfRight check.now }
         ensures { JudgesCheck self.now recorder.old recorder.new result check.now }
@@ -181,8 +185,8 @@ impl<'e, A: Allocator + Copy> EntryJudge<'_, 'e, A> {
     #[tactic(auto, unfolding(kfs_model::specs::Check::fault, kfs_model::specs::Check::cells))]
     fn header_fault(
         &self,
-        recorder: &mut Recorder<'_, 'e, A>,
-        check: &Check<'_, 'e>,
+        recorder: &mut Recorder<'_, 'e, 's, A>,
+        check: &Check<'_, 'e, 's>,
     ) -> Result<Option<Reason>, AllocError>
         requires { IsOfHeader check.now }
         ensures { JudgesCheck self.now recorder.old recorder.new result check.now }
@@ -209,7 +213,11 @@ impl<'e, A: Allocator + Copy> EntryJudge<'_, 'e, A> {
         }
     }
 
-    fn may_write(&self, recorder: &mut Recorder<'_, 'e, A>, number: u32) -> Result<bool, AllocError>
+    fn may_write(
+        &self,
+        recorder: &mut Recorder<'_, 'e, 's, A>,
+        number: u32,
+    ) -> Result<bool, AllocError>
         ensures { LooksAtHeader recorder.old recorder.new result number (λ granted before. checks.may_write (entry_context_in self.now before) number ≡ granted) }
     {
         let header = self.header(recorder, number)?;
@@ -221,7 +229,7 @@ impl<'e, A: Allocator + Copy> EntryJudge<'_, 'e, A> {
     /// where the one tells enough.
     fn may_remove(
         &self,
-        recorder: &mut Recorder<'_, 'e, A>,
+        recorder: &mut Recorder<'_, 'e, 's, A>,
         dir: u32,
         number: u32,
     ) -> Result<bool, AllocError>
@@ -232,7 +240,11 @@ impl<'e, A: Allocator + Copy> EntryJudge<'_, 'e, A> {
         Ok(may_be_removed(self.client, directory, node))
     }
 
-    fn is_leased(&self, recorder: &mut Recorder<'_, 'e, A>, number: u32) -> Result<bool, AllocError>
+    fn is_leased(
+        &self,
+        recorder: &mut Recorder<'_, 'e, 's, A>,
+        number: u32,
+    ) -> Result<bool, AllocError>
         ensures { AnswersLook recorder.old recorder.new result (LeaseOn number ∷ []) (λ leased before. checks.is_leased (entry_context_in self.now before) number ≡ leased) }
     {
         if self.draft.has_created(number) {
@@ -241,7 +253,11 @@ impl<'e, A: Allocator + Copy> EntryJudge<'_, 'e, A> {
         recorder.is_held(number)
     }
 
-    fn has_no_names(&self, recorder: &mut Recorder<'_, 'e, A>, dir: u32) -> Result<bool, AllocError>
+    fn has_no_names(
+        &self,
+        recorder: &mut Recorder<'_, 'e, 's, A>,
+        dir: u32,
+    ) -> Result<bool, AllocError>
         ensures { AnswersLook recorder.old recorder.new result (CountOf dir ∷ []) (λ empty before. int_eq ((sight_in self.now before).count dir) (pos 0) ≡ empty) }
     {
         let count = recorder.count(dir)?;
@@ -252,7 +268,7 @@ impl<'e, A: Allocator + Copy> EntryJudge<'_, 'e, A> {
     /// The directory's parent now, or none.
     fn parent(
         &self,
-        recorder: &mut Recorder<'_, 'e, A>,
+        recorder: &mut Recorder<'_, 'e, 's, A>,
         number: u32,
     ) -> Result<Option<u32>, AllocError>
         requires { StopsAtMoved self.now recorder.old }
@@ -269,7 +285,7 @@ impl<'e, A: Allocator + Copy> EntryJudge<'_, 'e, A> {
     /// went takes one step for each stretch of it, and else each level takes one.
     fn climb_meets(
         &self,
-        recorder: &mut Recorder<'_, 'e, A>,
+        recorder: &mut Recorder<'_, 'e, 's, A>,
         node: u32,
         dir: u32,
     ) -> Result<bool, AllocError>
@@ -295,7 +311,7 @@ impl<'e, A: Allocator + Copy> EntryJudge<'_, 'e, A> {
     /// the parent. None where it has no parent.
     fn climb_on(
         &self,
-        recorder: &mut Recorder<'_, 'e, A>,
+        recorder: &mut Recorder<'_, 'e, 's, A>,
         node: u32,
         from: u32,
         left: usize,
@@ -320,7 +336,7 @@ impl<'e, A: Allocator + Copy> EntryJudge<'_, 'e, A> {
 
     fn is_number_free(
         &self,
-        recorder: &mut Recorder<'_, 'e, A>,
+        recorder: &mut Recorder<'_, 'e, 's, A>,
         number: u32,
     ) -> Result<bool, AllocError>
         ensures { LooksAtHeader recorder.old recorder.new result number (λ free before. checks.is_number_free (entry_context_in self.now before) number ≡ free) }

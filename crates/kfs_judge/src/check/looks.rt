@@ -16,18 +16,18 @@ use std::alloc::Allocator;
 /// A view, and what it answered last: two headers and two names, which take no memory. Names are kept
 /// where they stand in the log.
 #[derive(Drop)]
-pub struct Looks<'a, 'e, A: Allocator> {
+pub struct Looks<'a, 'e, 's, A: Allocator> {
     pub view: &'a View<A>,
     nears: Nears,
     headers: Recall<u32, Option<Header>>,
-    names: Recall<NameKey<'e>, Option<u32>>,
+    names: Recall<NameKey<'e, 's>, Option<u32>>,
     ghost headers_are_right: { HeadersAreRight view.now headers },
     ghost names_are_right: { NamesAreRight view.now names },
 }
 
-impl<'a, 'e, A: Allocator + Copy> Looks<'a, 'e, A> {
+impl<'a, 'e, 's, A: Allocator + Copy> Looks<'a, 'e, 's, A> {
     /// Nothing was looked up yet.
-    pub fn new(view: &'a View<A>) -> Looks<'a, 'e, A>
+    pub fn new(view: &'a View<A>) -> Looks<'a, 'e, 's, A>
         ensures { result.view.now ≡ view.now }
     {
         Looks {
@@ -52,7 +52,7 @@ impl<'a, 'e, A: Allocator + Copy> Looks<'a, 'e, A> {
     }
 
     /// The number that a name leads to, or none.
-    pub fn target(&mut self, key: &NameKey<'e>) -> Option<u32>
+    pub fn target(&mut self, key: &NameKey<'e, 's>) -> Option<u32>
         ensures same { self.new.view.now ≡ self.old.view.now }
         ensures target { result ≡ target (contents_of self.old.view.now).names key.now.0 key.now.1 }
     {
@@ -66,7 +66,11 @@ impl<'a, 'e, A: Allocator + Copy> Looks<'a, 'e, A> {
 }
 
 /// The number that a name leads to in the view, or none.
-fn look_up<A: Allocator + Copy>(view: &View<A>, nears: &mut Nears, key: &NameKey<'_>) -> Option<u32>
+fn look_up<A: Allocator + Copy>(
+    view: &View<A>,
+    nears: &mut Nears,
+    key: &NameKey<'_, '_>,
+) -> Option<u32>
     ensures { result ≡ target (contents_of view.now).names key.now.0 key.now.1 }
 {
     let place = key.copied();

@@ -40,21 +40,21 @@ pub enum ReadAnswer {
 /// Reads a view for one client, and records each read with its answer. `Err` where memory for the
 /// record is refused; that read isn't recorded then.
 #[derive(Drop)]
-pub struct Recorder<'a, 'e, A: Allocator> {
-    looks: Looks<'a, 'e, A>,
+pub struct Recorder<'a, 'e, 's, A: Allocator> {
+    looks: Looks<'a, 'e, 's, A>,
     client: u32,
     reads: Reads<A>,
     climbs: Climbs<A>,
     ghost ways: { ClimbsHold reads.entries climbs } by { Prim.hlevel props },
 }
 
-impl<'a, 'e, A: Allocator + Copy> Recorder<'a, 'e, A> {
+impl<'a, 'e, 's, A: Allocator + Copy> Recorder<'a, 'e, 's, A> {
     ghost use Rattle.kfs_judge.specs.Check.Climbs.{is_among, is_taken, IsWayOver, Follows};
     ghost use Rattle.kfs_judge.specs.Check.Recorders.{seen_by, AnswersLook, GoesOn, Known, LooksAtHeader, LooksAtName};
     ghost use Rattle.kfs_judge.specs.Check.View.{client_sight_in};
 
     /// For the client with this number, with the reads so far. Takes no memory.
-    pub fn new(alloc: A, view: &'a View<A>, client: u32, reads: Reads<A>) -> Recorder<'a, 'e, A>
+    pub fn new(alloc: A, view: &'a View<A>, client: u32, reads: Reads<A>) -> Recorder<'a, 'e, 's, A>
         ensures reads { result.reads ≡ reads }
         ensures seen { seen_by result ≡ client_sight_in view.now client }
     {
@@ -131,7 +131,7 @@ impl<'a, 'e, A: Allocator + Copy> Recorder<'a, 'e, A> {
     }
 
     /// The number that a name leads to, or none.
-    pub fn target(&mut self, key: &NameKey<'e>) -> Result<Option<u32>, AllocError>
+    pub fn target(&mut self, key: &NameKey<'e, 's>) -> Result<Option<u32>, AllocError>
         ensures { LooksAtName self.old self.new result key.now (λ number before. before.sight.name key.now.0 key.now.1 ≡ number) }
     {
         if self.reads.are_kept() {
@@ -146,7 +146,7 @@ impl<'a, 'e, A: Allocator + Copy> Recorder<'a, 'e, A> {
 
     /// The same, where reads are kept.
     #[inline(never)]
-    fn target_kept(&mut self, key: &NameKey<'e>) -> Result<Option<u32>, AllocError>
+    fn target_kept(&mut self, key: &NameKey<'e, 's>) -> Result<Option<u32>, AllocError>
         ensures { LooksAtName self.old self.new result key.now (λ number before. before.sight.name key.now.0 key.now.1 ≡ number) }
     {
         let read = read_of(key);
@@ -225,7 +225,7 @@ impl<'a, 'e, A: Allocator + Copy> Recorder<'a, 'e, A> {
 
 /// The read of a name.
 #[inline(always)]
-fn read_of(key: &NameKey<'_>) -> Read
+fn read_of(key: &NameKey<'_, '_>) -> Read
     ensures { result ≡ Look (Name key.now.0 key.now.1) }
 {
     Read::Look(Cell::Name(key.dir(), key.name().owned()))

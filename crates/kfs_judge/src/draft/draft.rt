@@ -23,11 +23,11 @@ use std::alloc::{AllocError, Allocator};
 /// The cells that the entries so far have written, each with its value now. A cell that none has
 /// written isn't here. Look-ups take no memory.
 #[derive(Drop)]
-pub struct Draft<'e, A: Allocator> {
+pub struct Draft<'e, 's, A: Allocator> {
     /// The header of each node that was written.
     heads: Few<u32, Option<Header>, A>,
     /// The number that each written name leads to. The names stand in the log.
-    names: Few<NameKey<'e>, Option<u32>, A>,
+    names: Few<NameKey<'e, 's>, Option<u32>, A>,
     /// The parent of each directory that was written.
     parents: Parents<A>,
     /// By how much each directory's count of names has changed.
@@ -36,9 +36,9 @@ pub struct Draft<'e, A: Allocator> {
     created: Created<A>,
 }
 
-impl<'e, A: Allocator + Copy> Draft<'e, A> {
+impl<'e, 's, A: Allocator + Copy> Draft<'e, 's, A> {
     /// No cell is written. Takes no memory.
-    pub fn new(alloc: A) -> Draft<'e, A>
+    pub fn new(alloc: A) -> Draft<'e, 's, A>
         ensures shown { (s : Sight) → over result s ≡ s }
         ensures written { ChangesAreAmong result [] }
         ensures created { (n : ℕ) → has_created result n ≡ false }
@@ -57,7 +57,7 @@ impl<'e, A: Allocator + Copy> Draft<'e, A> {
     /// the change may be made after `Err`.
     pub fn add_node(
         &mut self,
-        key: &NameKey<'e>,
+        key: &NameKey<'e, 's>,
         number: u32,
         header: Header,
     ) -> Result<(), AllocError>
@@ -78,7 +78,7 @@ impl<'e, A: Allocator + Copy> Draft<'e, A> {
     /// One more name of a node, whose header is then this one.
     pub fn add_name(
         &mut self,
-        key: &NameKey<'e>,
+        key: &NameKey<'e, 's>,
         number: u32,
         header: Option<Header>,
     ) -> Result<(), AllocError>
@@ -98,7 +98,7 @@ impl<'e, A: Allocator + Copy> Draft<'e, A> {
     /// One name of a node fewer. Its header is then this one, or the node is gone.
     pub fn remove_name(
         &mut self,
-        key: &NameKey<'e>,
+        key: &NameKey<'e, 's>,
         number: u32,
         header: Option<Header>,
     ) -> Result<(), AllocError>
@@ -119,8 +119,8 @@ impl<'e, A: Allocator + Copy> Draft<'e, A> {
     /// `new_key` leads to the node, and `key` to none.
     pub fn move_name(
         &mut self,
-        key: &NameKey<'e>,
-        new_key: &NameKey<'e>,
+        key: &NameKey<'e, 's>,
+        new_key: &NameKey<'e, 's>,
         number: u32,
         kind: Kind,
     ) -> Result<(), AllocError>
@@ -154,7 +154,7 @@ impl<'e, A: Allocator + Copy> Draft<'e, A> {
     }
 
     /// The name leads to this number, or to none.
-    fn set_target(&mut self, key: &NameKey<'e>, target: Option<u32>) -> Result<(), AllocError>
+    fn set_target(&mut self, key: &NameKey<'e, 's>, target: Option<u32>) -> Result<(), AllocError>
         ensures shown { OnOk result ((s : Sight) → over self.new s ≡ with_target key.now.0 key.now.1 target (over self.old s)) }
         ensures written { OnOk result ((among : List Cell) → ChangesAreAmong self.old among → Contains among (NameIn key.now.0 key.now.1) → ChangesAreAmong self.new among) }
         ensures created { OnOk result (KeepsCreated self.old self.new) }
@@ -223,7 +223,7 @@ fn count_names<A: Allocator + Copy>(
     shifts.set(dir, shift + by)
 }
 
-impl<'e, A: Allocator> Draft<'e, A> {
+impl<'e, 's, A: Allocator> Draft<'e, 's, A> {
     /// The node's header now, if an entry wrote it. An inner none means that the node is gone.
     pub fn header(&self, number: u32) -> Option<Option<Header>>
         ensures { result ≡ found_in nat_cmp self.now.heads number }
@@ -233,7 +233,7 @@ impl<'e, A: Allocator> Draft<'e, A> {
 
     /// The number that the name leads to now, if an entry wrote it. An inner none means that the name
     /// is gone.
-    pub fn target(&self, key: &NameKey<'e>) -> Option<Option<u32>>
+    pub fn target(&self, key: &NameKey<'e, 's>) -> Option<Option<u32>>
         ensures { result ≡ found_in name_order.compare self.now.names key.now }
     {
         self.names.get(key)
@@ -275,7 +275,7 @@ impl<'e, A: Allocator> Draft<'e, A> {
     }
 
     /// The written names, by directory and name.
-    pub fn targets(&self) -> &Few<NameKey<'e>, Option<u32>, A>
+    pub fn targets(&self) -> &Few<NameKey<'e, 's>, Option<u32>, A>
         ensures { result.now ≡ self.now.names }
     {
         &self.names

@@ -11,12 +11,12 @@ use std::marker::Model;
 /// A name in a directory: the directory's number, and the name where it lies in the log's bytes. So a key
 /// has no copy of the name, which is long. Keys are ordered by number, and then by name.
 #[derive(Drop)]
-pub struct NameKey<'e> {
+pub struct NameKey<'e, 's> {
     pub dir: u32,
-    pub name: &'e BorrowedName<'e>,
+    pub name: &'e BorrowedName<'s>,
 }
 
-impl<'e> Model for NameKey<'e> {
+impl<'e, 's> Model for NameKey<'e, 's> {
     ghost use Rattle.std.specs.Prelude.{ℕ, List};
 
     ghost Value = { ℕ × List ℕ };
@@ -24,7 +24,7 @@ impl<'e> Model for NameKey<'e> {
     ghost view = { λ key. (key.dir, key.name.now) };
 }
 
-impl<'e> PartialEq for NameKey<'e> {
+impl<'e, 's> PartialEq for NameKey<'e, 's> {
     ghost eq = { eq_by_cmp name_order.compare };
 
     ghost laws = { partial_equiv_from_equiv (eq_by_cmp_equiv name_order.total) };
@@ -34,11 +34,11 @@ impl<'e> PartialEq for NameKey<'e> {
     }
 }
 
-impl<'e> Eq for NameKey<'e> {
+impl<'e, 's> Eq for NameKey<'e, 's> {
     ghost laws = { eq_by_cmp_equiv name_order.total };
 }
 
-impl<'e> PartialOrd for NameKey<'e> {
+impl<'e, 's> PartialOrd for NameKey<'e, 's> {
     ghost partial_cmp = { λ a b. Some (name_order.compare a b) };
 
     ghost laws = { partial_order_from_total name_order.total };
@@ -48,7 +48,7 @@ impl<'e> PartialOrd for NameKey<'e> {
     }
 }
 
-impl<'e> Ord for NameKey<'e> {
+impl<'e, 's> Ord for NameKey<'e, 's> {
     ghost cmp = { name_order.compare };
 
     ghost total = { name_order.total };
@@ -62,7 +62,7 @@ impl<'e> Ord for NameKey<'e> {
     }
 }
 
-impl<'e> NameKey<'e> {
+impl<'e, 's> NameKey<'e, 's> {
     /// The directory's number.
     pub fn dir(&self) -> u32
         ensures { result ≡ self.now.0 }
@@ -71,7 +71,7 @@ impl<'e> NameKey<'e> {
     }
 
     /// The name.
-    pub fn name(&self) -> &'e BorrowedName<'e>
+    pub fn name(&self) -> &'e BorrowedName<'s>
         ensures { result.now ≡ self.now.1 }
     {
         self.name
@@ -85,7 +85,7 @@ impl<'e> NameKey<'e> {
     }
 
     /// The same key once more.
-    pub fn again(&self) -> NameKey<'e>
+    pub fn again(&self) -> NameKey<'e, 's>
         ensures { result ≡ self.now }
     {
         NameKey {

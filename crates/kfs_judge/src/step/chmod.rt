@@ -17,9 +17,9 @@ use std::alloc::{AllocError, Allocator};
 
 /// Why the mode of node `number` can't be changed; none if it can.
 #[tactic(auto, unfolding(kfs_model::specs::Check::checks_of))]
-fn chmod_fault<'e, A: Allocator + Copy>(
-    judge: &EntryJudge<'_, 'e, A>,
-    recorder: &mut Recorder<'_, 'e, A>,
+fn chmod_fault<'e, 's, A: Allocator + Copy>(
+    judge: &EntryJudge<'_, 'e, 's, A>,
+    recorder: &mut Recorder<'_, 'e, 's, A>,
     number: u32,
 ) -> Result<Option<Reason>, AllocError>
     ensures { (mode : ℕ) → AnswersEntry judge.now recorder.old recorder.new result (entry.Chmod number mode) }
@@ -32,7 +32,7 @@ fn chmod_fault<'e, A: Allocator + Copy>(
     Ok(None)
 }
 
-impl<A: Allocator + Copy> LogJudge<'_, '_, A> {
+impl<A: Allocator + Copy> LogJudge<'_, '_, '_, A> {
     /// Sets the permission bits of node `number`, or answers the reason why not.
     pub fn chmod(&mut self, number: u32, mode: u16) -> Result<Option<Reason>, AllocError>
         ensures { IsEntered self.old self.new (entry.Chmod number mode) result }

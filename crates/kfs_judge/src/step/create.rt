@@ -21,11 +21,11 @@ use std::alloc::{AllocError, Allocator};
 
 /// Why node `number` can't be made with the name `name` in `dir`; none if it can.
 #[tactic(auto, unfolding(kfs_model::specs::Check::checks_of))]
-fn create_fault<'e, A: Allocator + Copy>(
-    judge: &EntryJudge<'_, 'e, A>,
-    recorder: &mut Recorder<'_, 'e, A>,
+fn create_fault<'e, 's, A: Allocator + Copy>(
+    judge: &EntryJudge<'_, 'e, 's, A>,
+    recorder: &mut Recorder<'_, 'e, 's, A>,
     dir: u32,
-    name: &'e BorrowedName<'e>,
+    name: &'e BorrowedName<'s>,
     number: u32,
 ) -> Result<Option<Reason>, AllocError>
     ensures { (kind : KindShown) (mode : ℕ) → AnswersEntry judge.now recorder.old recorder.new result (entry.Create dir name.now number kind mode) }
@@ -44,13 +44,13 @@ fn create_fault<'e, A: Allocator + Copy>(
     Ok(None)
 }
 
-impl<'e, A: Allocator + Copy> LogJudge<'_, 'e, A> {
+impl<'e, 's, A: Allocator + Copy> LogJudge<'_, 'e, 's, A> {
     /// Makes the empty node `number` with the name `name` in `dir` and the client's uid and gid, or
     /// answers the reason why not.
     pub fn create(
         &mut self,
         dir: u32,
-        name: &'e BorrowedName<'e>,
+        name: &'e BorrowedName<'s>,
         number: u32,
         kind: Kind,
         mode: u16,

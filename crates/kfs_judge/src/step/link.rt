@@ -15,12 +15,12 @@ use std::alloc::{AllocError, Allocator};
 
 /// Why node `number` can't get the name `name` in `dir`; none if it can.
 #[tactic(auto, unfolding(kfs_model::specs::Check::checks_of))]
-fn link_fault<'e, A: Allocator + Copy>(
-    judge: &EntryJudge<'_, 'e, A>,
-    recorder: &mut Recorder<'_, 'e, A>,
+fn link_fault<'e, 's, A: Allocator + Copy>(
+    judge: &EntryJudge<'_, 'e, 's, A>,
+    recorder: &mut Recorder<'_, 'e, 's, A>,
     number: u32,
     dir: u32,
-    name: &'e BorrowedName<'e>,
+    name: &'e BorrowedName<'s>,
 ) -> Result<Option<Reason>, AllocError>
     ensures { AnswersEntry judge.now recorder.old recorder.new result (entry.Link number dir name.now) }
 {
@@ -40,13 +40,13 @@ fn link_fault<'e, A: Allocator + Copy>(
     Ok(None)
 }
 
-impl<'e, A: Allocator + Copy> LogJudge<'_, 'e, A> {
+impl<'e, 's, A: Allocator + Copy> LogJudge<'_, 'e, 's, A> {
     /// Gives the file `number` one more name, `name` in `dir`, or answers the reason why not.
     pub fn link(
         &mut self,
         number: u32,
         dir: u32,
-        name: &'e BorrowedName<'e>,
+        name: &'e BorrowedName<'s>,
     ) -> Result<Option<Reason>, AllocError>
         requires { HasRoom 3 self.old.draft }
         ensures { IsEntered self.old self.new (entry.Link number dir name.now) result }

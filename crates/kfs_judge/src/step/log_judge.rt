@@ -14,7 +14,7 @@ ghost use Rattle.kfs_judge.specs.Check.View.{client_sight_in};
 use crate::check::{Reads, Reason, Recorder, View};
 use crate::draft::Draft;
 use crate::step::net::{file_sizes, name_rows, node_rows};
-use kfs_entry::{BorrowedEntry, Entry, entry_table};
+use kfs_entry::{BorrowedEntry, BorrowedName, Entry, entry_table};
 use kfs_image_nodes::Net;
 use kfs_mode::Client;
 use kfs_pieces::FileSize;
@@ -46,23 +46,23 @@ macro_rules! enter_case {
 /// Judges the entries of a log in order. It has the log's client, what the entries so far have changed,
 /// and what was read of the view.
 #[derive(Drop)]
-pub struct LogJudge<'a, 'e, A: Allocator> {
+pub struct LogJudge<'a, 'e, 's, A: Allocator> {
     /// The log's client.
     pub client: &'a Client,
     /// What the entries so far have changed.
-    pub draft: Draft<'e, A>,
+    pub draft: Draft<'e, 's, A>,
     /// The view, and what was read of it.
-    pub recorder: Recorder<'a, 'e, A>,
+    pub recorder: Recorder<'a, 'e, 's, A>,
 }
 
-impl<'a, 'e, A: Allocator + Copy> LogJudge<'a, 'e, A> {
+impl<'a, 'e, 's, A: Allocator + Copy> LogJudge<'a, 'e, 's, A> {
     /// At the start of a log of this client, with the reads so far. Takes no memory.
     pub fn new(
         alloc: A,
         view: &'a View<A>,
         client: &'a Client,
         reads: Reads<A>,
-    ) -> LogJudge<'a, 'e, A>
+    ) -> LogJudge<'a, 'e, 's, A>
         ensures client { result.client.now ≡ client.now }
         ensures reads { result.recorder.reads ≡ reads }
         ensures seen { seen_by result.recorder ≡ client_sight_in view.now client.now.number }
@@ -80,7 +80,7 @@ impl<'a, 'e, A: Allocator + Copy> LogJudge<'a, 'e, A> {
 
     /// Makes the change of an entry, or answers the reason why not. After `Err`, where memory is
     /// refused, part of the change may be made.
-    pub fn enter(&mut self, entry: &'e BorrowedEntry<'e>) -> Result<Option<Reason>, AllocError>
+    pub fn enter(&mut self, entry: &'e BorrowedEntry<'s>) -> Result<Option<Reason>, AllocError>
         requires { HasRoom 3 self.old.draft }
         ensures goes { GoesOn self.old.recorder self.new.recorder }
         ensures client { self.new.client.now ≡ self.old.client.now }
@@ -92,7 +92,7 @@ impl<'a, 'e, A: Allocator + Copy> LogJudge<'a, 'e, A> {
     }
 
     /// The net change of the entries so far. `Err` where memory runs out.
-    pub fn net(&mut self, alloc: A) -> Result<Net<A>, AllocError>
+    pub fn net(&mut self, alloc: A) -> Result<Net<A, BorrowedName<'s>>, AllocError>
         ensures draft { self.new.draft ≡ self.old.draft }
         ensures looks { LooksOver self.old.draft self.old.recorder self.new.recorder result (λ net before. IsNetOver self.old.draft before.sight net) }
     {

@@ -15,18 +15,18 @@ ghost use Rattle.kfs_judge.specs.Draft.Few.{list_of};
 
 use crate::check::Recorder;
 use crate::draft::{Draft, NameKey};
-use kfs_entry::{NameRow, NodeRow};
+use kfs_entry::{BorrowedRow, NameRow, NodeRow};
 use kfs_image_nodes::Header;
 use kfs_pieces::FileSize;
 use kfs_types::SIZE_LIMIT;
 use std::alloc::{AllocError, Allocator};
 
 /// A row for each name that leads elsewhere than before, ascending.
-pub fn name_rows<'e, A: Allocator + Copy>(
+pub fn name_rows<'e, 's, A: Allocator + Copy>(
     alloc: A,
-    draft: &Draft<'e, A>,
-    recorder: &mut Recorder<'_, 'e, A>,
-) -> Result<Vec<NameRow, A>, AllocError>
+    draft: &Draft<'e, 's, A>,
+    recorder: &mut Recorder<'_, 'e, 's, A>,
+) -> Result<Vec<BorrowedRow<'s>, A>, AllocError>
     ensures { LooksOver draft.now recorder.old recorder.new result (λ rows before. AreNamesOf before.sight (over draft.now before.sight) rows.items) }
 {
     if let Some((key, now)) = draft.targets().only() {
@@ -38,11 +38,11 @@ pub fn name_rows<'e, A: Allocator + Copy>(
 }
 
 /// The same, where more than one name was written, or none.
-fn tree_name_rows<'e, A: Allocator + Copy>(
+fn tree_name_rows<'e, 's, A: Allocator + Copy>(
     alloc: A,
-    draft: &Draft<'e, A>,
-    recorder: &mut Recorder<'_, 'e, A>,
-) -> Result<Vec<NameRow, A>, AllocError>
+    draft: &Draft<'e, 's, A>,
+    recorder: &mut Recorder<'_, 'e, 's, A>,
+) -> Result<Vec<BorrowedRow<'s>, A>, AllocError>
     requires { draft.now.names.only ≡ None }
     ensures { LooksOver draft.now recorder.old recorder.new result (λ rows before. AreNamesOf before.sight (over draft.now before.sight) rows.items) }
 {
@@ -56,10 +56,10 @@ fn tree_name_rows<'e, A: Allocator + Copy>(
 }
 
 /// No row, with room for one of each name that was written.
-fn room_for_names<A: Allocator + Copy>(
+fn room_for_names<'s, A: Allocator + Copy>(
     alloc: A,
-    draft: &Draft<'_, A>,
-) -> Result<Vec<NameRow, A>, AllocError>
+    draft: &Draft<'_, 's, A>,
+) -> Result<Vec<BorrowedRow<'s>, A>, AllocError>
     ensures { IfOk result (λ rows. rows.items ≡ []) }
 {
     Vec::with_capacity(alloc, draft.targets().tree().len())
@@ -77,11 +77,11 @@ fn list_of<T: Drop, A: Allocator + Copy>(alloc: A, it: Option<T>) -> Result<Vec<
 }
 
 /// The row of a name that leads to `now`, if it led elsewhere before.
-fn name_row<'e, A: Allocator + Copy>(
-    recorder: &mut Recorder<'_, 'e, A>,
-    key: &NameKey<'e>,
+fn name_row<'e, 's, A: Allocator + Copy>(
+    recorder: &mut Recorder<'_, 'e, 's, A>,
+    key: &NameKey<'e, 's>,
     now: Option<u32>,
-) -> Result<Option<NameRow>, AllocError>
+) -> Result<Option<BorrowedRow<'s>>, AllocError>
     ensures { LooksAtName recorder.old recorder.new result key.now (λ row before. IsRowOfName before.sight key.now now row) }
 {
     let before = recorder.target(key)?;
@@ -90,7 +90,7 @@ fn name_row<'e, A: Allocator + Copy>(
     }
     let row = NameRow {
         dir: key.dir(),
-        name: key.name().owned(),
+        name: key.name().again(),
         number: now.unwrap_or(0),
     };
     Ok(Some(row))
@@ -99,8 +99,8 @@ fn name_row<'e, A: Allocator + Copy>(
 /// A row for each node with another header than before, ascending.
 pub fn node_rows<A: Allocator + Copy>(
     alloc: A,
-    draft: &Draft<'_, A>,
-    recorder: &mut Recorder<'_, '_, A>,
+    draft: &Draft<'_, '_, A>,
+    recorder: &mut Recorder<'_, '_, '_, A>,
 ) -> Result<Vec<NodeRow, A>, AllocError>
     ensures { LooksOver draft.now recorder.old recorder.new result (λ rows before. AreNodesOf before.sight (over draft.now before.sight) rows.items) }
 {
@@ -115,8 +115,8 @@ pub fn node_rows<A: Allocator + Copy>(
 /// The same, where more than one header was written, or none.
 fn tree_node_rows<A: Allocator + Copy>(
     alloc: A,
-    draft: &Draft<'_, A>,
-    recorder: &mut Recorder<'_, '_, A>,
+    draft: &Draft<'_, '_, A>,
+    recorder: &mut Recorder<'_, '_, '_, A>,
 ) -> Result<Vec<NodeRow, A>, AllocError>
     requires { draft.now.heads.only ≡ None }
     ensures { LooksOver draft.now recorder.old recorder.new result (λ rows before. AreNodesOf before.sight (over draft.now before.sight) rows.items) }
@@ -132,7 +132,7 @@ fn tree_node_rows<A: Allocator + Copy>(
 
 /// The row of a node whose header is `now`, if it was another before.
 fn node_row<A: Allocator + Copy>(
-    recorder: &mut Recorder<'_, '_, A>,
+    recorder: &mut Recorder<'_, '_, '_, A>,
     number: u32,
     now: Option<Header>,
 ) -> Result<Option<NodeRow>, AllocError>
@@ -149,8 +149,8 @@ fn node_row<A: Allocator + Copy>(
 /// 2^32.
 pub fn file_sizes<A: Allocator + Copy>(
     alloc: A,
-    draft: &Draft<'_, A>,
-    recorder: &mut Recorder<'_, '_, A>,
+    draft: &Draft<'_, '_, A>,
+    recorder: &mut Recorder<'_, '_, '_, A>,
 ) -> Result<Vec<FileSize, A>, AllocError>
     ensures looks { LooksOver draft.now recorder.old recorder.new result (λ sizes before. AreSizesOver draft.now before.sight sizes.items) }
     ensures ascending { IfOk result (λ sizes. SizesAscend 0 sizes.items) }
@@ -167,8 +167,8 @@ pub fn file_sizes<A: Allocator + Copy>(
 /// The same, where more than one header was written, or none.
 fn tree_file_sizes<A: Allocator + Copy>(
     alloc: A,
-    draft: &Draft<'_, A>,
-    recorder: &mut Recorder<'_, '_, A>,
+    draft: &Draft<'_, '_, A>,
+    recorder: &mut Recorder<'_, '_, '_, A>,
 ) -> Result<Vec<FileSize, A>, AllocError>
     requires { draft.now.heads.only ≡ None }
     ensures looks { LooksOver draft.now recorder.old recorder.new result (λ sizes before. AreSizesOver draft.now before.sight sizes.items) }

@@ -17,9 +17,9 @@ use std::alloc::{AllocError, Allocator};
 
 /// Why this can't become the group of node `number`; none if it can.
 #[tactic(auto, unfolding(kfs_model::specs::Check::checks_of))]
-fn regroup_fault<'e, A: Allocator + Copy>(
-    judge: &EntryJudge<'_, 'e, A>,
-    recorder: &mut Recorder<'_, 'e, A>,
+fn regroup_fault<'e, 's, A: Allocator + Copy>(
+    judge: &EntryJudge<'_, 'e, 's, A>,
+    recorder: &mut Recorder<'_, 'e, 's, A>,
     number: u32,
     group: u32,
 ) -> Result<Option<Reason>, AllocError>
@@ -34,7 +34,7 @@ fn regroup_fault<'e, A: Allocator + Copy>(
     Ok(None)
 }
 
-impl<A: Allocator + Copy> LogJudge<'_, '_, A> {
+impl<A: Allocator + Copy> LogJudge<'_, '_, '_, A> {
     /// Sets the group of node `number`, or answers the reason why not.
     pub fn regroup(&mut self, number: u32, group: u32) -> Result<Option<Reason>, AllocError>
         ensures { IsEntered self.old self.new (entry.Regroup number group) result }

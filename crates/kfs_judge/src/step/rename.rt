@@ -19,13 +19,13 @@ use std::alloc::{AllocError, Allocator};
 
 /// Why the name `name` in `dir` can't become `new_name` in `new_dir`; none if it can.
 #[tactic(auto, unfolding(kfs_model::specs::Check::checks_of))]
-fn rename_fault<'e, A: Allocator + Copy>(
-    judge: &EntryJudge<'_, 'e, A>,
-    recorder: &mut Recorder<'_, 'e, A>,
+fn rename_fault<'e, 's, A: Allocator + Copy>(
+    judge: &EntryJudge<'_, 'e, 's, A>,
+    recorder: &mut Recorder<'_, 'e, 's, A>,
     dir: u32,
-    name: &'e BorrowedName<'e>,
+    name: &'e BorrowedName<'s>,
     new_dir: u32,
-    new_name: &'e BorrowedName<'e>,
+    new_name: &'e BorrowedName<'s>,
 ) -> Result<Option<Reason>, AllocError>
     ensures { AnswersEntry judge.now recorder.old recorder.new result (entry.Rename dir name.now new_dir new_name.now) }
 {
@@ -51,9 +51,9 @@ fn rename_fault<'e, A: Allocator + Copy>(
 }
 
 /// Why node `moved` can't go from `dir` to `new_dir`, in place of `there`; none if it can.
-fn move_fault<'e, A: Allocator + Copy>(
-    judge: &EntryJudge<'_, 'e, A>,
-    recorder: &mut Recorder<'_, 'e, A>,
+fn move_fault<'e, 's, A: Allocator + Copy>(
+    judge: &EntryJudge<'_, 'e, 's, A>,
+    recorder: &mut Recorder<'_, 'e, 's, A>,
     dir: u32,
     new_dir: u32,
     moved: u32,
@@ -85,9 +85,9 @@ fn leads_to(target: Option<u32>, number: u32) -> bool
 }
 
 /// Why node `moved`, of this kind, can't come to `new_dir`, in place of `there`; none if it can.
-fn arrival_fault<'e, A: Allocator + Copy>(
-    judge: &EntryJudge<'_, 'e, A>,
-    recorder: &mut Recorder<'_, 'e, A>,
+fn arrival_fault<'e, 's, A: Allocator + Copy>(
+    judge: &EntryJudge<'_, 'e, 's, A>,
+    recorder: &mut Recorder<'_, 'e, 's, A>,
     kind: Kind,
     moved: u32,
     new_dir: u32,
@@ -105,9 +105,9 @@ fn arrival_fault<'e, A: Allocator + Copy>(
 /// Why node `moved`, of this kind, can't be in `new_dir`; none if it can. A directory may not be put
 /// below itself.
 #[tactic(auto, unfolding(kfs_model::specs::Check::first_failing))]
-fn place_fault<'e, A: Allocator + Copy>(
-    judge: &EntryJudge<'_, 'e, A>,
-    recorder: &mut Recorder<'_, 'e, A>,
+fn place_fault<'e, 's, A: Allocator + Copy>(
+    judge: &EntryJudge<'_, 'e, 's, A>,
+    recorder: &mut Recorder<'_, 'e, 's, A>,
     kind: Kind,
     moved: u32,
     new_dir: u32,
@@ -125,9 +125,9 @@ fn place_fault<'e, A: Allocator + Copy>(
 
 /// Why `there` can't be replaced in `new_dir` by a node of this kind; none if it can.
 #[tactic(auto, unfolding(kfs_model::specs::Check::first_failing))]
-fn replaced_fault<'e, A: Allocator + Copy>(
-    judge: &EntryJudge<'_, 'e, A>,
-    recorder: &mut Recorder<'_, 'e, A>,
+fn replaced_fault<'e, 's, A: Allocator + Copy>(
+    judge: &EntryJudge<'_, 'e, 's, A>,
+    recorder: &mut Recorder<'_, 'e, 's, A>,
     kind: Kind,
     new_dir: u32,
     there: Option<u32>,
@@ -143,14 +143,14 @@ fn replaced_fault<'e, A: Allocator + Copy>(
     }
 }
 
-impl<'e, A: Allocator + Copy> LogJudge<'_, 'e, A> {
+impl<'e, 's, A: Allocator + Copy> LogJudge<'_, 'e, 's, A> {
     /// Moves the name `name` in `dir` to `new_name` in `new_dir`, or answers the reason why not.
     pub fn rename(
         &mut self,
         dir: u32,
-        name: &'e BorrowedName<'e>,
+        name: &'e BorrowedName<'s>,
         new_dir: u32,
-        new_name: &'e BorrowedName<'e>,
+        new_name: &'e BorrowedName<'s>,
     ) -> Result<Option<Reason>, AllocError>
         requires { HasRoom 3 self.old.draft }
         ensures { IsEntered self.old self.new (entry.Rename dir name.now new_dir new_name.now) result }
@@ -178,8 +178,8 @@ impl<'e, A: Allocator + Copy> LogJudge<'_, 'e, A> {
     /// Nothing changes where both names lead to one node.
     fn move_name(
         &mut self,
-        key: &NameKey<'e>,
-        new_key: &NameKey<'e>,
+        key: &NameKey<'e, 's>,
+        new_key: &NameKey<'e, 's>,
         from: Option<u32>,
         to: Option<u32>,
     ) -> Result<(), AllocError>

@@ -17,9 +17,9 @@ use std::alloc::{AllocError, Allocator};
 
 /// Why the file `number` can't have this size; none if it can.
 #[tactic(auto, unfolding(kfs_model::specs::Check::checks_of))]
-fn truncate_fault<'e, A: Allocator + Copy>(
-    judge: &EntryJudge<'_, 'e, A>,
-    recorder: &mut Recorder<'_, 'e, A>,
+fn truncate_fault<'e, 's, A: Allocator + Copy>(
+    judge: &EntryJudge<'_, 'e, 's, A>,
+    recorder: &mut Recorder<'_, 'e, 's, A>,
     number: u32,
     size: u64,
 ) -> Result<Option<Reason>, AllocError>
@@ -36,7 +36,7 @@ fn truncate_fault<'e, A: Allocator + Copy>(
     Ok(None)
 }
 
-impl<A: Allocator + Copy> LogJudge<'_, '_, A> {
+impl<A: Allocator + Copy> LogJudge<'_, '_, '_, A> {
     /// Sets the size of the file `number` in bytes, or answers the reason why not.
     pub fn truncate(&mut self, number: u32, size: u64) -> Result<Option<Reason>, AllocError>
         ensures { IsEntered self.old self.new (entry.Truncate number size) result }

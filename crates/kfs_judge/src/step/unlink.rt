@@ -18,11 +18,11 @@ use std::alloc::{AllocError, Allocator};
 
 /// Why the name `name` in `dir`, of a node of this kind, can't be removed; none if it can.
 #[tactic(auto, unfolding(kfs_model::specs::Check::checks_of))]
-fn unlink_fault<'e, A: Allocator + Copy>(
-    judge: &EntryJudge<'_, 'e, A>,
-    recorder: &mut Recorder<'_, 'e, A>,
+fn unlink_fault<'e, 's, A: Allocator + Copy>(
+    judge: &EntryJudge<'_, 'e, 's, A>,
+    recorder: &mut Recorder<'_, 'e, 's, A>,
     dir: u32,
-    name: &'e BorrowedName<'e>,
+    name: &'e BorrowedName<'s>,
     kind: Kind,
 ) -> Result<Option<Reason>, AllocError>
     ensures { AnswersEntry judge.now recorder.old recorder.new result (entry.Unlink dir name.now (kind_of kind)) }
@@ -43,9 +43,9 @@ fn unlink_fault<'e, A: Allocator + Copy>(
 }
 
 /// Why node `number`, which should be of this kind, can't lose a name in `dir`; none if it can.
-pub fn going_fault<'e, A: Allocator + Copy>(
-    judge: &EntryJudge<'_, 'e, A>,
-    recorder: &mut Recorder<'_, 'e, A>,
+pub fn going_fault<'e, 's, A: Allocator + Copy>(
+    judge: &EntryJudge<'_, 'e, 's, A>,
+    recorder: &mut Recorder<'_, 'e, 's, A>,
     kind: Kind,
     dir: u32,
     number: u32,
@@ -68,12 +68,12 @@ pub fn going_fault<'e, A: Allocator + Copy>(
     Ok(None)
 }
 
-impl<'e, A: Allocator + Copy> LogJudge<'_, 'e, A> {
+impl<'e, 's, A: Allocator + Copy> LogJudge<'_, 'e, 's, A> {
     /// Removes the name `name` from `dir`, or answers the reason why not.
     pub fn unlink(
         &mut self,
         dir: u32,
-        name: &'e BorrowedName<'e>,
+        name: &'e BorrowedName<'s>,
         kind: Kind,
     ) -> Result<Option<Reason>, AllocError>
         requires { HasRoom 3 self.old.draft }
@@ -94,7 +94,11 @@ impl<'e, A: Allocator + Copy> LogJudge<'_, 'e, A> {
     }
 
     /// Removes the name `key`, which leads to `there`. The node goes with its last name.
-    pub fn remove_name(&mut self, key: &NameKey<'e>, there: Option<u32>) -> Result<(), AllocError>
+    pub fn remove_name(
+        &mut self,
+        key: &NameKey<'e, 's>,
+        there: Option<u32>,
+    ) -> Result<(), AllocError>
         requires { HasRoom 1 self.old.draft }
         ensures goes { GoesOn self.old.recorder self.new.recorder }
         ensures client { self.new.client.now ≡ self.old.client.now }

@@ -18,9 +18,9 @@ use std::alloc::{AllocError, Allocator};
 
 /// Why `len` bytes can't be put into the file `number` from `offset` on; none if it can.
 #[tactic(auto, unfolding(kfs_model::specs::Check::checks_of))]
-fn write_fault<'e, A: Allocator + Copy>(
-    judge: &EntryJudge<'_, 'e, A>,
-    recorder: &mut Recorder<'_, 'e, A>,
+fn write_fault<'e, 's, A: Allocator + Copy>(
+    judge: &EntryJudge<'_, 'e, 's, A>,
+    recorder: &mut Recorder<'_, 'e, 's, A>,
     number: u32,
     offset: u64,
     len: usize,
@@ -39,9 +39,9 @@ fn write_fault<'e, A: Allocator + Copy>(
 
 /// Why no file can have `len` bytes from `offset` on; none if one can. A length of 0 fits at any
 /// offset.
-fn end_fault<'e, A: Allocator + Copy>(
-    judge: &EntryJudge<'_, 'e, A>,
-    recorder: &mut Recorder<'_, 'e, A>,
+fn end_fault<'e, 's, A: Allocator + Copy>(
+    judge: &EntryJudge<'_, 'e, 's, A>,
+    recorder: &mut Recorder<'_, 'e, 's, A>,
     offset: u64,
     len: usize,
 ) -> Result<Option<Reason>, AllocError>
@@ -55,7 +55,7 @@ fn end_fault<'e, A: Allocator + Copy>(
     Ok(None)
 }
 
-impl<A: Allocator + Copy> LogJudge<'_, '_, A> {
+impl<A: Allocator + Copy> LogJudge<'_, '_, '_, A> {
     /// Puts `len` bytes into the file `number` from `offset` on, or answers the reason why not. Their
     /// values don't matter here.
     pub fn write(

@@ -4,6 +4,7 @@ use Rattle.std.specs.Prelude.{OnOk, is_err}
 use Rattle.kfs_types.specs.Views.{entry_of, piece_of}
 use Rattle.kfs_types.specs.declared.entry.Log.{Log}
 use Rattle.kfs_types.specs.declared.plan.Plan.{Plan}
+use Rattle.kfs_image_nodes.specs.Lent.{net_in}
 use Rattle.kfs_desk.specs.declared.fill.bytes.LogBytes.{LogBytes}
 use Rattle.kfs_desk.specs.Fill.Bytes.{entries_in}
 use Rattle.kfs_desk.specs.Fill.FillOf.{HasLandedWith}
@@ -28,7 +29,7 @@ change_state-requires-clause-fits g c =
     let are = c.in-Ok.ensures.yes in
     let source = c.args.source.now in
     let image = c.args.image.now in
-    let can : CanLandYes image source are.log are.plan parts.net.now parts.need = subst (CanLand image source) are.is c.requires in
+    let can : CanLandYes image source are.log are.plan (net_in parts.net) parts.need = subst (CanLand image source) are.is c.requires in
     let room : parts.need ≤ free_in image = subst (λ n. parts.need ≤ n) (c.from.ensures ∙ c.free-free.ensures) c.if-from-need.false in
     let bytes : LogBytes = record { source = c.args.source; entries = parts.entries; pieces = parts.pieces } in
     can.fits room bytes (are_of source are.log are.plan bytes refl are.entries are.pieces)
@@ -41,6 +42,6 @@ returns-clause-answer g c =
     let image = c.args.image.now in
     let room : parts.need ≤ free_in image = subst (λ n. parts.need ≤ n) (c.from.ensures ∙ c.free-free.ensures) c.if-from-need.false in
     let bytes : LogBytes = record { source = c.args.source; entries = parts.entries; pieces = parts.pieces } in
-    let landed : HasLandedWith image bytes parts.net.now c.change_state.new.image = c.in_ok-change_state.ensures.image in
+    let landed : HasLandedWith image bytes (net_in parts.net) c.change_state.new.image = c.in_ok-change_state.ensures.image in
     subst (λ outcome. AnswersOutcome image source c.args.position c.args.rejudged outcome (replies.Yes c.args.position c.args.rejudged parts.need) c.change_state.new.image) (sym are.is)
     (refl, room, record { bytes = bytes; are = are_of source are.log are.plan bytes refl are.entries are.pieces; landed = landed })

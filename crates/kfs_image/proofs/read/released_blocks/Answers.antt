@@ -1,5 +1,5 @@
-use Rattle.std.proofs.Common.{◌++◌, map, sym, ap, subst, ◌∙◌}
-use Rattle.kfs_image.specs.Released.{AreReleased, behind}
+use Rattle.std.proofs.Common.{◌++◌, sym, ap, subst, ◌∙◌}
+use Rattle.kfs_image.specs.Released.{AreReleased}
 use Rattle.kfs_image.proofs.ReleasedBlocks.{released_are}
 use Rattle.kfs_image.proofs.read.released_blocks.Goals as goal
 

@@ -8,6 +8,6 @@ use Rattle.kfs_image_nodes.proofs.sorted_rows.uplink_counts.Goals as goal
 pub returns-clause-said : goal.returns-clause-said
 returns-clause-said g c =
     let edits = c.in_ok-edits.edits.items in
-    let moved : IsPermutation c.in_ok-uplinks.uplinks.items c.sort_unstable.new.self.items = c.sort_unstable.ensures.permutation in
+    let moved : IsPermutation c.args.uplinks.items c.sort_unstable.new.self.items = c.sort_unstable.ensures.permutation in
     let said : SayHowOften by_node c.sort_unstable.new.self.items edits = subst (λ (keys : List (ℕ × ℕ)). SayHowOften by_node keys edits) c.as_slice.ensures.value c.in_ok-edits.ensures.said in
-    subst (λ (keys : List (ℕ × ℕ)). SayHowOften by_node keys edits) c.in_ok-uplinks.ensures (said_of by_node _ _ edits moved said)
+    said_of by_node _ _ edits moved said

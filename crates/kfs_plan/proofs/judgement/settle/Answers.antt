@@ -1,5 +1,5 @@
 -- What the plan's check told is what the finding says.
-use Rattle.std.proofs.Common.{rules, Ok, Err, refl, sym, subst}
+use Rattle.std.proofs.Common.{rules, refl, sym, subst}
 use Rattle.kfs_plan.specs.declared.submission.Fault.TheVariants as faults
 use Rattle.kfs_plan.specs.declared.submission.Outcome.TheVariants as outcomes
 use Rattle.kfs_plan.specs.Judging.{OutcomeIsSettled}

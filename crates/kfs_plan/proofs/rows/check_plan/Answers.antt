@@ -36,7 +36,7 @@ returns g c client walk source within tree held fits agrees =
     let net = c.unwrap-net.result.now in
     let is : c.args.walk.now.outcome ≡ Ok net = sym c.as_ref.ensures.value ∙ ap result_copied c.unwrap-net.ensures in
     let comes = subst (λ outcome. ComesToTree client held tree entries outcome sizes) is (walk source within tree held fits agrees) in
-    let lent = subst (λ all. TellsOfEachRun all c.in_ok-lent_log.lent_log net c.in_ok-lent_plan.lent_plan c.check_rows.result) c.as_slice.ensures.value c.check_rows.ensures in
+    let lent = subst (λ all. TellsOfEachRun all c.in_ok-lent_log.lent_log net c.in_ok-lent_plan.lent_plan c.check_rows.result) c.as_slice-sizes.ensures.value c.check_rows.ensures in
     let told = subst (λ plan. TellsOfEachRun sizes c.args.log.now net plan c.check_rows.result) c.in_ok-lent_plan.ensures
     (subst (λ log. TellsOfEachRun sizes log net c.in_ok-lent_plan.lent_plan c.check_rows.result) c.in_ok-lent_log.ensures lent) in
     told_at_end client held tree entries sizes net comes c.args.plan.now c.check_rows.result (told source within client (client_sight tree held) tree refl)

@@ -5,7 +5,7 @@ use Rattle.kfs_model.specs.Table.{pairs, numbers, get}
 use Rattle.kfs_model.specs.Placement.{Placement}
 use Rattle.kfs_maps.specs.Chunks.Tables.{table, table_after}
 use Rattle.kfs_maps.proofs.ChunksLemmas.Overlays.{overlaid_none}
-use Rattle.kfs_image.specs.Blocks.Fill.{less, mapped_by, placement_after, row_edit}
+use Rattle.kfs_image.specs.Blocks.Fill.{less, mapped_by, row_edit}
 use Rattle.kfs_image.specs.Blocks.Walks.{placed, seen}
 use Rattle.kfs_image.proofs.BlocksLemmas.FilledBlocks.{edits_map, less_run, less_all, still_unmapped}
 use Rattle.kfs_image.proofs.blocks.fill.fill_edits.Goals as goal

@@ -1,8 +1,6 @@
-use Rattle.std.proofs.Common.{◌≡◌, ℕ, ◌++◌, map, sym, ap, subst}
+use Rattle.std.proofs.Common.{◌≡◌, ◌++◌, map, sym, ap, subst}
 use Rattle.std.specs.declared.cmp.Ordering.TheVariants.{Less}
 use Rattle.kfs_model.specs.Table.{pairs, numbers}
-use Rattle.kfs_model.specs.Placement.{Place}
-use Rattle.kfs_maps.specs.declared.chunks.entries.KeyEdit.{KeyEdit}
 use Rattle.kfs_maps.specs.Chunks.Edits.{KeysAscend}
 use Rattle.kfs_maps.proofs.ChunksLemmas.InOrder.{none_ascends, one_made, all_made}
 use Rattle.kfs_image.proofs.TierLemmas.TierLists.{rest_at}

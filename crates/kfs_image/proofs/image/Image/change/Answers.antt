@@ -1,6 +1,7 @@
 use Rattle.std.proofs.Common.{◌≡◌, subst, sym, ◌∙◌}
 use Rattle.std.specs.Prelude.{OnOk}
 use Rattle.kfs_model.specs.Device.ShownTree.{DeviceImage, IsLawful}
+use Rattle.kfs_image_nodes.specs.Lent.{rows_in}
 use Rattle.kfs_image.specs.Blocks.Blocks.{CanChange}
 use Rattle.kfs_image.specs.Image.{blocks_of}
 use Rattle.kfs_image.proofs.ChangedImages.{AreOf, can_fill, applied_is}
@@ -19,10 +20,10 @@ pub change_all-requires-clause-lawful : goal.change_all-requires-clause-lawful
 change_all-requires-clause-lawful g c =
     let of : AreOf c.args.net.now c.args.fill.now c.in_ok-nodes.nodes c.as_slice-2.result.now c.in_ok-released.released.items c.as_slice-3.result.now c.as_slice-4.result.now =
     record { nodes_are = c.in_ok-nodes.ensures ∙ c.as_slice.ensures.value; zero_are = c.as_slice-2.ensures.value; released_are = c.as_slice-3.ensures.value; rows_are = c.as_slice-4.ensures.value; found_are = c.in_ok-released.ensures } in
-    subst IsLawful (sym (applied_is of c.self.inside.shape.value c.self.inside.blocks c.self.invariant c.as_slice-5.result.now c.in_ok-nodes.nodes c.as_slice-5.ensures.value (c.in_ok-nodes.ensures ∙ c.as_slice.ensures.value) c.in_ok-edits.edits c.in_ok-edits.ensures.fill c.args.self.now c.self.view_is)) c.requires.lawful
+    subst IsLawful (sym (applied_is of c.self.inside.shape.value c.self.inside.blocks c.self.invariant (rows_in c.names.result) c.in_ok-nodes.nodes c.names.ensures (c.in_ok-nodes.ensures ∙ c.as_slice.ensures.value) c.in_ok-edits.edits c.in_ok-edits.ensures.fill c.args.self.now c.self.view_is)) c.requires.lawful
 
 pub returns-clause-ok : goal.returns-clause-ok
 returns-clause-ok g c =
     let of : AreOf c.args.net.now c.args.fill.now c.in_ok-nodes.nodes c.as_slice-2.result.now c.in_ok-released.released.items c.as_slice-3.result.now c.as_slice-4.result.now =
     record { nodes_are = c.in_ok-nodes.ensures ∙ c.as_slice.ensures.value; zero_are = c.as_slice-2.ensures.value; released_are = c.as_slice-3.ensures.value; rows_are = c.as_slice-4.ensures.value; found_are = c.in_ok-released.ensures } in
-    subst (λ (after : DeviceImage). OnOk c.change_all.result (c.change_all.new.self ≡ after)) (applied_is of c.self.inside.shape.value c.self.inside.blocks c.self.invariant c.as_slice-5.result.now c.in_ok-nodes.nodes c.as_slice-5.ensures.value (c.in_ok-nodes.ensures ∙ c.as_slice.ensures.value) c.in_ok-edits.edits c.in_ok-edits.ensures.fill c.args.self.now c.self.view_is) c.change_all.ensures.ok
+    subst (λ (after : DeviceImage). OnOk c.change_all.result (c.change_all.new.self ≡ after)) (applied_is of c.self.inside.shape.value c.self.inside.blocks c.self.invariant (rows_in c.names.result) c.in_ok-nodes.nodes c.names.ensures (c.in_ok-nodes.ensures ∙ c.as_slice.ensures.value) c.in_ok-edits.edits c.in_ok-edits.ensures.fill c.args.self.now c.self.view_is) c.change_all.ensures.ok

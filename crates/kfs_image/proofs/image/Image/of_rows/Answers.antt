@@ -11,7 +11,7 @@ pub invariant_of-result : goal.invariant_of-result
 invariant_of-result g c =
     let raw = raw_of c.args.raw.now in
     let contents = c.in_ok-shape-2.ensures.ok ∙ c.in_ok-shape.ensures in
-    subst IsLawful (λ i. image_with (sym contents i) (sym c.in_ok-blocks.ensures i)) (c.well_formed_image_is_lawful.ensures raw c.tell_spelled.ensures c.requires)
+    subst IsLawful (λ i. image_with (sym contents i) (sym c.in_ok-blocks.ensures i)) (c.well_formed_image_is_lawful.ensures raw c.tell_spelled.ensures c.requires.well_formed)
 
 pub returns : goal.returns
 returns g c =

@@ -1,4 +1,4 @@
-use Rattle.std.proofs.Common.{◌++◌, map, get_or, sym, ap, subst}
+use Rattle.std.proofs.Common.{◌++◌, map, sym, ap, subst}
 use Rattle.std.specs.List.{flat_map}
 use Rattle.kfs_model.specs.Device.RawImage.{places_in, blocks_in}
 use Rattle.kfs_image.specs.Codec.RawImages.{extent_row_of}

@@ -1,4 +1,4 @@
-use Rattle.std.proofs.Common.{◌≡◌, map, sym, ap, subst, ◌∙◌}
+use Rattle.std.proofs.Common.{map, sym, ap, subst, ◌∙◌}
 use Rattle.kfs_maps.specs.Pages.Edits.{rewritten, AreEdits}
 use Rattle.kfs_image_nodes.specs.Rows.{heads_of}
 use Rattle.kfs_image.specs.Raw.Rows.{header_edit}

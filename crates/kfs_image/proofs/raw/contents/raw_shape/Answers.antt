@@ -5,11 +5,8 @@ use Rattle.kfs_model.specs.Tree.{name_order}
 use Rattle.kfs_maps.specs.Chunks.Tables.{table}
 use Rattle.kfs_image_nodes.specs.NodeEdits.{IsNumber}
 use Rattle.kfs_image_nodes.specs.SortedRows.{name_entries}
-use Rattle.kfs_image.proofs.RawLemmas.RawRows.{in_range, directories_numbered, names_sorted, names_made, names_are_names}
+use Rattle.kfs_image.proofs.RawLemmas.RawRows.{directories_numbered, names_sorted, names_made, names_are_names}
 use Rattle.kfs_image.proofs.raw.contents.raw_shape.Goals as goal
-
-pub raw_headers-requires : goal.raw_headers-requires
-raw_headers-requires g c = in_range c.args.raw.now c.requires.well_formed
 
 pub of_rows-requires-clause-sorted : goal.of_rows-requires-clause-sorted
 of_rows-requires-clause-sorted g c = subst (λ rows. T (is_sorted name_order.compare (name_entries rows))) (sym c.as_slice.ensures.value) (names_sorted c.args.raw.now c.requires.well_formed)
@@ -24,6 +21,6 @@ pub returns : goal.returns
 returns g c =
     c.in_ok-shape.ensures
     ∙ (λ i. record {
-      heads = c.in_ok-headers.ensures i;
+      heads = c.requires.headers i;
       names = (ap (λ rows. table name_order (name_entries rows)) c.as_slice.ensures.value ∙ names_made c.args.raw.now c.requires.well_formed) i;
     })

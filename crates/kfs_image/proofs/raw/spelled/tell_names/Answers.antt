@@ -1,4 +1,4 @@
-use Rattle.std.proofs.Common.{All, subst, sym, ap, arith}
+use Rattle.std.proofs.Common.{All, subst}
 use Rattle.std.proofs.lemmas.List.{take_all}
 use Rattle.std.proofs.lemmas.List.Elements.{All-nil, All-more}
 use Rattle.kfs_model.specs.Spelling.{IsName}

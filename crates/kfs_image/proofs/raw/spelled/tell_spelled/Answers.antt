@@ -1,5 +1,4 @@
-use Rattle.std.proofs.Common.{◌≤◌, ◌<◌, ◌^◌, All, map, List, [], ◌∷◌, subst, sym, ◌∙◌}
-use Rattle.std.specs.List.{AllByRecursion}
+use Rattle.std.proofs.Common.{◌≤◌, ◌<◌, ◌^◌, All, map, subst}
 use Rattle.std.proofs.lemmas.List.Elements.{recursion_from_All, All-map}
 use Rattle.kfs_model.specs.Limits.{tier_limit}
 use Rattle.kfs_model.specs.PlanRow.{NameRow}

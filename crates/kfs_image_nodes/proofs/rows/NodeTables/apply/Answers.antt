@@ -5,6 +5,7 @@ use Rattle.kfs_maps.specs.Pages.Edits.{rewritten}
 use Rattle.kfs_maps.specs.Chunks.Edits as keyed
 use Rattle.kfs_maps.specs.Chunks.Tables.{table}
 use Rattle.kfs_image_nodes.specs.Change.{renamed, reheaded}
+use Rattle.kfs_image_nodes.specs.Lent.{rows_in}
 use Rattle.kfs_image_nodes.specs.Indexes.{by_node, AreInPages}
 use Rattle.kfs_image_nodes.specs.Rows.{heads_of, heads_in, names_in, CountsAreExact}
 use Rattle.kfs_image_nodes.proofs.EditedRows.{edited_indexed}
@@ -40,7 +41,7 @@ pub returns-clause-names : goal.returns-clause-names
 returns-clause-names g c =
     let old = c.args.self.now in
     let new = c.change.new.self in
-    elim c.change.result as (λ r. OnOk r (new.names ≡ keyed.rewritten name_order old.names c.in_ok-edits.edits.names.items) → OnOk r (names_in new ≡ renamed (names_in old) c.args.names.now)) [
+    elim c.change.result as (λ r. OnOk r (new.names ≡ keyed.rewritten name_order old.names c.in_ok-edits.edits.names.items) → OnOk r (names_in new ≡ renamed (names_in old) (rows_in c.args.names))) [
       | Ok done ↦ λ edited. ap (table name_order) edited ∙ c.in_ok-edits.ensures.make
       | Err e ↦ λ none. none
     ] c.change.ensures.names

@@ -2,7 +2,6 @@ use Rattle.std.proofs.Common.{◌≡◌, ℕ, true, None, sym, ap, subst, ◌∙
 use Rattle.std.specs.Prelude.{IfNone, is_some}
 use Rattle.kfs_model.specs.Table.{numbers, pairs, get}
 use Rattle.kfs_maps.specs.Chunks.Starts.{is_from, IsNextEntry}
-use Rattle.kfs_maps.specs.Chunks.Tables.{table}
 use Rattle.kfs_maps.proofs.ChunksLemmas.Tables.{get-table}
 use Rattle.kfs_image.specs.Blocks.Blocks.{BlocksShown}
 use Rattle.kfs_image.proofs.blocks.blocks.FileBlocks.next_block.Goals as goal
