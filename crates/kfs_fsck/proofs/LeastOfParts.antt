@@ -1,20 +1,16 @@
 -- The least failed test of a list is the least of those of its parts.
-use Rattle.std.proofs.Common.{◌≡◌, ℕ, ◌<◌, Bool, true, false, cond, Bor, List, [], ◌∷◌, ◌++◌, map, fold, map-id, Option, Some, None, refl, sym, ap, ◌∙◌, arith}
+use Rattle.std.proofs.Common.{◌≡◌, ℕ, Bool, true, false, cond, Bor, List, [], ◌∷◌, ◌++◌, map, fold, map-id, Option, Some, None, refl, sym, ap, ◌∙◌, arith}
 use Rattle.std.specs.Prelude.{⊤}
-use Rattle.std.specs.List.{AllZip, flat_map}
-use Rattle.std.proofs.lemmas.List.{map-append}
-use Rattle.rayon.specs.Lists.{Reduces, chunks_of, windows_of}
+use Rattle.std.specs.List.{AllZip}
+use Rattle.rayon.specs.Lists.{Reduces, windows_of}
 use Rattle.rayon.proofs.Chunks.{windows-head}
 use Rattle.rayon.proofs.Reducing.{Reduces-fold}
-use Rattle.rayon.proofs.ToStd.{slice-map, chunks_of-concat}
+use Rattle.rayon.proofs.ToStd.{slice-map}
 use Rattle.kfs_types.specs.declared.plan.NameRow.{NameRow as CodeNameRow}
 use Rattle.kfs_types.specs.Views.{name_row_of}
 use Rattle.kfs_model.specs.PlanRow.{NameRow}
-use Rattle.kfs_model.specs.Device.RawImage.{RawNode}
 use Rattle.kfs_model.specs.Device.Rules.{Test, with_previous}
 use Rattle.kfs_model.specs.Device.Finding.{least_of, least_failed}
-use Rattle.kfs_image.specs.declared.codec.raw.RawNode.{RawNode as CodeRawNode}
-use Rattle.kfs_image.specs.Codec.RawImages.{raw_node_of}
 use Rattle.kfs_shape.specs.Least.{merged}
 use Rattle.kfs_shape.specs.Names.{order_test, least_unordered}
 use Rattle.kfs_shape.proofs.NameTests.{nested, merged_assoc}
@@ -41,32 +37,6 @@ folded found result reduced =
     (record { gives = λ e is. is; within = tt; right_unit = λ a p. merged_none a })
     found result (λ k d below. tt) reduced
     ∙ ap (fold merged None) (map-id found)
-
-module _ (tested : RawNode → Test) where
-  abbrev pub least_in : List CodeRawNode → Option ℕ
-  least_in rows = least_failed (map tested (map raw_node_of rows))
-
-  least_in-append : (front back : List CodeRawNode) → least_in (front ++ back) ≡ merged (least_in front) (least_in back)
-  least_in-append front back =
-      ap (λ rows. least_failed (map tested rows)) (map-append raw_node_of front back)
-      ∙ ap least_failed (map-append tested (map raw_node_of front) (map raw_node_of back))
-      ∙ least_of_both (map tested (map raw_node_of front)) (map tested (map raw_node_of back))
-
-  fold_parts : (start : Option ℕ) (parts : List (List CodeRawNode)) → fold merged start (map least_in parts) ≡ merged start (least_in (flat_map (λ l. l) parts))
-  fold_parts start [] = sym (merged_none start)
-  fold_parts start (part ∷ parts) =
-      fold_parts (merged start (least_in part)) parts
-      ∙ merged_assoc start (least_in part) (least_in (flat_map (λ l. l) parts))
-      ∙ ap (merged start) (sym (least_in-append part (flat_map (λ l. l) parts)))
-
-  -- the least of the parts' least numbers
-  pub of_parts : (rows : List CodeRawNode) (size : ℕ) → 0 < size → (parts : List (Bor (List CodeRawNode))) → map (λ (part : Bor (List CodeRawNode)). part.now) parts ≡ chunks_of size rows
-      → (found : List (Option ℕ)) → AllZip (λ (part : Bor (List CodeRawNode)) least. least ≡ least_in part.now) parts found
-      → fold merged None found ≡ least_in rows
-  of_parts rows size some parts are found each =
-      ap (fold merged None) (slice-map parts (chunks_of size rows) are least_in found each)
-      ∙ fold_parts None (chunks_of size rows)
-      ∙ ap least_in (chunks_of-concat size rows some)
 
 -- ---- pairs of neighbours
 

@@ -15,8 +15,8 @@ use std::alloc::Allocator;
 use std::thread::Threads;
 
 /// Lets a raw image in: the image of its rows, if they break none of the ten rules of
-/// crates/kfs_model/specs/Device/Rules.antt. What is found is what `check_shape` finds. The rules of
-/// single nodes are tested in several threads.
+/// crates/kfs_model/specs/Device/Rules.antt. What is found is what `check_shape` finds. The order of
+/// names is tested in several threads.
 ///
 /// Refused with `Found`, the least rule that is broken and the least number at which it is, or with
 /// `OutOfMemory` where memory runs out; then the raw image comes back as it was.

@@ -1,5 +1,5 @@
-//! The checker that accepts images: it tests the ten rules of a raw image, the rules of single nodes in
-//! several threads, and makes the image of one that breaks none.
+//! The checker that accepts images: it tests the ten rules of a raw image, the order of names in several
+//! threads, and makes the image of one that breaks none.
 //!
 //! It stands on `kfs_shape` (the tests) and `kfs_image`; `kfs_kept` stands on it. Begin with `fsck`.
 #![tactic(auto)]

@@ -1,11 +1,9 @@
-//! Tests of node rows, and of the order of name rows, in parts: each in a thread of its own where there are
-//! several. The least number of all rows is the least of those of the parts.
+//! The order of name rows, tested in several threads: a part is a row and the one before it. The least number of
+//! all rows is the least of those of the parts. Node rows are tested one after another, since threads take longer
+//! for them (docs/DECISIONS.md).
 ghost use Rattle.std.specs.Prelude.{◌≡◌, ℕ, ⊤, List, None, Option, fold, map};
-ghost use Rattle.kfs_model.specs.Device.Finding.{least_failed};
-ghost use Rattle.kfs_image.specs.Codec.RawImages.{raw_node_of};
 ghost use Rattle.kfs_shape.specs.Least.{merged};
 ghost use Rattle.kfs_shape.specs.Names.{least_unordered};
-ghost use Rattle.kfs_shape.specs.NodeTests.{test_of};
 ghost use Rattle.kfs_types.specs.Views.{name_row_of};
 
 use kfs_image::RawNode;
@@ -13,10 +11,7 @@ use kfs_shape::{AskRows, NameRow, NodeTest, least_unordered, lesser};
 use rayon::prelude::*;
 use std::thread::Threads;
 
-/// How many node rows are tested together.
-const PART: usize = 1_024;
-
-/// Asks parts of the rows in several threads.
+/// Tests the order of name rows in several threads, and node rows one after another.
 #[derive(Drop)]
 pub struct InParts<'a, R: Threads + Sync> {
     /// The leave to start threads.
@@ -30,26 +25,12 @@ impl<'a, R: Threads + Sync> AskRows for InParts<'a, R> {
     ghost can_ask = { λ parts. IsSync R.row };
 
     fn least_failed(&self, test: NodeTest, rows: &[RawNode]) -> Option<u32> {
-        least_of_parts(self.threads, test, rows)
+        test.least_failed(rows)
     }
 
     fn least_unordered(&self, rows: &[NameRow]) -> Option<u32> {
         least_of_pairs(self.threads, rows)
     }
-}
-
-/// The least number of a row that fails the test.
-fn least_of_parts(rt: &(impl Threads + Sync), test: NodeTest, rows: &[RawNode]) -> Option<u32>
-    ensures { result ≡ least_failed (map (test_of test.entry) (map raw_node_of rows.now)) }
-{
-    least_of(
-        rt,
-        rows.par_chunks(PART).map(
-            |part: &[RawNode]| -> Option<u32>
-                ensures { result ≡ least_failed (map (test_of test.entry) (map raw_node_of part.now)) }
-            { test.least_failed(part) },
-        ),
-    )
 }
 
 /// The least directory number of a name row that isn't above the row before.

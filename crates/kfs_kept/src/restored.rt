@@ -1,4 +1,4 @@
-//! A desk from the bytes of a state, with the rules of single nodes tested in several threads.
+//! A desk from the bytes of a state, with the order of names tested in several threads.
 //!
 //! `kfs_call_desk` has what one thread does, so that what mustn't start threads can stand on that alone, as `kfs_c` does.
 //! `laws` has what holds of states that are saved and restored: it stands on the lemmas of `kfs_fsck` on saved images.

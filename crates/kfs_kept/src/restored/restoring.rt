@@ -14,8 +14,8 @@ use std::thread::Threads;
 /// A desk that goes on where another stood: its state is that of the bytes. The docket is empty, and will have at most
 /// `limit` rows.
 ///
-/// What is let in, and what is refused with which fault, is as for `restore_alone` of `kfs_call_desk`. The rules of
-/// single nodes of the image are tested in several threads, as `fsck` tests them.
+/// What is let in, and what is refused with which fault, is as for `restore_alone` of `kfs_call_desk`. The order of
+/// the image's names is tested in several threads, as `fsck` tests it.
 pub fn restore<A: Allocator + Copy>(
     rt: &(impl Threads + Sync),
     alloc: A,

@@ -1,4 +1,4 @@
-//! Images with so many nodes that their rules are tested in several threads.
+//! Images with as many nodes as there can be. The order of their names is tested in several threads.
 
 use kfs_fsck::{FsckFault, RawImage, fsck};
 use kfs_test_support::images::many::{GREATEST, chain};
@@ -44,6 +44,19 @@ fn found_with_modes<A: Allocator + Copy>(
     found_in(rt, alloc, raw)
 }
 
+/// The finding in the deepest chain, where the name rows with these indices have these directories.
+fn found_with_directories<A: Allocator + Copy>(
+    rt: &(impl Threads + Sync),
+    alloc: A,
+    moved: [(usize, u32); 2],
+) -> Option<Option<(u8, u32)>> {
+    let mut raw = chain(alloc, 1, None)?;
+    for (index, dir) in moved {
+        raw.names.get_mut(index)?.dir = dir;
+    }
+    found_in(rt, alloc, raw)
+}
+
 /// The finding in the deepest chain without the name of its last directory.
 fn found_without_a_name<A: Allocator + Copy>(
     rt: &(impl Threads + Sync),
@@ -65,10 +78,18 @@ fn a_circle_of_all_others_is_found_at_its_least(rt: HostRuntime) {
 }
 
 #[test]
-fn the_least_of_two_parts_is_found(rt: HostRuntime) {
+fn the_least_of_two_nodes_is_found(rt: HostRuntime) {
     for numbers in [[60_000, 2_000], [2_000, 60_000], [2_000, 2_001]] {
         let finding = found_with_modes(&rt, rt.alloc(), numbers);
         assert!(&rt; finding == Some(Some((3, 2_000))));
+    }
+}
+
+#[test]
+fn the_least_of_two_rows_out_of_order_is_found(rt: HostRuntime) {
+    for moved in [[(60_000, 500), (2_000, 900)], [(2_000, 500), (60_000, 900)]] {
+        let finding = found_with_directories(&rt, rt.alloc(), moved);
+        assert!(&rt; finding == Some(Some((4, 500))));
     }
 }
 

@@ -1,4 +1,0 @@
-use Rattle.kfs_fsck.proofs.parts.InPartsAskRows.least_failed.Goals as goal
-
-pub least_of_parts-requires-sync-typeof-rt : goal.least_of_parts-requires-sync-typeof-rt
-least_of_parts-requires-sync-typeof-rt g c κs within = c.requires
