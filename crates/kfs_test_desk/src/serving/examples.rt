@@ -40,7 +40,7 @@ fn walk(
 }
 
 /// How many names and headers differ after the log.
-fn differing(net: &Net<Global>) -> (usize, usize) {
+fn differing<N>(net: &Net<Global, N>) -> (usize, usize) {
     (net.names.len(), net.nodes.len())
 }
 
