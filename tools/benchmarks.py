@@ -1,4 +1,5 @@
 """What the benchmarks share: a program over the public calls, built over copies of what it stands on, its runs, and logs."""
+import concurrent.futures
 import os
 import re
 import shutil
@@ -149,6 +150,21 @@ def run(words, folder):
     """Returns the times that the program prints, a list for each line, in microseconds."""
     ran = subprocess.run(words, cwd=folder, stdin=subprocess.DEVNULL, stdout=subprocess.PIPE, text=True, check=True)
     return [[int(word) / 1000 for word in line.split()] for line in ran.stdout.splitlines()]
+
+
+def run_apart(words, folder, count):
+    """Runs the program so many times at once. Returns what `run` does of each.
+
+    What they take over all is what the machine gives to as many threads that share nothing. It is often far from a part of
+    what one takes alone: two virtual cores may be one core's two threads.
+    """
+    with concurrent.futures.ThreadPoolExecutor(count) as threads:
+        return list(threads.map(lambda _: run(words, folder), range(count)))
+
+
+def over_all(times):
+    """Returns the time of one piece of work over all processes that run at once, of the time that each takes for it."""
+    return 1 / sum(1 / time for time in times)
 
 
 def peak(words, folder, seconds=1):
