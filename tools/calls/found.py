@@ -35,6 +35,15 @@ def close(words, at):
     return at
 
 
+def around(words, at):
+    """Returns the bracket in which a word stands."""
+    depth = 0
+    while at > 0 and depth >= 0:
+        at -= 1
+        depth += (words[at] in CLOSERS) - (words[at] in OPENERS)
+    return words[at]
+
+
 class Calls:
     """Finds the calls of functions."""
 
@@ -64,7 +73,7 @@ class Calls:
                 continue
             elif self.is_called(words, at):
                 yield from self.called(function, words, at, local)
-            elif before in ("(", ",") and after in (")", ",") and word not in local.names:
+            elif before in ("(", ",") and after in (")", ",") and word not in local.names and around(words, at) == "(":
                 yield from self.free(function, word, None)
             elif before == "::" and after in (")", ","):
                 yield from self.path(function, words, at, None)
@@ -134,12 +143,18 @@ class Calls:
             if head in function.bounds:
                 yield from self.given(function, head, name)
                 return
-            own = [it for it in found if it.owner == head]
+            own = [it for it in found if it.owner == head and self.may_be(it.of, inner)]
             if own or head not in HOLDERS or not inner:
                 yield from (Call(it, NAMED) for it in own)
                 return
             kind = inner[0]
         yield from (Call(it, NAMED) for it in found if it.crate == function.crate)
+
+
+    def may_be(self, of, inner):
+        """Whether a type's parameters may be those of an impl: not where two of them are different types of the crates."""
+        pairs = [(head_of(list(one))[0], head_of(list(other))[0]) for one, other in zip(of, inner)]
+        return all(one == other or not {one, other} <= self.types for one, other in pairs)
 
 
 # What methods of the library answer: an element of a list, the list again, or what is held, within an option or as it is.
@@ -223,6 +238,10 @@ class Locals:
             parts = self.calls.source.variants[pattern[0], pattern[2]]
             for part, inner in zip(split(pattern[4:-1]), parts):
                 self.matched(list(part), inner)
+        elif len(pattern) > 3 and pattern[1] == "::" and pattern[3] == "{" and (pattern[0], pattern[2]) in self.calls.source.named:
+            fields = self.calls.source.named[pattern[0], pattern[2]]
+            for part in split(pattern[4:-1]):
+                self.matched(list(part[2:] or part), fields.get(part[0]))
         elif pattern[:1] == ["("] and kind and kind[:1] == ("(",):
             for part, inner in zip(split(pattern[1:-1]), split(kind[1:-1])):
                 self.matched(list(part), inner)

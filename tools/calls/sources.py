@@ -16,14 +16,15 @@ HOLDERS = {"Arc", "Box"}
 
 @dataclass(frozen=True, eq=False)
 class Function:
-    """A function with a body. `owner` is the type of its impl or the trait that gives the body, `trait` the trait that is
-    implemented; `bounds` are the traits that its type parameters have."""
+    """A function with a body. `owner` is the type of its impl or the trait that gives the body, `of` what stands between that
+    type's angle brackets, and `trait` the trait that is implemented; `bounds` are the traits that its type parameters have."""
 
     crate: str
     file: str
     line: int
     module: str
     owner: str
+    of: tuple
     trait: str
     name: str
     parameters: tuple
@@ -111,13 +112,13 @@ class Source:
     """All functions of the crates, the fields of their structs, and the types that each type holds by value."""
 
     def __init__(self, crates):
-        self.functions, self.fields, self.variants, self.holds = [], {}, {}, {}
+        self.functions, self.fields, self.variants, self.named, self.holds = [], {}, {}, {}, {}
         self.traits, self.macros, self.uses = {}, {}, {}
         for crate in crates:
             for file in sorted(glob.glob(f"{TOP}/crates/{crate}/src/**/*.rt", recursive=True)):
                 with open(file, encoding="utf-8") as it:
                     tokens = tokens_of(it.read())
-                Reader(self, crate, os.path.relpath(file, TOP), tokens).items(0, len(tokens), "", "", {})
+                Reader(self, crate, os.path.relpath(file, TOP), tokens).items(0, len(tokens), "", (), "", {})
 
 
 class Reader:
@@ -137,7 +138,7 @@ class Reader:
     def words(self, first, end):
         return [token for token, _ in self.tokens[first:end]]
 
-    def items(self, at, end, owner, trait, bounds):
+    def items(self, at, end, owner, of, trait, bounds):
         cycle = ""
         while at < end:
             word = self.word(at)
@@ -145,7 +146,7 @@ class Reader:
                 cycle = self.word(at + 4)
                 at = closing(self.tokens, at + 1) + 1
             elif word == "fn":
-                at = self.function(at, owner, trait, bounds, cycle)
+                at = self.function(at, owner, of, trait, bounds, cycle)
                 cycle = ""
             elif word in ("impl", "trait") and not owner:
                 at = self.block(at)
@@ -191,18 +192,18 @@ class Reader:
         for name, traits in bounds_of(words[where + 1 :]).items():
             bounds.setdefault(name, set()).update(traits)
         if is_trait:
-            owner, trait = self.word(first), self.word(first)
+            owner, of, trait = self.word(first), (), self.word(first)
             bounds.setdefault("Self", set()).add(trait)
             self.source.traits[owner] = self.crate
         else:
             named = words[:where]
             middle = named.index("for") if "for" in named else -1
-            owner, _ = head_of(named[middle + 1 :])
+            owner, of = head_of(named[middle + 1 :])
             trait = head_of(named[:middle])[0] if middle > 0 else ""
         if self.word(opening) != "{":
             return opening + 1
         end = closing(self.tokens, opening)
-        self.items(opening + 1, end, owner, trait, bounds)
+        self.items(opening + 1, end, owner, of, trait, bounds)
         return end + 1
 
     def type(self, at):
@@ -218,6 +219,9 @@ class Reader:
             for part in split(words):
                 if len(part) > 2 and part[1] == "(":
                     self.source.variants[name, part[0]] = split(part[2:-1])
+                elif len(part) > 2 and part[1] == "{":
+                    fields = [it for it in split(part[2:-1]) if it[1:2] == (":",)]
+                    self.source.named[name, part[0]] = {it[0]: it[2:] for it in fields}
         if self.word(at) == "struct":
             fields = self.source.fields.setdefault(name, {})
             for part in split(words):
@@ -227,7 +231,7 @@ class Reader:
                     fields[part[0]] = tuple(part[2:])
         return end + 1
 
-    def function(self, at, owner, trait, outer, cycle):
+    def function(self, at, owner, of, trait, outer, cycle):
         """Reads a function. Clauses stand in braces behind `requires` and `ensures`; the body is the brace that is left."""
         line, name = self.tokens[at][1], self.word(at + 1)
         opening = angles(self.tokens, at + 2)
@@ -254,7 +258,7 @@ class Reader:
         end = closing(self.tokens, at)
         body = tuple(self.words(at + 1, end))
         place = (self.crate, self.file, line, self.module(at))
-        self.source.functions.append(Function(*place, owner, trait, name, parameters, tuple(result[1:where]), bounds, body, cycle))
+        self.source.functions.append(Function(*place, owner, of, trait, name, parameters, tuple(result[1:where]), bounds, body, cycle))
         return end + 1
 
 
