@@ -1,8 +1,6 @@
 //! Opening and closing.
 ghost use Rattle.std.specs.Prelude.{◌≡◌, ◌≤◌, ◌⊎◌, ◌++◌, ◌∷◌, [], All, None, IfErr, IfOk, OnOk, Ok, Some, map};
 ghost use Rattle.kfs_image.specs.Codec.RawImages.{raw_of};
-ghost use Rattle.kfs_model.specs.Device.RawImage.{image_of};
-ghost use Rattle.kfs_model.specs.Device.Finding.{IsWellFormed};
 ghost use Rattle.kfs_model.specs.Device.Spelling.{ImageAnswer};
 ghost use Rattle.kfs_desk.specs.Opening.{begin_fault};
 ghost use Rattle.kfs_c.specs.Holding.{OnDesk};
@@ -22,7 +20,7 @@ use crate::submission::{FaultNumbers, fault};
 use kfs_desk::{BeginFault, Desk};
 use kfs_image::{Image, ImageFault, RawImage, TierSizes, decode_image};
 use kfs_mode::{Client, ClientFault};
-use kfs_shape::{ShapeFault, check_shape};
+use kfs_shape::{InTurn, ShapeFault, check_keeping};
 use std::alloc::Global;
 
 /// Why no desk is opened.
@@ -144,8 +142,11 @@ pub(crate) fn load(alloc: Global, bytes: &[u8]) -> Result<Image<Global>, Unopene
     ensures refused { IfErr result (IsRefusedAs (IsImageRefused bytes.now)) }
 {
     let raw = read_rows(alloc, bytes)?;
-    match check_shape(alloc, &raw) {
-        Ok(()) => image_from(alloc, raw),
+    match check_keeping(alloc, &raw, &InTurn) {
+        Ok(headers) => match Image::from_raw_with(alloc, raw, headers) {
+            Ok(image) => Ok(image),
+            Err(_) => Err(Unopened::NoMemory),
+        },
         Err(found) => Err(broken(found)),
     }
 }
@@ -186,18 +187,6 @@ pub(crate) fn broken(found: ShapeFault) -> Unopened
             0,
         )),
         ShapeFault::OutOfMemory => Unopened::NoMemory,
-    }
-}
-
-/// The image of rows that break no rule.
-fn image_from(alloc: Global, raw: RawImage<Global>) -> Result<Image<Global>, Unopened>
-    requires { IsWellFormed (raw_of raw) }
-    ensures made { IfOk result (λ image. image ≡ image_of (raw_of raw)) }
-    ensures memory { IfErr result (λ why. why ≡ Unopened.NoMemory) }
-{
-    match Image::from_raw(alloc, raw) {
-        Ok(image) => Ok(image),
-        Err(_) => Err(Unopened::NoMemory),
     }
 }
 

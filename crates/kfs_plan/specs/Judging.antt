@@ -173,6 +173,10 @@ pub record IsVerdict {A : Type 0} (s : State) (submission : Submission) (outcome
   pub judgement : IsJudgement s submission verdict
   pub told : TellsVerdict s submission outcome verdict
 
+-- every state that agrees with the reads, and has the view's row of the client, has this verdict
+abbrev pub ReadsDecide : {A : Type 0} → View A → Submission → List (Read × ReadAnswer) → Outcome A (List ℕ) → Type 0
+ReadsDecide view submission reads outcome = (s : State) → AgreesWithReads s submission.client (row_of (clients_of view) submission.client) reads → IsVerdict s submission outcome
+
 -- the same fault, or the same log and plan with a net of the same rows
 abbrev pub IsSameFinding : {A : Type 0} → Outcome A (List ℕ) → Outcome A (List ℕ) → Type 0
 IsSameFinding (outcomes.No fault) (outcomes.No other) = other ≡ fault

@@ -9,7 +9,7 @@ ghost use Rattle.kfs_judge.specs.Check.Kept.{keeps_reads};
 ghost use Rattle.kfs_judge.specs.Check.Reads.{Agrees};
 ghost use Rattle.kfs_judge.specs.Walks.{HasOrderedSizes};
 ghost use Rattle.kfs_judge.specs.Check.View.{clients_of, client_sight_in};
-ghost use Rattle.kfs_plan.specs.Judging.{AreLooked, AgreesWithReads, OutcomeIsSettled, IsSameFinding, IsVerdict, RefusesByFault, ShowsAs, submission_of, submission_with, IsEarly, IsReading, StopsByFault};
+ghost use Rattle.kfs_plan.specs.Judging.{AreLooked, AgreesWithReads, OutcomeIsSettled, ReadsDecide, IsSameFinding, IsVerdict, RefusesByFault, ShowsAs, submission_of, submission_with, IsEarly, IsReading, StopsByFault};
 
 use crate::judged::Judged;
 use crate::rows::{RowFault, check_rows};
@@ -122,7 +122,7 @@ fn find<'b, A: Allocator + Copy>(
     keeping: Keeping,
 ) -> Result<VerdictParts<A, BorrowedName<'b>>, Why>
     ensures keeps { IfOk result (λ f. f.reads.keeps ≡ keeps_reads keeping) }
-    ensures known { IfOk result (λ f. (s : State) → AgreesWithReads s number (row_of (clients_of view.now) number) f.reads.entries → IsVerdict s (submission_with number log.now plan.now) f.outcome) }
+    ensures known { IfOk result (λ f. ReadsDecide view.now (submission_with number log.now plan.now) f.reads.entries f.outcome) }
     ensures view_agrees { IfOk result (λ f. Agrees f.reads.entries (client_sight_in view.now number)) }
     ensures among { IfOk result (λ f. AreLooked view.now (submission_with number log.now plan.now) f.outcome f.reads.entries) }
     ensures fault { IfOk result (λ f. RefusesByFault f.outcome) }
@@ -151,7 +151,7 @@ fn find_owned<A: Allocator + Copy>(
     plan: &[u8],
 ) -> Result<VerdictParts<A>, Why>
     ensures keeps { IfOk result (λ f. f.reads.keeps ≡ true) }
-    ensures known { IfOk result (λ f. (s : State) → AgreesWithReads s number (row_of (clients_of view.now) number) f.reads.entries → IsVerdict s (submission_with number log.now plan.now) f.outcome) }
+    ensures known { IfOk result (λ f. ReadsDecide view.now (submission_with number log.now plan.now) f.reads.entries f.outcome) }
     ensures view_agrees { IfOk result (λ f. Agrees f.reads.entries (client_sight_in view.now number)) }
     ensures among { IfOk result (λ f. AreLooked view.now (submission_with number log.now plan.now) f.outcome f.reads.entries) }
     ensures fault { IfOk result (λ f. RefusesByFault f.outcome) }

@@ -83,8 +83,8 @@ fn check_extents<A: Allocator + Copy>(
     no_failure(10, least_shared(alloc, raw)?)
 }
 
-/// `check_asking`, which answers the headers by number where no rule is broken, so that an image can be
-/// made with them.
+/// `check_shape`, where the tests of many rows are asked by `ask`. Where no rule is broken it answers the
+/// headers by number, so that an image can be made with them.
 #[doc(hidden)]
 pub fn check_keeping<A: Allocator + Copy, T: AskRows>(
     alloc: A,
@@ -101,22 +101,6 @@ pub fn check_keeping<A: Allocator + Copy, T: AskRows>(
     Ok(headers)
 }
 
-/// `check_shape`, where the tests of many rows are asked by `ask`.
-#[doc(hidden)]
-pub fn check_asking<A: Allocator + Copy, T: AskRows>(
-    alloc: A,
-    raw: &RawImage<A>,
-    ask: &T,
-) -> Result<(), ShapeFault>
-    requires { T.can_ask ask.now }
-    ensures { FindsNoneWhere result (finding_of (raw_of raw.now)) }
-{
-    match check_keeping(alloc, raw, ask) {
-        Ok(_headers) => Ok(()),
-        Err(fault) => Err(fault),
-    }
-}
-
 /// Checks whether an image is well formed. crates/kfs_model/specs/Device/Rules.antt has the ten rules.
 ///
 /// Refused with `Found`, the least rule that is broken and the least number at which it is, or with
@@ -124,5 +108,8 @@ pub fn check_asking<A: Allocator + Copy, T: AskRows>(
 pub fn check_shape<A: Allocator + Copy>(alloc: A, raw: &RawImage<A>) -> Result<(), ShapeFault>
     ensures { FindsNoneWhere result (finding_of (raw_of raw.now)) }
 {
-    check_asking(alloc, raw, &InTurn)
+    match check_keeping(alloc, raw, &InTurn) {
+        Ok(_headers) => Ok(()),
+        Err(fault) => Err(fault),
+    }
 }

@@ -18,9 +18,9 @@ mod node_test;
 mod nodes;
 mod places;
 
-pub use check::check_shape;
 #[doc(hidden)]
-pub use check::{check_asking, check_keeping};
+pub use check::check_keeping;
+pub use check::check_shape;
 pub use fault::{Finding, ShapeFault};
 pub use kfs_image::{
     BlockRow, BlockRun, Extent, ExtentRow, Fill, Net, Place, RawImage, RawNode, net_apply,

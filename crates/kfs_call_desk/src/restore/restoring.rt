@@ -20,7 +20,7 @@ use kfs_desk::{BeginFault, Desk};
 use kfs_image::{Image, RawImage, decode_image};
 use kfs_lease::{LeaseRowFault, Leases};
 use kfs_mode::Client;
-use kfs_shape::{AskRows, InTurn, ShapeFault, check_asking};
+use kfs_shape::{AskRows, InTurn, ShapeFault, check_keeping};
 use std::alloc::Allocator;
 
 /// The image of rows, if they break no rule.
@@ -35,8 +35,11 @@ fn image_from<A: Allocator + Copy, T: AskRows>(
     ensures image { IfOk result (λ image. image ≡ image_of (raw_of raw)) }
     ensures err { IfErr result (IsRefusedFor (rule_refusal (raw_of raw))) }
 {
-    match check_asking(alloc, &raw, ask) {
-        Ok(()) => made_image(alloc, raw),
+    match check_keeping(alloc, &raw, ask) {
+        Ok(headers) => match Image::from_raw_with(alloc, raw, headers) {
+            Ok(image) => Ok(image),
+            Err(_) => Err(RestoreFault::OutOfMemory),
+        },
         Err(found) => Err(broken(found)),
     }
 }
@@ -48,19 +51,6 @@ fn broken(found: ShapeFault) -> RestoreFault
     match found {
         ShapeFault::Found(finding) => RestoreFault::BrokenRule(finding),
         ShapeFault::OutOfMemory => RestoreFault::OutOfMemory,
-    }
-}
-
-/// The image of rows that break no rule.
-fn made_image<A: Allocator + Copy>(alloc: A, raw: RawImage<A>) -> Result<Image<A>, RestoreFault>
-    requires { IsWellFormed (raw_of raw) }
-    ensures well_formed { IfOk result (λ image. IsWellFormed (raw_of raw)) }
-    ensures image { IfOk result (λ image. image ≡ image_of (raw_of raw)) }
-    ensures err { IfErr result (IsRefusedFor (rule_refusal (raw_of raw))) }
-{
-    match Image::from_raw(alloc, raw) {
-        Ok(image) => Ok(image),
-        Err(_) => Err(RestoreFault::OutOfMemory),
     }
 }
 

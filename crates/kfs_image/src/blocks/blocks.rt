@@ -87,9 +87,22 @@ impl<A: Allocator> FileBlocks<A> {
     pub fn place_of(&self, number: u32, block: u32) -> Option<Place>
         ensures { result ≡ get self.now.placement (number, block) }
     {
-        let key = (number, block);
         let mut near = self.near;
-        self.placement.get_near(&mut near, &key).copied()
+        self.place_near(&mut near, number, block)
+    }
+
+    /// The same, for blocks that are looked up one after another. A file's next block is then found without
+    /// a search. `near` becomes the place behind this block.
+    fn place_near(&self, near: &mut Near, number: u32, block: u32) -> Option<Place>
+        ensures { result ≡ get self.now.placement (number, block) }
+    {
+        let key = (number, block);
+        self.placement.get_near(near, &key).copied()
+    }
+
+    /// Where to begin look-ups of blocks one after another: at the last block that was mapped or unmapped.
+    pub fn near(&self) -> Near {
+        self.near
     }
 
     /// The first mapped block at the bound or behind it, as file number and block, and where it lies;
@@ -103,12 +116,13 @@ impl<A: Allocator> FileBlocks<A> {
     }
 
     /// Fills the buffer with the block's bytes from `offset` on; they are zero where the block isn't
-    /// mapped or was never written. Condition: the buffer doesn't go past the block. Takes no memory.
-    pub fn read(&self, number: u32, block: u32, offset: usize, buffer: &mut [u8])
+    /// mapped or was never written. The block is looked up behind `near`, which becomes the place behind
+    /// it. Condition: the buffer doesn't go past the block. Takes no memory.
+    pub fn read(&self, near: &mut Near, number: u32, block: u32, offset: usize, buffer: &mut [u8])
         requires { offset + length buffer.old ≤ block_size }
         ensures { EachIndex buffer.new (λ k. slice_index buffer.new k ≡ file_byte self.now.placement self.now.devices number (block * block_size + (offset + k))) }
     {
-        match self.place_of(number, block) {
+        match self.place_near(near, number, block) {
             Some(place) => self.tiers.read(place, offset, buffer),
             None => buffer.fill(0),
         }

@@ -15,13 +15,20 @@ impl<A: Allocator> FileBlocks<A> {
         requires { start + length buffer.old ≤ 2 ^ 32 * block_size }
         ensures { EachIndex buffer.new (λ k. slice_index buffer.new k ≡ file_byte self.now.placement self.now.devices number (start + k)) }
     {
+        let mut near = self.near();
         let mut done = 0;
         while done < buffer.len() {
             let position = start + done as u64;
             let offset = (position % BLOCK_LEN as u64) as usize;
             let count = (BLOCK_LEN - offset).min(buffer.len() - done);
             let block = (position / BLOCK_LEN as u64) as u32;
-            self.read(number, block, offset, &mut buffer[done..done + count]);
+            self.read(
+                &mut near,
+                number,
+                block,
+                offset,
+                &mut buffer[done..done + count],
+            );
             done += count;
         }
     }

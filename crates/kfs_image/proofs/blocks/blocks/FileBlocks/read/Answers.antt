@@ -10,10 +10,10 @@ returns-in-Some g c i below =
     let within : c.args.offset + i < block_size = omega (arith, below, c.requires, c.read.auto.buffer) in
     c.read.ensures i below
     ∙ ap (λ (b : BlocksShown). byte_on b.devices c.in-Some.place (c.args.offset + i)) c.self.view_is
-    ∙ byte_mapped c.args.self.now.placement c.args.self.now.devices c.args.number c.args.block (c.args.offset + i) within c.in-Some.place (sym c.place_of.ensures ∙ c.in-Some.is)
+    ∙ byte_mapped c.args.self.now.placement c.args.self.now.devices c.args.number c.args.block (c.args.offset + i) within c.in-Some.place (sym c.place_near.ensures ∙ c.in-Some.is)
 
 pub returns-in-None : goal.returns-in-None
 returns-in-None g c i below =
     let within : c.args.offset + i < block_size = omega (arith, below, c.requires, c.fill.ensures.len) in
     c.fill.ensures.clones i 0 (omega (arith, below, c.fill.ensures.len)) refl
-    ∙ byte_unmapped c.args.self.now.placement c.args.self.now.devices c.args.number c.args.block (c.args.offset + i) within (sym c.place_of.ensures ∙ c.in-None.is)
+    ∙ byte_unmapped c.args.self.now.placement c.args.self.now.devices c.args.number c.args.block (c.args.offset + i) within (sym c.place_near.ensures ∙ c.in-None.is)

@@ -2,7 +2,7 @@ use Rattle.std.proofs.Common.{sym, ap, ◌∙◌}
 use Rattle.kfs_model.specs.Table.{numbers, pairs, get}
 use Rattle.kfs_maps.proofs.ChunksLemmas.Tables.{get-table}
 use Rattle.kfs_image.specs.Blocks.Blocks.{BlocksShown}
-use Rattle.kfs_image.proofs.blocks.blocks.FileBlocks.place_of.Goals as goal
+use Rattle.kfs_image.proofs.blocks.blocks.FileBlocks.place_near.Goals as goal
 
 pub returns : goal.returns
 returns g c =
