@@ -1,14 +1,12 @@
 -- The laws of calls: what is read is a call that stands there, and what is written is read.
-use Rattle.std.proofs.Common.{◌≡◌, ℕ, ◌^◌, ◌<◌, ◌≤◌, true, cond, eqb, leb, List, [], ◌∷◌, ◌++◌, length, take, drop, map, Option, Some, None, refl, sym, ap, subst, ◌∙◌, append_assoc, arith, inl, inr}
+use Rattle.std.proofs.Common.{◌≡◌, ℕ, ◌^◌, ◌<◌, cond, eqb, List, [], ◌∷◌, ◌++◌, length, map, Option, Some, None, refl, sym, ap, subst, ◌∙◌, append_assoc, arith, inl, inr}
 use Rattle.std.specs.List.{AllByRecursion}
-use Rattle.std.proofs.lemmas.Bool.{leb-true, le-leb}
-use Rattle.std.proofs.lemmas.List.{take_at, drop_at, take-append-drop, length-append, length-take}
 use Rattle.kfs_model.specs.Lease.{LeaseKind, ReadLease, WriteLease}
 use Rattle.kfs_model.specs.Migration.{Move}
 use Rattle.kfs_model.specs.Steps.{◌>>=◌}
 use Rattle.kfs_model.specs.Spelling.{IsBytes, byte, number16, number32, number64}
 use Rattle.kfs_model.proofs.Reading.{byte_read, number16_read, number32_read, bytes_read}
-use Rattle.kfs_model.proofs.Fields.{IsBytes-drop, some_from, some_if, some_is, Stands, IsField, both, byte_field, byte_is, number16_field, number32_field, number64_field, record_field}
+use Rattle.kfs_model.proofs.Fields.{some_from, some_is, Stands, IsField, both, byte_field, byte_is, number16_field, number32_field, number64_field, record_field, run_takes, run_again}
 use Rattle.kfs_call.specs.Call.{Call, Submit, Lease, Drop, Tick, Migrate, LeaseAt, lease_kind_bytes, long_bytes, IsLong, short_bytes, IsShort, move_bytes, IsMove, call_fields, IsCall}
 use Rattle.kfs_call.specs.declared.codec.tag.Tag.{Tag}
 use Rattle.kfs_call.specs.declared.codec.tag.Tag.TheVariants as tags
@@ -96,18 +94,6 @@ pub kind_field : IsField any_value lease_kind_bytes lease_kind_read
 kind_field = record { takes = kind_takes; again = kind_again }
 
 -- ---- bytes behind their count
-
-run_takes : (count : ℕ) (bytes : List ℕ) (x : List ℕ × List ℕ) → IsBytes bytes → bytes_read count bytes ≡ Some x → (bytes ≡ x.0 ++ x.1) × (length x.0 ≡ count) × IsBytes x.1
-run_takes count bytes x fits e =
-    let g = some_if (leb count (length bytes)) (Some (take count bytes, drop count bytes)) x e in
-    let long : count ≤ length bytes = leb-true count (length bytes) g.0 in
-    subst (λ (y : List ℕ × List ℕ). (bytes ≡ y.0 ++ y.1) × (length y.0 ≡ count) × IsBytes y.1) (some_is (take count bytes, drop count bytes) x g.1)
-    (sym (take-append-drop count bytes), omega (arith, length-take count bytes), IsBytes-drop count bytes fits)
-
-run_again : (bytes rest : List ℕ) → bytes_read (length bytes) (bytes ++ rest) ≡ Some (bytes, rest)
-run_again bytes rest =
-    let long : leb (length bytes) (length (bytes ++ rest)) ≡ true = le-leb _ _ (omega (arith, length-append bytes rest)) in
-    rw (long, take_at bytes rest (length bytes) refl, drop_at bytes rest (length bytes) refl) refl
 
 -- the laws of bytes behind a count, whatever the count's field is
 module _ (limit : ℕ) (spelling : ℕ → List ℕ) (read : List ℕ → Option (ℕ × List ℕ)) (count : IsField (λ n. n < limit) spelling read) where

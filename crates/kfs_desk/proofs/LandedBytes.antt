@@ -77,7 +77,7 @@ module _ (desk : Parts) (is_desk : IsDesk desk) (lawful : IsLawful desk.image) (
 
   -- ---- with room
 
-  module _ (fill : Fill A) (bytes : LogBytes) (says : entries_of bytes ≡ entries) (tells : pieces_of bytes ≡ pieces) (is : IsFillOf desk.image bytes net.nodes.items fill) (room : told ≤ free) where
+  module _ (fill : Fill A) (bytes : LogBytes A) (says : entries_of bytes ≡ entries) (tells : pieces_of bytes ≡ pieces) (is : IsFillOf desk.image bytes net.nodes.items fill) (room : told ≤ free) where
     abbrev places : List ℕ
     places = places_of fill.rows.items
 
@@ -170,7 +170,7 @@ module _ (desk : Parts) (is_desk : IsDesk desk) (lawful : IsLawful desk.image) (
 
   -- ---- what land_bytes is asked for and leaves
 
-  module _ (bytes : LogBytes) (says : entries_of bytes ≡ entries) (tells : pieces_of bytes ≡ pieces) (room : told ≤ free) where
+  module _ (bytes : LogBytes A) (says : entries_of bytes ≡ entries) (tells : pieces_of bytes ≡ pieces) (room : told ≤ free) where
     pub can_land_with : CanLandWith desk.image bytes net
     can_land_with fill is = can_apply fill bytes says tells is room
 

@@ -12,8 +12,8 @@ use Rattle.kfs_desk.specs.declared.found.YesParts.{YesParts}
 
 -- the outcome, however its names are held
 abbrev pub found_in : {A : Type 0} → Found A → Outcome A (List ℕ)
-found_in (kinds.Owned outcome) = outcome.now
 found_in (kinds.Borrowed outcome) = outcome.now
+found_in (kinds.Kept outcome) = outcome.now
 
 -- the outcome is a Yes, and these are what lands of it
 pub record AreParts {A : Type 0} (outcome : Outcome A (List ℕ)) (parts : YesParts A) : Type 0 where

@@ -45,7 +45,7 @@ free_in image = length (unused_places image.sizes image.placement 0)
 
 module _ {A : Type 0} where
   -- the log decodes from these bytes, and the pieces are the plan's
-  pub record AreReadFrom (source : List ℕ) (log : Log A (List ℕ)) (plan : Plan A (List ℕ)) (bytes : LogBytes) : Type 0 where
+  pub record AreReadFrom (source : List ℕ) (log : Log A (List ℕ)) (plan : Plan A (List ℕ)) (bytes : LogBytes A) : Type 0 where
     pub entries : entries_of bytes ≡ (log_of source log).entries
     pub pieces : pieces_of bytes ≡ (plan_of plan).pieces
 
@@ -56,14 +56,14 @@ module _ {A : Type 0} where
     pub ascend : PiecesAscend (plan_of plan).pieces
     pub whole : AllByRecursion PieceIsInRange plan.pieces
     pub filled : AllByRecursion IsFilled plan.pieces
-    pub fits : need ≤ free_in image → (bytes : LogBytes) → AreReadFrom source log plan bytes → CanLandWith image bytes net
+    pub fits : need ≤ free_in image → (bytes : LogBytes A) → AreReadFrom source log plan bytes → CanLandWith image bytes net
 
   abbrev pub CanLand : DeviceImage → (source : List ℕ) → Outcome A (List ℕ) → Type 0
   CanLand image source (outcomes.No fault) = Unit {0}
   CanLand image source (outcomes.Yes log plan net need) = CanLandYes image source log plan net need
 
   -- what is asked of the bytes of a log and its net before they land
-  pub record CanLandBytes (image : DeviceImage) (bytes : LogBytes) (net : Net A (List ℕ)) : Type 0 where
+  pub record CanLandBytes (image : DeviceImage) (bytes : LogBytes A) (net : Net A (List ℕ)) : Type 0 where
     pub payloads : HasPayloads bytes
     pub pieces : PiecesAscend (pieces_of bytes)
     pub whole : AllByRecursion PieceIsInRange bytes.pieces.now
@@ -71,12 +71,12 @@ module _ {A : Type 0} where
     pub fits : CanLandWith image bytes net
 
   -- the same as `HasLandedWith`, of which a proof sees no part
-  unfoldable pub IsLandedWith : (old : DeviceImage) → LogBytes → Net A (List ℕ) → (new : DeviceImage) → Type 0
+  unfoldable pub IsLandedWith : (old : DeviceImage) → LogBytes A → Net A (List ℕ) → (new : DeviceImage) → Type 0
   IsLandedWith old bytes net new = HasLandedWith old bytes net new
 
   -- the net was applied, with a fill of its log
   pub record HasLanded (old : DeviceImage) (source : List ℕ) (log : Log A (List ℕ)) (plan : Plan A (List ℕ)) (net : Net A (List ℕ)) (new : DeviceImage) : Type 0 where
-    pub bytes : LogBytes
+    pub bytes : LogBytes A
     pub are : AreReadFrom source log plan bytes
     pub landed : HasLandedWith old bytes net new
 

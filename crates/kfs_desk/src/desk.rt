@@ -40,7 +40,7 @@ use kfs_judge::View;
 use kfs_lease::{LeaseFault, LeaseKind, Leases};
 use kfs_migrate::{Move, MoveFault, apply_moves, check_moves};
 use kfs_mode::Client;
-use kfs_plan::{Back, Judged, Outcome, Submission, Why, judge_bytes, owned_outcome};
+use kfs_plan::{Back, Judged, KeptOutcome, Outcome, Submission, Why, judge_bytes, kept_outcome};
 use kfs_types::BorrowedName;
 use std::alloc::{AllocError, Allocator};
 use std::marker::Model;
@@ -79,7 +79,7 @@ pub struct Landed<A: Allocator> {
     /// The answer.
     pub reply: Reply,
     /// What was found of the submission, if it was judged again. It is for the caller to drop.
-    pub again: Option<Outcome<A>>,
+    pub again: Option<KeptOutcome<A>>,
 }
 
 impl<A: Allocator + Copy> Desk<A> {
@@ -370,7 +370,7 @@ impl<A: Allocator + Copy> Desk<A> {
         }
         let again = found_again(self.alloc, &self.image, &self.leases, &self.clients, judged)?;
         let submitted = HandedIn::of(judged.submission());
-        self.answer(&submitted, false, Found::Owned(latest(judged, &again)))
+        self.answer(&submitted, false, Found::Kept(latest(judged, &again)))
     }
 
     /// The allocator that the desk takes its memory from.
@@ -431,7 +431,7 @@ impl<A: Allocator + Copy> Desk<A> {
         let again = found_again(self.alloc, &self.image, &self.leases, &self.clients, judged)?;
         let rejudged = again.is_some();
         let handed_in = HandedIn::of(judged.submission());
-        let found = Found::Owned(latest(judged, &again));
+        let found = Found::Kept(latest(judged, &again));
         let reply = self.answer(&handed_in, rejudged, found)?;
         Ok(Landed { reply, again })
     }
@@ -556,7 +556,7 @@ fn found_again<A: Allocator + Copy>(
     leases: &Arc<Leases<A>, A>,
     clients: &Arc<Vec<Client, A>, A>,
     judged: &Judged<A>,
-) -> Result<Option<Outcome<A>>, Why>
+) -> Result<Option<KeptOutcome<A>>, Why>
     requires distinct { ClientsAreDistinct clients.now.value.items }
     ensures verdict { IfOk result (λ again. IsVerdict (state_at image.now clients.now.value.items leases.now.value) (submission_of judged.now.submission) (latest judged.now.outcome again)) }
     ensures again { IfOk result (λ again. IsFalse (is_some again) ↔ IsCurrent (state_at image.now clients.now.value.items leases.now.value) judged.now) }
@@ -577,12 +577,15 @@ fn found_again<A: Allocator + Copy>(
         submission.log.as_slice(),
         submission.plan.as_slice(),
     )?;
-    let owned = owned_outcome(alloc, outcome)?;
-    Ok(Some(owned))
+    let kept = kept_outcome(alloc, outcome)?;
+    Ok(Some(kept))
 }
 
 /// The outcome that was found again, or else that of the verdict.
-fn latest<'a, A: Allocator>(judged: &'a Judged<A>, again: &'a Option<Outcome<A>>) -> &'a Outcome<A>
+fn latest<'a, A: Allocator>(
+    judged: &'a Judged<A>,
+    again: &'a Option<KeptOutcome<A>>,
+) -> &'a KeptOutcome<A>
     ensures { result.now ≡ latest judged.now.outcome again.now }
 {
     match again {

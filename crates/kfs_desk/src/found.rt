@@ -5,24 +5,24 @@ ghost use Rattle.kfs_plan.specs.declared.submission.Outcome.TheVariants as outco
 
 use crate::fill::Entries;
 use kfs_image_nodes::LentNet;
-use kfs_plan::{Fault, Outcome};
+use kfs_plan::{Fault, KeptOutcome, Outcome};
 use kfs_types::{BorrowedName, Piece};
 use std::alloc::Allocator;
 
 /// An outcome, by reference.
 #[derive(Clone, Copy)]
 pub enum Found<'o, 's, A: Allocator> {
-    /// With names of its own: that of a verdict.
-    Owned(&'o Outcome<A>),
     /// With names where they lie in bytes that the caller keeps.
     Borrowed(&'o Outcome<A, BorrowedName<'s>>),
+    /// With names that are kept: that of a verdict.
+    Kept(&'o KeptOutcome<A>),
 }
 
 /// What lands of a Yes.
 #[derive(Clone, Copy)]
 pub struct YesParts<'o, 's, A: Allocator> {
     /// The log's entries.
-    pub entries: Entries<'o, 's>,
+    pub entries: Entries<'o, 's, A>,
     /// The plan's pieces.
     pub pieces: &'o [Piece],
     /// The net change.
@@ -58,8 +58,8 @@ impl<'o, 's, A: Allocator> Found<'o, 's, A> {
         ensures no { IfErr result (λ fault. found_in self.entry ≡ outcomes.No fault) }
     {
         match self {
-            Found::Owned(outcome) => parts_of!(outcome, Owned),
             Found::Borrowed(outcome) => parts_of!(outcome, Borrowed),
+            Found::Kept(outcome) => parts_of!(outcome, Kept),
         }
     }
 }

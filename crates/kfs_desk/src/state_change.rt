@@ -27,7 +27,7 @@ use std::sync::Arc;
 #[derive(Drop)]
 struct ImageChange<'a, 'b, 's, A: Allocator> {
     image: &'a mut Image<A>,
-    bytes: &'b LogBytes<'b, 's>,
+    bytes: &'b LogBytes<'b, 's, A>,
     net: &'b LentNet<'b, 's, A>,
 }
 
@@ -59,7 +59,7 @@ pub(crate) fn change_state<A: Allocator + Copy>(
     alloc: A,
     image: &mut Image<A>,
     leases: &mut Arc<Leases<A>, A>,
-    bytes: &LogBytes<'_, '_>,
+    bytes: &LogBytes<'_, '_, A>,
     net: &LentNet<'_, '_, A>,
 ) -> Result<(), AllocError>
     requires payloads { HasPayloads bytes.now }
@@ -79,7 +79,7 @@ pub(crate) fn change_state<A: Allocator + Copy>(
 fn change_both<A: Allocator + Copy>(
     image: &mut Image<A>,
     leases: &mut Arc<Leases<A>, A>,
-    bytes: &LogBytes<'_, '_>,
+    bytes: &LogBytes<'_, '_, A>,
     net: &LentNet<'_, '_, A>,
     removed: &[u32],
 ) -> Result<(), AllocError>

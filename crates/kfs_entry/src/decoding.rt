@@ -11,8 +11,8 @@ ghost use Rattle.kfs_entry.specs.Answers.{OnAnswer, log_of, plan_of, AreSpanned,
 use crate::codec::{ReadRow, RowsFault, headers, read_rows};
 use crate::fault::SpellFault;
 use kfs_types::{
-    BorrowedEntry, BorrowedName, BorrowedRow, Entry, Log, NodeRow, Piece, Plan, RowList, Span,
-    borrowed_entries, borrowed_rows, owned_entries, owned_rows,
+    BorrowedEntry, BorrowedName, BorrowedRow, Entry, KeptName, Log, NodeRow, Piece, Plan, RowList,
+    Span, borrowed_entries, borrowed_rows, kept_entries, kept_rows, owned_rows,
 };
 use std::alloc::{AllocError, Allocator};
 
@@ -144,14 +144,14 @@ pub fn decode_borrowed_log<A: Allocator>(
     borrowed_log_in(alloc, source)
 }
 
-/// The same log, with names of its own. `Err` where memory runs out.
-pub fn owned_log<A: Allocator>(
+/// The same log, with names that are kept. `Err` where memory runs out.
+pub fn kept_log<A: Allocator + Copy>(
     alloc: A,
     log: &Log<A, BorrowedName<'_>>,
-) -> Result<Log<A>, AllocError>
-    ensures { IfOk result (λ owned. owned ≡ log.now) }
+) -> Result<Log<A, KeptName<A>>, AllocError>
+    ensures { IfOk result (λ kept. kept ≡ log.now) }
 {
-    let entries = owned_entries(alloc, log.entries.as_slice())?;
+    let entries = kept_entries(alloc, log.entries.as_slice())?;
     Ok(Log {
         version: log.version,
         client: log.client,
@@ -251,6 +251,28 @@ pub fn owned_plan<A: Allocator>(
         pieces,
     } = plan;
     let names = owned_rows(alloc, names.as_slice())?;
+    Ok(Plan {
+        version,
+        names: RowList::from_vec(names),
+        nodes,
+        pieces,
+    })
+}
+
+/// The same plan, with names that are kept. `Err` where memory runs out.
+pub fn kept_plan<A: Allocator + Copy>(
+    alloc: A,
+    plan: Plan<A, BorrowedName<'_>>,
+) -> Result<Plan<A, KeptName<A>>, AllocError>
+    ensures { IfOk result (λ kept. kept ≡ plan.entry) }
+{
+    let Plan {
+        version,
+        names,
+        nodes,
+        pieces,
+    } = plan;
+    let names = kept_rows(alloc, names.as_slice())?;
     Ok(Plan {
         version,
         names: RowList::from_vec(names),

@@ -14,12 +14,12 @@ mod fault;
 pub use codec::{ReadRow, RowsFault, SpelledRow, read_rows};
 pub use decoding::{
     borrowed_log, borrowed_plan, decode_borrowed_log, decode_borrowed_plan, decode_log,
-    decode_plan, owned_log, owned_plan,
+    decode_plan, kept_log, kept_plan, owned_plan,
 };
 pub use encoding::{encode_log, encode_plan};
 pub use fault::SpellFault;
 pub use kfs_types::{
     BorrowedEntry, BorrowedName, BorrowedRow, ENTRY_LIMIT, Entry, GREATEST_MODE,
-    GREATEST_MODE_OF_VERSION_1, Header, Kind, LATEST_VERSION, Log, Name, NameRow, NodeRow,
-    PAYLOAD_LIMIT, Piece, Plan, RowList, Source, Span,
+    GREATEST_MODE_OF_VERSION_1, Header, KeptName, Kind, LATEST_VERSION, Log, Name, NameRow,
+    NodeRow, PAYLOAD_LIMIT, Piece, Plan, RowList, Source, Span,
 };

@@ -205,7 +205,7 @@ impl<A: Allocator + Clone> Image<A> {
     fn change_all(
         &mut self,
         alloc: &A,
-        names: NameRows<'_, '_>,
+        names: NameRows<'_, '_, A>,
         nodes: &NodeChanges<'_, A>,
         edits: BlockEdits<A>,
     ) -> Result<(), AllocError>

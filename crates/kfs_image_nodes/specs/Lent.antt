@@ -13,11 +13,13 @@ use Rattle.kfs_image_nodes.specs.declared.net.Net.{Net}
 abbrev pub net_in : {A : Type 0} → LentNet A → Net A (List ℕ)
 net_in (nets.Owned net) = net.now
 net_in (nets.Borrowed net) = net.now
+net_in (nets.Kept net) = net.now
 
 -- the rows
-abbrev pub rows_in : NameRows → List (NameRow (List ℕ))
+abbrev pub rows_in : {A : Type 0} → NameRows A → List (NameRow (List ℕ))
 rows_in (rows.Owned list) = list.now
 rows_in (rows.Borrowed list) = list.now
+rows_in (rows.Kept list) = list.now
 
 -- both nets have the same rows
 pub record IsSameNet {A : Type 0} (net other : Net A (List ℕ)) : Type 0 where

@@ -113,13 +113,15 @@ impl<A: Allocator> Shape<A> {
         self.rows.headers.page(index)
     }
 
-    fn count(&self, dir: u32) -> u64
+    /// How many names a directory has: what `look` answers, without a cell. Takes no memory.
+    pub fn count(&self, dir: u32) -> u64
         ensures { result ≡ entry_count self.now.names dir }
     {
         self.rows.count(dir)
     }
 
-    fn parent(&self, number: u32) -> Option<u32>
+    /// A directory's parent: what `look` answers, without a cell. Takes no memory.
+    pub fn parent(&self, number: u32) -> Option<u32>
         ensures { result ≡ parent_in (get self.now.heads) self.now.names number }
     {
         if number == ROOT || self.header(number)?.kind != Kind::Directory {
@@ -201,7 +203,7 @@ impl<A: Allocator + Clone> Shape<A> {
     pub fn apply<T: Change>(
         &mut self,
         alloc: &A,
-        names: NameRows<'_, '_>,
+        names: NameRows<'_, '_, A>,
         nodes: &NodeChanges<'_, A>,
         then: &mut T,
     ) -> Result<(), AllocError>

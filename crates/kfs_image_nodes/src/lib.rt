@@ -20,4 +20,4 @@ pub use header_page::HeaderPage;
 pub use kfs_maps::{Near, Page};
 pub use kfs_types::{Header, Kind, Name, TierSizes};
 pub use layout::{Shape, look};
-pub use net::{LentNet, NameRows, Net, owned_net};
+pub use net::{LentNet, NameRows, Net, kept_net, owned_net};

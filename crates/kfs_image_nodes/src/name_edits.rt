@@ -59,7 +59,7 @@ pub(crate) fn name_edits<A: Allocator + Clone>(
     counts: &Pages<u64, A>,
     uplinks: &Chunks<(u32, u32), u64, A>,
     last: &mut LastPlaces,
-    rows: NameRows<'_, '_>,
+    rows: NameRows<'_, '_, A>,
 ) -> Result<NameEdits<A>, AllocError>
     requires { IsCounted (table name_order names.now) counts.now (table by_node uplinks.now) }
     ensures { IfOk result (AreEditsOf names.now counts.now uplinks.now (rows_in rows.entry)) }
@@ -89,7 +89,7 @@ fn puts_first(edits: &[KeyEdit<(u32, Name), u32>]) -> bool {
 /// The rows as edits of the names, or none where their keys don't ascend.
 fn rows_in_order<A: Allocator + Clone>(
     alloc: &A,
-    rows: NameRows<'_, '_>,
+    rows: NameRows<'_, '_, A>,
 ) -> Result<Option<Vec<KeyEdit<(u32, Name), u32>, A>>, AllocError>
     ensures { IfOk result (λ made. IfSome made (λ edits. AreRowsInOrder (rows_in rows.entry) edits.items)) }
 {
@@ -200,7 +200,7 @@ fn edits_of_all<A: Allocator + Clone>(
     names: &Chunks<(u32, Name), u32, A>,
     counts: &Pages<u64, A>,
     uplinks: &Chunks<(u32, u32), u64, A>,
-    rows: NameRows<'_, '_>,
+    rows: NameRows<'_, '_, A>,
 ) -> Result<NameEdits<A>, AllocError>
     requires { IsCounted (table name_order names.now) counts.now (table by_node uplinks.now) }
     ensures { IfOk result (AreEditsOf names.now counts.now uplinks.now (rows_in rows.entry)) }

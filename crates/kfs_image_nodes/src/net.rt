@@ -7,7 +7,9 @@ ghost use Rattle.kfs_image_nodes.specs.NameEdits.{name_edit};
 
 use crate::rows::name_key;
 use kfs_maps::KeyEdit;
-use kfs_types::{BorrowedName, BorrowedRow, Name, NameRow, NodeRow, owned_rows};
+use kfs_types::{
+    BorrowedName, BorrowedRow, KeptName, KeptRow, Name, NameRow, NodeRow, kept_rows, owned_rows,
+};
 use std::alloc::{AllocError, Allocator};
 
 /// The net change of a log: the names and nodes that are different after it. `N` is how a name stands in
@@ -32,6 +34,18 @@ pub fn owned_net<A: Allocator>(
     Ok(Net { names, nodes })
 }
 
+/// The same net, with names that are kept. `Err` where memory runs out.
+pub fn kept_net<A: Allocator + Copy>(
+    alloc: A,
+    net: Net<A, BorrowedName<'_>>,
+) -> Result<Net<A, KeptName<A>>, AllocError>
+    ensures { IfOk result (IsSameNet net.entry) }
+{
+    let Net { names, nodes } = net;
+    let names = kept_rows(alloc, names.as_slice())?;
+    Ok(Net { names, nodes })
+}
+
 /// A net, by reference.
 #[derive(Clone, Copy)]
 pub enum LentNet<'n, 's, A: Allocator> {
@@ -39,16 +53,19 @@ pub enum LentNet<'n, 's, A: Allocator> {
     Owned(&'n Net<A>),
     /// With names where they lie in the bytes of a log.
     Borrowed(&'n Net<A, BorrowedName<'s>>),
+    /// With names that are kept.
+    Kept(&'n Net<A, KeptName<A>>),
 }
 
 impl<'n, 's, A: Allocator> LentNet<'n, 's, A> {
     /// The rows of its names. Takes no memory.
-    pub fn names(self) -> NameRows<'n, 's>
+    pub fn names(self) -> NameRows<'n, 's, A>
         ensures { rows_in result ≡ (net_in self.entry).names.items }
     {
         match self {
             LentNet::Owned(net) => NameRows::Owned(net.names.as_slice()),
             LentNet::Borrowed(net) => NameRows::Borrowed(net.names.as_slice()),
+            LentNet::Kept(net) => NameRows::Kept(net.names.as_slice()),
         }
     }
 
@@ -59,20 +76,23 @@ impl<'n, 's, A: Allocator> LentNet<'n, 's, A> {
         match self {
             LentNet::Owned(net) => &net.nodes,
             LentNet::Borrowed(net) => &net.nodes,
+            LentNet::Kept(net) => &net.nodes,
         }
     }
 }
 
 /// Name rows, by reference.
-#[derive(Clone, Copy)]
-pub enum NameRows<'n, 's> {
+#[derive_where(Clone, Copy)]
+pub enum NameRows<'n, 's, A: Allocator> {
     /// With names of their own.
     Owned(&'n [NameRow]),
     /// With names where they lie in the bytes of a log.
     Borrowed(&'n [BorrowedRow<'s>]),
+    /// With names that are kept.
+    Kept(&'n [KeptRow<A>]),
 }
 
-impl<'n, 's> NameRows<'n, 's> {
+impl<'n, 's, A: Allocator> NameRows<'n, 's, A> {
     /// How many rows there are.
     pub(crate) fn len(self) -> usize
         ensures { result ≡ length (rows_in self.entry) }
@@ -80,10 +100,11 @@ impl<'n, 's> NameRows<'n, 's> {
         match self {
             NameRows::Owned(rows) => rows.len(),
             NameRows::Borrowed(rows) => rows.len(),
+            NameRows::Kept(rows) => rows.len(),
         }
     }
 
-    /// The edit of the names that a row makes. A name that is borrowed becomes a value here.
+    /// The edit of the names that a row makes. A name that isn't a value yet becomes one here.
     pub(crate) fn edit(self, index: usize) -> KeyEdit<(u32, Name), u32>
         requires { index < length (rows_in self) }
         ensures edit { IsEditAt (rows_in self.entry) index result }
@@ -92,6 +113,7 @@ impl<'n, 's> NameRows<'n, 's> {
         match self {
             NameRows::Owned(rows) => owned_edit(&rows[index]),
             NameRows::Borrowed(rows) => borrowed_edit(&rows[index]),
+            NameRows::Kept(rows) => borrowed_edit(&rows[index].borrowed()),
         }
     }
 }

@@ -263,7 +263,7 @@ impl<A: Allocator + Clone> NodeTables<A> {
         &mut self,
         alloc: &A,
         last: &mut LastPlaces,
-        names: NameRows<'_, '_>,
+        names: NameRows<'_, '_, A>,
         nodes: &NodeChanges<'_, A>,
         then: &mut T,
     ) -> Result<(), AllocError>

@@ -15,7 +15,7 @@ mod step;
 mod walk;
 
 pub use access::{Access, AccessFault};
-pub use check::{Keeping, KeptReads, Read, ReadAnswer, Reads, Reason, View};
+pub use check::{Keeping, KeptRead, KeptReads, Read, ReadAnswer, Reads, Reason, View};
 pub use kfs_image_nodes::Net;
 pub use kfs_pieces::FileSize;
 pub use walk::{EntryFault, Walk, judge_borrowed, judge_entries, judge_entries_keeping};

@@ -235,14 +235,14 @@ module _ (version : ℕ) where
 
 -- ---- runs of bytes
 
-run_takes : (count : ℕ) (bytes : List ℕ) (x : List ℕ × List ℕ) → IsBytes bytes → bytes_read count bytes ≡ Some x → (bytes ≡ x.0 ++ x.1) × (length x.0 ≡ count) × IsBytes x.1
+pub run_takes : (count : ℕ) (bytes : List ℕ) (x : List ℕ × List ℕ) → IsBytes bytes → bytes_read count bytes ≡ Some x → (bytes ≡ x.0 ++ x.1) × (length x.0 ≡ count) × IsBytes x.1
 run_takes count bytes x fits e =
     let g = some_if (leb count (length bytes)) (Some (take count bytes, drop count bytes)) x e in
     let long : count ≤ length bytes = leb-true count (length bytes) g.0 in
     subst (λ (y : List ℕ × List ℕ). (bytes ≡ y.0 ++ y.1) × (length y.0 ≡ count) × IsBytes y.1) (some_is (take count bytes, drop count bytes) x g.1)
     (sym (take-append-drop count bytes), omega (arith, length-take count bytes), IsBytes-drop count bytes fits)
 
-run_again : (bytes rest : List ℕ) → bytes_read (length bytes) (bytes ++ rest) ≡ Some (bytes, rest)
+pub run_again : (bytes rest : List ℕ) → bytes_read (length bytes) (bytes ++ rest) ≡ Some (bytes, rest)
 run_again bytes rest =
     let long : leb (length bytes) (length (bytes ++ rest)) ≡ true = le-leb _ _ (omega (arith, length-append bytes rest)) in
     rw (long, take_at bytes rest (length bytes) refl, drop_at bytes rest (length bytes) refl) refl

@@ -1,15 +1,14 @@
 //! A verdict, and whether it holds in another view.
 ghost use Rattle.std.specs.Prelude.{◌≡◌, ◌↔◌, IsTrue};
 ghost use Rattle.std.specs.Option.{option_map};
-ghost use Rattle.kfs_model.specs.Sight as sights;
 ghost use Rattle.kfs_model.specs.Lease.{row_of};
-ghost use Rattle.kfs_judge.specs.Check.Reads.{Agrees, answer_of, cell_of, look_answer_of};
+ghost use Rattle.kfs_judge.specs.Check.Reads.{Agrees, answer_of, look_answer_of};
 ghost use Rattle.kfs_judge.specs.Check.View.{clients_of, client_sight_in};
 ghost use Rattle.kfs_plan.specs.Judged.{HoldsIn, IsKnown};
 
-use crate::submission::{Outcome, Submission};
-use kfs_image_nodes::{Answer, Cell, Near};
-use kfs_judge::{KeptReads, Read, ReadAnswer, View};
+use crate::submission::{KeptOutcome, Submission};
+use kfs_image_nodes::{Answer, Near};
+use kfs_judge::{KeptReads, ReadAnswer, View};
 use kfs_mode::Client;
 use std::alloc::Allocator;
 use std::marker::Model;
@@ -22,7 +21,7 @@ pub struct Judged<A: Allocator> {
     submission: Submission<A>,
     client: Option<Client>,
     reads: KeptReads<A>,
-    outcome: Outcome<A>,
+    outcome: KeptOutcome<A>,
 }
 
 impl<A: Allocator> Model for Judged<A> {
@@ -41,7 +40,7 @@ impl<A: Allocator> Judged<A> {
         submission: Submission<A>,
         client: Option<Client>,
         reads: KeptReads<A>,
-        outcome: Outcome<A>,
+        outcome: KeptOutcome<A>,
     ) -> Judged<A>
         requires known { IsKnown (record { submission = submission; client = client; reads = reads.entries; outcome = outcome }) }
         ensures { result ≡ record { submission = submission; client = client; reads = reads.entries; outcome = outcome } }
@@ -78,14 +77,14 @@ impl<A: Allocator> Judged<A> {
     }
 
     /// The outcome. Takes no memory.
-    pub fn outcome(&self) -> &Outcome<A>
+    pub fn outcome(&self) -> &KeptOutcome<A>
         ensures { result.now ≡ self.now.outcome }
     {
         &self.outcome
     }
 
     /// The submission and the outcome. Takes no memory.
-    pub fn into_parts(self) -> (Submission<A>, Outcome<A>)
+    pub fn into_parts(self) -> (Submission<A>, KeptOutcome<A>)
         ensures submission { result.0 ≡ self.submission }
         ensures outcome { result.1 ≡ self.outcome }
         ensures known { IsKnown self }
@@ -123,29 +122,11 @@ fn agrees<A: Allocator + Copy>(view: &View<A>, client: u32, reads: &KeptReads<A>
 {
     let mut near = Near::start();
     for (read, answer) in reads.iter() {
-        if !is_same(shown(view, client, read, &mut near), *answer) {
+        if !is_same(view.answer_near(client, read, &mut near), *answer) {
             return false;
         }
     }
     true
-}
-
-/// The view's answer to a read. `near` is where the last name was looked for.
-fn shown<A: Allocator + Copy>(
-    view: &View<A>,
-    client: u32,
-    read: &Read,
-    near: &mut Near,
-) -> ReadAnswer
-    ensures { sights.answer (client_sight_in view.now client) (cell_of read.now) ≡ answer_of result }
-{
-    match read {
-        Read::Look(Cell::Name(dir, name)) => {
-            ReadAnswer::Look(Answer::Name(view.target_near(near, &(*dir, *name))))
-        }
-        Read::Look(cell) => ReadAnswer::Look(view.look(cell)),
-        Read::Lease(number) => ReadAnswer::Lease(view.holds(client, *number)),
-    }
 }
 
 /// Whether two answers are the same.

@@ -13,12 +13,12 @@ ghost use Rattle.kfs_plan.specs.Judging.{AreLooked, AgreesWithReads, OutcomeIsSe
 
 use crate::judged::Judged;
 use crate::rows::{RowFault, check_rows};
-use crate::submission::{Back, Fault, Outcome, Submission, Why};
+use crate::submission::{Back, Fault, KeptOutcome, Outcome, Submission, Why};
 use kfs_entry::{
-    BorrowedName, Log, Name, Plan, SpellFault, decode_borrowed_log, decode_borrowed_plan,
-    owned_log, owned_plan,
+    BorrowedName, KeptName, Log, Plan, SpellFault, decode_borrowed_log, decode_borrowed_plan,
+    kept_log, kept_plan,
 };
-use kfs_image_nodes::{LentNet, owned_net};
+use kfs_image_nodes::{LentNet, kept_net};
 use kfs_judge::{Keeping, Reads, View, Walk, judge_borrowed};
 use kfs_mode::Client;
 use std::alloc::{AllocError, Allocator};
@@ -47,7 +47,7 @@ pub fn judge<A: Allocator + Copy>(
     ensures memory { IfErr result (λ b. b.why ≡ Why.OutOfMemory) }
 {
     let (log, plan) = (submission.log.as_slice(), submission.plan.as_slice());
-    let found = find_owned(alloc, view, submission.client, log, plan);
+    let found = find_kept(alloc, view, submission.client, log, plan);
     match found {
         Ok(finding) => match client_row(view, submission.client) {
             Ok(client) => {
@@ -93,7 +93,7 @@ fn client_row<A: Allocator + Copy>(view: &View<A>, number: u32) -> Result<Option
 
 /// The parts of a verdict, without the submission and its client.
 #[derive(Drop)]
-struct VerdictParts<A: Allocator, N = Name> {
+struct VerdictParts<A: Allocator, N> {
     reads: Reads<A>,
     outcome: Outcome<A, N>,
 }
@@ -142,14 +142,14 @@ fn find<'b, A: Allocator + Copy>(
     }
 }
 
-/// The same with names of its own, where reads are kept.
-fn find_owned<A: Allocator + Copy>(
+/// The same where reads and names are kept.
+fn find_kept<A: Allocator + Copy>(
     alloc: A,
     view: &View<A>,
     number: u32,
     log: &[u8],
     plan: &[u8],
-) -> Result<VerdictParts<A>, Why>
+) -> Result<VerdictParts<A, KeptName<A>>, Why>
     ensures keeps { IfOk result (λ f. f.reads.keeps ≡ true) }
     ensures known { IfOk result (λ f. ReadsDecide view.now (submission_with number log.now plan.now) f.reads.entries f.outcome) }
     ensures view_agrees { IfOk result (λ f. Agrees f.reads.entries (client_sight_in view.now number)) }
@@ -158,18 +158,18 @@ fn find_owned<A: Allocator + Copy>(
     ensures memory { IfErr result (λ why. why ≡ Why.OutOfMemory) }
 {
     let VerdictParts { reads, outcome } = find(alloc, view, number, log, plan, Keeping::Reads)?;
-    let owned = owned_outcome(alloc, outcome)?;
+    let kept = kept_outcome(alloc, outcome)?;
     Ok(VerdictParts {
         reads,
-        outcome: owned,
+        outcome: kept,
     })
 }
 
-/// The same outcome, with names of its own. `Err` where memory runs out.
-pub fn owned_outcome<A: Allocator + Copy>(
+/// The same outcome, with names that are kept. `Err` where memory runs out.
+pub fn kept_outcome<A: Allocator + Copy>(
     alloc: A,
     outcome: Outcome<A, BorrowedName<'_>>,
-) -> Result<Outcome<A>, AllocError>
+) -> Result<KeptOutcome<A>, AllocError>
     ensures { IfOk result (IsSameFinding outcome.entry) }
 {
     match outcome {
@@ -179,9 +179,9 @@ pub fn owned_outcome<A: Allocator + Copy>(
             net,
             need,
         } => {
-            let log = owned_log(alloc, &log)?;
-            let plan = owned_plan(alloc, plan)?;
-            let net = owned_net(alloc, net)?;
+            let log = kept_log(alloc, &log)?;
+            let plan = kept_plan(alloc, plan)?;
+            let net = kept_net(alloc, net)?;
             Ok(Outcome::Yes {
                 log,
                 plan,

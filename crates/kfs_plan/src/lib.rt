@@ -11,7 +11,7 @@ mod rows;
 mod submission;
 
 pub use judged::Judged;
-pub use judgement::{judge, judge_bytes, owned_outcome};
+pub use judgement::{judge, judge_bytes, kept_outcome};
 pub use pieces::sweep;
 pub use rows::{RowFault, check_plan};
-pub use submission::{Back, Fault, Outcome, Submission, Why};
+pub use submission::{Back, Fault, KeptOutcome, Outcome, Submission, Why};

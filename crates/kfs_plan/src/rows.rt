@@ -16,6 +16,7 @@ use kfs_entry::{BorrowedName, BorrowedRow, Log, NameRow, Plan, borrowed_log, bor
 use kfs_image_nodes::{LentNet, NameRows};
 use kfs_judge::Walk;
 use kfs_pieces::{FileSize, first_piece_apart, need_of, sweep};
+use kfs_types::KeptRow;
 use std::alloc::{AllocError, Allocator};
 use thiserror::Error;
 
@@ -104,7 +105,10 @@ pub fn check_rows<A: Allocator + Copy>(
 
 /// The index of the first name row that differs from the net's; where one list is a prefix of the other,
 /// the shorter length.
-fn first_name_apart(rows: &[BorrowedRow<'_>], right: NameRows<'_, '_>) -> Option<usize>
+fn first_name_apart<A: Allocator>(
+    rows: &[BorrowedRow<'_>],
+    right: NameRows<'_, '_, A>,
+) -> Option<usize>
     ensures { result ≡ first_difference (same_pair same_place nat_eq) (map keyed_name_row rows.now) (map keyed_name_row (rows_in right.entry)) }
 {
     match right {
@@ -114,6 +118,10 @@ fn first_name_apart(rows: &[BorrowedRow<'_>], right: NameRows<'_, '_>) -> Option
         }
         NameRows::Borrowed(right) => {
             let differs = first_unlike_borrowed(rows, right);
+            at_end(differs, rows.len(), right.len())
+        }
+        NameRows::Kept(right) => {
+            let differs = first_unlike_kept(rows, right);
             at_end(differs, rows.len(), right.len())
         }
     }
@@ -135,6 +143,15 @@ fn first_unlike_borrowed(rows: &[BorrowedRow<'_>], right: &[BorrowedRow<'_>]) ->
     rows.iter()
         .zip(right)
         .position(|pair| !is_same_row(pair.0, pair.1))
+}
+
+/// The same where names are kept.
+fn first_unlike_kept<A: Allocator>(rows: &[BorrowedRow<'_>], right: &[KeptRow<A>]) -> Option<usize>
+    ensures { result ≡ position (λ pair. not (is_same_row pair.0 pair.1)) (zip rows.now right.now) }
+{
+    rows.iter()
+        .zip(right)
+        .position(|pair| !is_same_row(pair.0, &pair.1.borrowed()))
 }
 
 fn is_same_row(row: &BorrowedRow<'_>, right: &BorrowedRow<'_>) -> bool

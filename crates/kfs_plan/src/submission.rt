@@ -3,7 +3,7 @@ ghost use Rattle.std.specs.Prelude.{◌≡◌};
 ghost use Rattle.kfs_plan.specs.declared.submission.Why.TheVariants.{OutOfMemory};
 
 use crate::rows::RowFault;
-use kfs_entry::{Log, Name, Plan, SpellFault};
+use kfs_entry::{KeptName, Log, Name, Plan, SpellFault};
 use kfs_image_nodes::Net;
 use kfs_judge::EntryFault;
 use std::alloc::{AllocError, Allocator};
@@ -59,6 +59,9 @@ pub enum Outcome<A: Allocator, N = Name> {
     /// The submission is refused.
     No(Fault),
 }
+
+/// The outcome in a verdict. Its names are kept in few bytes.
+pub type KeptOutcome<A> = Outcome<A, KeptName<A>>;
 
 /// Why a submission comes back without a verdict or an answer. Nothing has changed.
 #[derive(Clone, Copy, Debug, PartialEq, Eq, Error)]

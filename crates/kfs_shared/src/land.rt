@@ -10,7 +10,7 @@ use crate::pass::{Pass, Shared, Turn};
 use crate::seats::add_last;
 use crate::want::{SharedBack, SharedWant};
 use kfs_desk::{Desk, Landed, Reply};
-use kfs_plan::{Judged, Outcome, Why};
+use kfs_plan::{Judged, KeptOutcome, Why};
 use std::alloc::Allocator;
 use std::sync::Wait;
 
@@ -68,7 +68,7 @@ fn back_of<A: Allocator>(judged: Judged<A>, why: SharedWant) -> SharedBack<A>
 #[derive(Drop)]
 pub struct Spent<A: Allocator> {
     judged: Judged<A>,
-    again: Option<Outcome<A>>,
+    again: Option<KeptOutcome<A>>,
 }
 
 /// The reply to a verdict, or what comes back. A verdict that is answered goes to the list, if that has

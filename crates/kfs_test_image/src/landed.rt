@@ -3,6 +3,7 @@ ghost use Rattle.std.specs.Prelude.{◌≡◌, IfSome, OnErr};
 ghost use Rattle.kfs_mode.specs.Clients.{ClientsAreDistinct};
 ghost use Rattle.kfs_model.specs.Device.ShownTree.{IsLawful};
 ghost use Rattle.kfs_image.specs.Image as images;
+ghost use Rattle.kfs_image_nodes.specs.Lent.{IsSameNet};
 ghost use Rattle.kfs_image.specs.Net.{after_net};
 ghost use Rattle.kfs_judge.specs.Check.View.{contents_of};
 
@@ -11,6 +12,7 @@ use kfs_judge::View;
 use kfs_lease::{LeaseKind, Leases};
 use kfs_mode::Client;
 use kfs_plan::{Outcome, Submission, judge};
+use kfs_types::KeptName;
 use std::alloc::{AllocError, Allocator};
 use std::sync::Arc;
 
@@ -73,9 +75,21 @@ fn right_net<A: Allocator + Copy>(
     };
     let (_submission, outcome) = judged.into_parts();
     match outcome {
-        Outcome::Yes { net, .. } => Some(net),
+        Outcome::Yes { net, .. } => owned(alloc, net),
         Outcome::No(_) => None,
     }
+}
+
+/// The same net, with names of its own.
+fn owned<A: Allocator>(alloc: A, net: Net<A, KeptName<A>>) -> Option<Net<A>>
+    ensures { IfSome result (IsSameNet net.entry) }
+{
+    let Net { names: kept, nodes } = net;
+    let mut names = Vec::with_capacity(alloc, kept.len()).ok()?;
+    for row in kept.iter() {
+        names.push(row.borrowed().owned()).ok()?;
+    }
+    Some(Net { names, nodes })
 }
 
 /// The net of what client 7 hands in at the image.

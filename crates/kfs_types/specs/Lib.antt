@@ -1,3 +1,4 @@
+pub mod Kept
 pub mod Nested
 pub mod Padded
 pub mod Room

@@ -1,11 +1,12 @@
 //! Names where they lie in other bytes.
-ghost use Rattle.std.specs.Prelude.{◌≡◌, ◌↔◌, IsSome, IfSome, Some, nat_eq, refl, ⊤};
+ghost use Rattle.std.specs.Prelude.{◌≡◌, ◌↔◌, IsSome, IfOk, IfSome, Some, nat_eq, refl, ⊤};
 ghost use Rattle.std.specs.Ordering.{nat_cmp};
 ghost use Rattle.std.specs.Cmp.{partial_equiv_from_equiv};
 ghost use Rattle.std.specs.Cmp.Lexicographic.{pointwise, slice_cmp, nat_list_eq_equiv, nat_list_cmp_total, texts_po, texts_ties};
 
+use crate::kept_name::KeptName;
 use crate::name::Name;
-use std::alloc::AllocError;
+use std::alloc::{AllocError, Allocator};
 use std::cmp::Ordering;
 use std::fmt;
 use std::marker::Model;
@@ -118,6 +119,13 @@ impl<'s> BorrowedName<'s> {
         ensures { result ≡ self.now }
     {
         BorrowedName { bytes: self.bytes }
+    }
+
+    /// The same name, to be kept (`KeptName::of`). `Err` where memory runs out.
+    pub fn kept<A: Allocator>(&self, alloc: A) -> Result<KeptName<A>, AllocError>
+        ensures { IfOk result (λ kept. kept ≡ self.now) }
+    {
+        KeptName::of(alloc, self)
     }
 
     /// The same name as a value of its own. Takes no memory.

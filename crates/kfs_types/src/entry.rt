@@ -1,11 +1,12 @@
 //! Update logs and their entries ("Strata", SOSP 2017). The header of a node: all that it shows apart
 //! from its bytes.
-ghost use Rattle.std.specs.Prelude.{◌≡◌};
+ghost use Rattle.std.specs.Prelude.{◌≡◌, IfOk};
 
 use crate::borrowed_name::BorrowedName;
+use crate::kept_name::KeptName;
 use crate::name::Name;
 use crate::rows::RowList;
-use std::alloc::Allocator;
+use std::alloc::{AllocError, Allocator};
 
 /// A payload's place: the bytes from position `start` up to, but without, `end` of the bytes that the
 /// log was read from. Positions count from 0.
@@ -20,7 +21,7 @@ pub struct Span {
 /// One change that a client asks for. Nodes and directories are given by number. A log may hold any
 /// 32-bit number; the judge refuses those that fit no node of the tree. `P` is what stands for the
 /// payload of a Write: in a decoded log a `Span`. `N` is how a name stands in it: as a value, or where it
-/// lies in the log's bytes (`BorrowedName`).
+/// lies in the log's bytes (`BorrowedName`), or kept in few bytes (`KeptName`).
 #[derive(Clone, Debug, PartialEq, Eq, Drop)]
 pub enum Entry<P, N = Name> {
     /// Makes the empty node `number` with the name `name` in the directory `dir`, with the client's uid
@@ -84,6 +85,9 @@ pub enum Entry<P, N = Name> {
 /// An entry whose names lie in the bytes that its log was read from.
 pub type BorrowedEntry<'s> = Entry<Span, BorrowedName<'s>>;
 
+/// An entry whose names are kept.
+pub type KeptEntry<A> = Entry<Span, KeptName<A>>;
+
 /// A client's update log. The payloads are spans of the bytes that it was read from.
 #[derive(Debug, Drop)]
 pub struct Log<A: Allocator, N = Name> {
@@ -122,12 +126,10 @@ pub struct Header {
     pub size: u64,
 }
 
-impl<P: Copy> Entry<P, Name> {
-    /// The same entry, with its names where they lie in this one. Takes no memory.
-    pub fn borrowed(&self) -> Entry<P, BorrowedName<'_>>
-        ensures { result ≡ self.now }
-    {
-        match self {
+/// The same entry, with its names in another form: `$form` is the call on each of them.
+macro_rules! in_form {
+    ($entry:expr, $($form:tt)+) => {
+        match $entry {
             Entry::Create {
                 dir,
                 name,
@@ -136,7 +138,7 @@ impl<P: Copy> Entry<P, Name> {
                 mode,
             } => Entry::Create {
                 dir: *dir,
-                name: name.borrowed(),
+                name: name.$($form)+,
                 number: *number,
                 kind: *kind,
                 mode: *mode,
@@ -157,11 +159,11 @@ impl<P: Copy> Entry<P, Name> {
             Entry::Link { number, dir, name } => Entry::Link {
                 number: *number,
                 dir: *dir,
-                name: name.borrowed(),
+                name: name.$($form)+,
             },
             Entry::Unlink { dir, name, kind } => Entry::Unlink {
                 dir: *dir,
-                name: name.borrowed(),
+                name: name.$($form)+,
                 kind: *kind,
             },
             Entry::Rename {
@@ -171,9 +173,9 @@ impl<P: Copy> Entry<P, Name> {
                 new_name,
             } => Entry::Rename {
                 dir: *dir,
-                name: name.borrowed(),
+                name: name.$($form)+,
                 new_dir: *new_dir,
-                new_name: new_name.borrowed(),
+                new_name: new_name.$($form)+,
             },
             Entry::Chmod { number, mode } => Entry::Chmod {
                 number: *number,
@@ -184,6 +186,15 @@ impl<P: Copy> Entry<P, Name> {
                 group: *group,
             },
         }
+    };
+}
+
+impl<P: Copy> Entry<P, Name> {
+    /// The same entry, with its names where they lie in this one. Takes no memory.
+    pub fn borrowed(&self) -> Entry<P, BorrowedName<'_>>
+        ensures { result ≡ self.now }
+    {
+        in_form!(self, borrowed())
     }
 }
 
@@ -192,62 +203,13 @@ impl<'s, P: Copy> Entry<P, BorrowedName<'s>> {
     pub fn owned(&self) -> Entry<P, Name>
         ensures { result ≡ self.now }
     {
-        match self {
-            Entry::Create {
-                dir,
-                name,
-                number,
-                kind,
-                mode,
-            } => Entry::Create {
-                dir: *dir,
-                name: name.owned(),
-                number: *number,
-                kind: *kind,
-                mode: *mode,
-            },
-            Entry::Write {
-                number,
-                offset,
-                payload,
-            } => Entry::Write {
-                number: *number,
-                offset: *offset,
-                payload: *payload,
-            },
-            Entry::Truncate { number, size } => Entry::Truncate {
-                number: *number,
-                size: *size,
-            },
-            Entry::Link { number, dir, name } => Entry::Link {
-                number: *number,
-                dir: *dir,
-                name: name.owned(),
-            },
-            Entry::Unlink { dir, name, kind } => Entry::Unlink {
-                dir: *dir,
-                name: name.owned(),
-                kind: *kind,
-            },
-            Entry::Rename {
-                dir,
-                name,
-                new_dir,
-                new_name,
-            } => Entry::Rename {
-                dir: *dir,
-                name: name.owned(),
-                new_dir: *new_dir,
-                new_name: new_name.owned(),
-            },
-            Entry::Chmod { number, mode } => Entry::Chmod {
-                number: *number,
-                mode: *mode,
-            },
-            Entry::Regroup { number, group } => Entry::Regroup {
-                number: *number,
-                group: *group,
-            },
-        }
+        in_form!(self, owned())
+    }
+
+    /// The same entry, with names that are kept. `Err` where memory runs out.
+    pub fn kept<A: Allocator + Copy>(&self, alloc: A) -> Result<Entry<P, KeptName<A>>, AllocError>
+        ensures { IfOk result (λ kept. kept ≡ self.now) }
+    {
+        Ok(in_form!(self, kept(alloc)?))
     }
 }

@@ -1,8 +1,8 @@
-//! Lists of entries and name rows whose names are borrowed, and the same with names of their own.
+//! Lists of entries and name rows with their names in another form: borrowed, kept, or of their own.
 ghost use Rattle.std.specs.Prelude.{◌≡◌, IfOk};
 
-use crate::entry::{BorrowedEntry, Entry, Span};
-use crate::plan::{BorrowedRow, NameRow};
+use crate::entry::{BorrowedEntry, Entry, KeptEntry, Span};
+use crate::plan::{BorrowedRow, KeptRow, NameRow};
 use std::alloc::{AllocError, Allocator};
 
 /// The same entries, with names where they lie in these. `Err` where memory runs out.
@@ -19,18 +19,18 @@ pub fn borrowed_entries<A: Allocator>(
     Ok(borrowed)
 }
 
-/// The same entries, with names of their own. `Err` where memory runs out.
-pub fn owned_entries<A: Allocator>(
+/// The same entries, with names that are kept. `Err` where memory runs out.
+pub fn kept_entries<A: Allocator + Copy>(
     alloc: A,
     entries: &[BorrowedEntry<'_>],
-) -> Result<Vec<Entry<Span>, A>, AllocError>
-    ensures { IfOk result (λ owned. owned.items ≡ entries.now) }
+) -> Result<Vec<KeptEntry<A>, A>, AllocError>
+    ensures { IfOk result (λ kept. kept.items ≡ entries.now) }
 {
-    let mut owned = Vec::with_capacity(alloc, entries.len())?;
+    let mut kept = Vec::with_capacity(alloc, entries.len())?;
     for entry in entries {
-        owned.push(entry.owned())?;
+        kept.push(entry.kept(alloc)?)?;
     }
-    Ok(owned)
+    Ok(kept)
 }
 
 /// The same rows, with names where they lie in these. `Err` where memory runs out.
@@ -59,4 +59,18 @@ pub fn owned_rows<A: Allocator>(
         owned.push(row.owned())?;
     }
     Ok(owned)
+}
+
+/// The same rows, with names that are kept. `Err` where memory runs out.
+pub fn kept_rows<A: Allocator + Copy>(
+    alloc: A,
+    rows: &[BorrowedRow<'_>],
+) -> Result<Vec<KeptRow<A>, A>, AllocError>
+    ensures { IfOk result (λ kept. kept.items ≡ rows.now) }
+{
+    let mut kept = Vec::with_capacity(alloc, rows.len())?;
+    for row in rows {
+        kept.push(row.kept(alloc)?)?;
+    }
+    Ok(kept)
 }

@@ -9,6 +9,7 @@ mod borrowed_name;
 mod change;
 mod entry;
 mod forms;
+mod kept_name;
 mod limits;
 mod moves;
 mod name;
@@ -17,8 +18,9 @@ mod rows;
 
 pub use borrowed_name::BorrowedName;
 pub use change::{Change, Nothing};
-pub use entry::{BorrowedEntry, Entry, Header, Kind, Log, Span};
-pub use forms::{borrowed_entries, borrowed_rows, owned_entries, owned_rows};
+pub use entry::{BorrowedEntry, Entry, Header, KeptEntry, Kind, Log, Span};
+pub use forms::{borrowed_entries, borrowed_rows, kept_entries, kept_rows, owned_rows};
+pub use kept_name::KeptName;
 pub use limits::{
     BLOCK_LEN, BLOCK_SIZE, CLIMB_LIMIT, ENTRY_LIMIT, GREATEST_MODE, GREATEST_MODE_OF_VERSION_1,
     GREATEST_NUMBER, LATEST_VERSION, LINK_LIMIT, PAYLOAD_LIMIT, ROOT, SIZE_LIMIT, TIER_LIMIT,
@@ -26,5 +28,5 @@ pub use limits::{
 };
 pub use moves::{Move, MoveFault};
 pub use name::Name;
-pub use plan::{BorrowedRow, NameRow, NodeRow, Piece, Plan, Source};
+pub use plan::{BorrowedRow, KeptRow, NameRow, NodeRow, Piece, Plan, Source};
 pub use rows::RowList;

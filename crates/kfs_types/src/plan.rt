@@ -1,11 +1,12 @@
 //! Digest plans and their rows ("Strata", SOSP 2017: what is left of a log once it is coalesced).
-ghost use Rattle.std.specs.Prelude.{◌≡◌};
+ghost use Rattle.std.specs.Prelude.{◌≡◌, IfOk};
 
 use crate::borrowed_name::BorrowedName;
 use crate::entry::Header;
+use crate::kept_name::KeptName;
 use crate::name::Name;
 use crate::rows::RowList;
-use std::alloc::Allocator;
+use std::alloc::{AllocError, Allocator};
 
 /// The number that a name leads to after the log, where that differs from before. `N` is how the name
 /// stands in it, as in an `Entry`.
@@ -43,10 +44,37 @@ impl<'s> NameRow<BorrowedName<'s>> {
             number: self.number,
         }
     }
+
+    /// The same row, with a name that is kept. `Err` where memory runs out.
+    pub fn kept<A: Allocator>(&self, alloc: A) -> Result<KeptRow<A>, AllocError>
+        ensures { IfOk result (λ kept. kept ≡ self.now) }
+    {
+        Ok(NameRow {
+            dir: self.dir,
+            name: self.name.kept(alloc)?,
+            number: self.number,
+        })
+    }
+}
+
+impl<A: Allocator> NameRow<KeptName<A>> {
+    /// The same row, with its name where it lies in this one. Takes no memory.
+    pub fn borrowed(&self) -> BorrowedRow<'_>
+        ensures { result ≡ self.now }
+    {
+        NameRow {
+            dir: self.dir,
+            name: self.name.borrowed(),
+            number: self.number,
+        }
+    }
 }
 
 /// A row whose name lies in other bytes.
 pub type BorrowedRow<'s> = NameRow<BorrowedName<'s>>;
+
+/// A row whose name is kept.
+pub type KeptRow<A> = NameRow<KeptName<A>>;
 
 /// The header that a node has after the log, where that differs from before.
 #[derive(Clone, Copy, Debug, PartialEq, Eq)]

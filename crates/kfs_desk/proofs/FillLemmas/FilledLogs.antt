@@ -22,7 +22,7 @@ free_are : (s : State) (sizes : TierSizes) (placement : Placement) → s.sizes �
 unfolding free_places
 free_are s sizes placement same_sizes same_placement = λ i. unused_places (same_sizes i) (same_placement i) 0
 
-module _ {A : Type 0} (image : DeviceImage) (log : LogBytes) (nodes : List NodeRow) (blocks : List (ℕ × ℕ)) (places : List ℕ) (fill : Fill A) where
+module _ {A : Type 0} (image : DeviceImage) (log : LogBytes A) (nodes : List NodeRow) (blocks : List (ℕ × ℕ)) (places : List ℕ) (fill : Fill A) where
   -- with the places of the rows
   places_are : map (λ (r : BlockRow A). r.place) fill.rows.items ≡ map in_first_tier places → places_of fill.rows.items ≡ places
   places_are laid = sym (map-map (λ (p : Place). p.place) (λ (r : BlockRow A). r.place) fill.rows.items) ∙ ap (map (λ (p : Place). p.place)) laid ∙ map-map (λ (p : Place). p.place) in_first_tier places ∙ map-id places

@@ -17,19 +17,19 @@ use Rattle.kfs_desk.specs.declared.fill.bytes.Entries.TheVariants as kinds
 use Rattle.kfs_desk.specs.declared.fill.bytes.LogBytes.{LogBytes}
 
 -- the entries, however their names are held
-abbrev pub entries_in : Entries → List (CodeEntry Span (List ℕ))
-entries_in (kinds.Owned entries) = entries.now
+abbrev pub entries_in : {A : Type 0} → Entries A → List (CodeEntry Span (List ℕ))
 entries_in (kinds.Borrowed entries) = entries.now
+entries_in (kinds.Kept entries) = entries.now
 
 -- a log's entries, with the bytes of their payloads
-abbrev pub entries_of : LogBytes → List Entry
+abbrev pub entries_of : {A : Type 0} → LogBytes A → List Entry
 entries_of log = map (entry_of log.source.now) (entries_in log.entries)
 
-abbrev pub pieces_of : LogBytes → List Piece
+abbrev pub pieces_of : {A : Type 0} → LogBytes A → List Piece
 pieces_of log = map piece_of log.pieces.now
 
 -- each payload lies in the source
-abbrev pub HasPayloads : LogBytes → Type 0
+abbrev pub HasPayloads : {A : Type 0} → LogBytes A → Type 0
 HasPayloads log = AllByRecursion (IsWithin (length log.source.now)) (entries_in log.entries)
 
 -- these are the bytes of a file from position `start` on; behind its end they are 0

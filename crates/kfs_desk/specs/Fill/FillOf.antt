@@ -57,18 +57,18 @@ pub record Fills {A : Type 0} (s : State) (entries : List Entry) (pieces : List 
 
 -- Take any run of the log from the state that the image shows. If the pieces are right for it, the node
 -- rows lead to its headers, and there is room for its written blocks, then the fill is right for it.
-abbrev pub IsFillOf : {A : Type 0} → DeviceImage → LogBytes → List NodeRow → Fill A → Type 0
+abbrev pub IsFillOf : {A : Type 0} → DeviceImage → LogBytes A → List NodeRow → Fill A → Type 0
 IsFillOf image log nodes fill =
     (s : State) (after : Tree ℕ) (marked_after : Tree Mark) → s.tree ≡ shown_tree image → s.placement ≡ image.placement → s.sizes ≡ image.sizes
     → headers marked_after ≡ headers after → reheaded image.heads nodes ≡ headers after → ArePieces marked_after (pieces_of log)
     → need marked_after ≤ length (unused_places image.sizes image.placement 0) → Fills s (entries_of log) (pieces_of log) after marked_after fill
 
 -- the net can be applied with any right fill of the log
-abbrev pub CanLandWith : {A : Type 0} → DeviceImage → LogBytes → Net A (List ℕ) → Type 0
+abbrev pub CanLandWith : {A : Type 0} → DeviceImage → LogBytes A → Net A (List ℕ) → Type 0
 CanLandWith {A} image log net = (fill : Fill A) → IsFillOf image log net.nodes.items fill → CanApply net fill image
 
 -- the net was applied, with a right fill of the log
-pub record HasLandedWith {A : Type 0} (old : DeviceImage) (log : LogBytes) (net : Net A (List ℕ)) (new : DeviceImage) : Type 0 where
+pub record HasLandedWith {A : Type 0} (old : DeviceImage) (log : LogBytes A) (net : Net A (List ℕ)) (new : DeviceImage) : Type 0 where
   pub fill : Fill A
   pub is : IsFillOf old log net.nodes.items fill
   pub made : new ≡ applied net fill old

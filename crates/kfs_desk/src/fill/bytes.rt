@@ -8,25 +8,25 @@ ghost use Rattle.kfs_model.specs.Device.ShownTree.{shown_tree};
 ghost use Rattle.kfs_desk.specs.Fill.Fill.{block_after};
 
 use kfs_image::{Image, read_file};
-use kfs_types::{BLOCK_LEN, BLOCK_SIZE, BorrowedEntry, Entry, Piece, Source, Span};
+use kfs_types::{BLOCK_LEN, BLOCK_SIZE, BorrowedEntry, Entry, KeptEntry, Piece, Source};
 use std::alloc::{AllocError, Allocator};
 
 /// A log's entries, by reference.
-#[derive(Clone, Copy)]
-pub enum Entries<'a, 's> {
-    /// With names of their own.
-    Owned(&'a [Entry<Span>]),
+#[derive_where(Clone, Copy)]
+pub enum Entries<'a, 's, A: Allocator> {
     /// With names where they lie in the log's bytes.
     Borrowed(&'a [BorrowedEntry<'s>]),
+    /// With names that are kept.
+    Kept(&'a [KeptEntry<A>]),
 }
 
 /// A log, and the pieces that say which bytes it changes.
-#[derive(Clone, Copy)]
-pub struct LogBytes<'a, 's> {
+#[derive_where(Clone, Copy)]
+pub struct LogBytes<'a, 's, A: Allocator> {
     /// The bytes that the log was read from.
     pub source: &'a [u8],
     /// The log's entries.
-    pub entries: Entries<'a, 's>,
+    pub entries: Entries<'a, 's, A>,
     /// Its pieces, ascending by file number and position.
     pub pieces: &'a [Piece],
 }
@@ -48,13 +48,13 @@ macro_rules! payload_at {
 }
 
 /// The payload of the entry with this index; empty where the entry isn't a Write, or there is none.
-fn payload<'a>(log: &LogBytes<'a, '_>, entry: u16) -> &'a [u8]
+fn payload<'a, A: Allocator>(log: &LogBytes<'a, '_, A>, entry: u16) -> &'a [u8]
     requires { HasPayloads log.now }
     ensures { result.now ≡ payload_of (slice_get (entries_of log.now) entry) }
 {
     match log.entries {
-        Entries::Owned(entries) => payload_at!(log, entries, entry),
         Entries::Borrowed(entries) => payload_at!(log, entries, entry),
+        Entries::Kept(entries) => payload_at!(log, entries, entry),
     }
 }
 
@@ -75,7 +75,12 @@ fn put_bytes(bytes: &mut [u8], payload: &[u8])
 }
 
 /// Fills the bytes from a piece's source, from `distance` bytes behind the piece's start on.
-fn put_source(bytes: &mut [u8], log: &LogBytes<'_, '_>, source: Source, distance: usize)
+fn put_source<A: Allocator>(
+    bytes: &mut [u8],
+    log: &LogBytes<'_, '_, A>,
+    source: Source,
+    distance: usize,
+)
     requires { HasPayloads log.now }
     ensures { AreGivenBy (entries_of log.now) (source_of source) distance bytes.new }
 {
@@ -89,7 +94,13 @@ fn put_source(bytes: &mut [u8], log: &LogBytes<'_, '_>, source: Source, distance
 }
 
 /// Lays a piece over the bytes, which are the file's from position `start` on.
-fn put_piece(bytes: &mut [u8], log: &LogBytes<'_, '_>, piece: &Piece, number: u32, start: u64)
+fn put_piece<A: Allocator>(
+    bytes: &mut [u8],
+    log: &LogBytes<'_, '_, A>,
+    piece: &Piece,
+    number: u32,
+    start: u64,
+)
     requires { HasPayloads log.now }
     ensures { ArePut (entries_of log.now) (piece_of piece.now ∷ []) number start bytes.old bytes.new }
 {
@@ -110,7 +121,12 @@ fn put_piece(bytes: &mut [u8], log: &LogBytes<'_, '_>, piece: &Piece, number: u3
 
 /// Lays the pieces over the bytes, which are the file's from position `start` on. A byte in several
 /// pieces is that of the first one.
-pub(crate) fn put_pieces(bytes: &mut [u8], log: &LogBytes<'_, '_>, number: u32, start: u64)
+pub(crate) fn put_pieces<A: Allocator>(
+    bytes: &mut [u8],
+    log: &LogBytes<'_, '_, A>,
+    number: u32,
+    start: u64,
+)
     requires { HasPayloads log.now }
     ensures { ArePut (entries_of log.now) (pieces_of log.now) number start bytes.old bytes.new }
 {
@@ -121,8 +137,8 @@ pub(crate) fn put_pieces(bytes: &mut [u8], log: &LogBytes<'_, '_>, number: u32, 
 
 /// The bytes of the block that begins at position `start` of the file, where one piece of a payload
 /// covers it. What stood there doesn't matter then.
-pub(crate) fn covering_bytes<'a>(
-    log: &LogBytes<'a, '_>,
+pub(crate) fn covering_bytes<'a, A: Allocator>(
+    log: &LogBytes<'a, '_, A>,
     number: u32,
     start: u64,
 ) -> Option<&'a [u8]>
@@ -152,7 +168,11 @@ fn covers_block(piece: &Piece, number: u32, start: u64) -> bool
 
 /// A block's bytes of a source, from `distance` bytes behind its piece's start on, if they are all of
 /// one payload.
-fn block_of<'a>(log: &LogBytes<'a, '_>, source: Source, distance: usize) -> Option<&'a [u8]>
+fn block_of<'a, A: Allocator>(
+    log: &LogBytes<'a, '_, A>,
+    source: Source,
+    distance: usize,
+) -> Option<&'a [u8]>
     requires { HasPayloads log.now }
     ensures whole { IfSome result (λ bytes. length bytes.now ≡ block_size) }
     ensures given { IfSome result (λ bytes. AreGivenBy (entries_of log.now) (source_of source) distance bytes.now) }
@@ -255,7 +275,7 @@ fn copy_into<A: Allocator>(memory: Vec<u8, A>, from: &[u8]) -> Result<Vec<u8, A>
 pub(crate) fn block_bytes<A: Allocator>(
     memory: Vec<u8, A>,
     image: &Image<A>,
-    log: &LogBytes<'_, '_>,
+    log: &LogBytes<'_, '_, A>,
     number: u32,
     block: u32,
 ) -> Result<Vec<u8, A>, AllocError>
@@ -279,7 +299,7 @@ pub(crate) fn block_bytes<A: Allocator>(
 fn patched_bytes<A: Allocator>(
     memory: Vec<u8, A>,
     image: &Image<A>,
-    log: &LogBytes<'_, '_>,
+    log: &LogBytes<'_, '_, A>,
     number: u32,
     block: u32,
 ) -> Result<Vec<u8, A>, AllocError>

@@ -119,7 +119,7 @@ fn file_blocks<A: Allocator + Copy>(
 pub(crate) fn fill_of<A: Allocator + Copy>(
     alloc: A,
     image: &Image<A>,
-    log: &LogBytes<'_, '_>,
+    log: &LogBytes<'_, '_, A>,
     nodes: &NodeChanges<'_, A>,
     spares: &mut Vec<Vec<u8, A>, A>,
 ) -> Result<Fill<A>, AllocError>
@@ -146,7 +146,7 @@ pub(crate) fn fill_of<A: Allocator + Copy>(
 pub fn land_bytes<A: Allocator + Copy>(
     alloc: A,
     image: &mut Image<A>,
-    log: &LogBytes<'_, '_>,
+    log: &LogBytes<'_, '_, A>,
     net: &LentNet<'_, '_, A>,
 ) -> Result<(), AllocError>
     requires payloads { HasPayloads log.now }

@@ -18,7 +18,7 @@ use std::alloc::{AllocError, Allocator};
 pub(crate) fn block_rows<A: Allocator + Copy>(
     alloc: A,
     image: &Image<A>,
-    log: &LogBytes<'_, '_>,
+    log: &LogBytes<'_, '_, A>,
     blocks: &[(u32, u32)],
     places: &[u32],
     spares: &mut Vec<Vec<u8, A>, A>,

@@ -6,17 +6,16 @@ ghost use Rattle.std.specs.Option.{option_map};
 ghost use Rattle.kfs_types.specs.Views.{header_of};
 ghost use Rattle.kfs_model.specs.Header.{Header as HeaderShown};
 ghost use Rattle.kfs_model.specs.Sight.{answer, Head, Number, Count, Held, CountOf, ParentOf, LeaseOn};
-ghost use Rattle.kfs_image_nodes.specs.declared.cell.Cell.TheVariants.{Name};
-ghost use Rattle.kfs_judge.specs.declared.check.reads.Read.TheVariants.{Look};
 ghost use Rattle.kfs_judge.specs.Check.Reads.{cell_of, answer_of};
 ghost use Rattle.kfs_judge.specs.Check.Climbs.{ClimbsHold};
 
 use crate::check::climbs::{Climbs, Way};
+use crate::check::kept_read::KeptRead;
 use crate::check::looks::Looks;
 use crate::check::record::Reads;
 use crate::check::view::View;
 use crate::draft::NameKey;
-use kfs_image_nodes::{Answer, Cell, Header};
+use kfs_image_nodes::{Answer, Cell, Header, Near};
 use std::alloc::{AllocError, Allocator};
 
 /// One thing that a judgement may read of a state, for its client.
@@ -41,6 +40,7 @@ pub enum ReadAnswer {
 /// record is refused; that read isn't recorded then.
 #[derive(Drop)]
 pub struct Recorder<'a, 'e, 's, A: Allocator> {
+    alloc: A,
     looks: Looks<'a, 'e, 's, A>,
     client: u32,
     reads: Reads<A>,
@@ -59,6 +59,7 @@ impl<'a, 'e, 's, A: Allocator + Copy> Recorder<'a, 'e, 's, A> {
         ensures seen { seen_by result ≡ client_sight_in view.now client }
     {
         Recorder {
+            alloc,
             looks: Looks::new(view),
             client,
             reads,
@@ -69,7 +70,7 @@ impl<'a, 'e, 's, A: Allocator + Copy> Recorder<'a, 'e, 's, A> {
     /// The recorded answer to a read, or else the view's, which is then recorded. Where reads aren't
     /// kept, it is the view's.
     #[inline(always)]
-    fn read(&mut self, read: Read) -> Result<ReadAnswer, AllocError>
+    fn read(&mut self, read: KeptRead<A>) -> Result<ReadAnswer, AllocError>
         ensures climbs { self.new.climbs ≡ self.old.climbs }
         ensures looks { AnswersLook self.old self.new result (cell_of read ∷ []) (λ told before. answer before (cell_of read) ≡ answer_of told) }
     {
@@ -82,10 +83,10 @@ impl<'a, 'e, 's, A: Allocator + Copy> Recorder<'a, 'e, 's, A> {
     }
 
     /// The same, where reads are kept.
-    // A function's frame is cleared at each call, and reads are long. So a read that isn't kept is answered
-    // without the frame of this function.
+    // A function's frame is cleared at each call. So a read that isn't kept is answered without the frame of
+    // this function.
     #[inline(never)]
-    fn read_kept(&mut self, read: Read) -> Result<ReadAnswer, AllocError>
+    fn read_kept(&mut self, read: KeptRead<A>) -> Result<ReadAnswer, AllocError>
         ensures climbs { self.new.climbs ≡ self.old.climbs }
         ensures looks { AnswersLook self.old self.new result (cell_of read ∷ []) (λ told before. answer before (cell_of read) ≡ answer_of told) }
     {
@@ -98,13 +99,11 @@ impl<'a, 'e, 's, A: Allocator + Copy> Recorder<'a, 'e, 's, A> {
     }
 
     /// The view's answer to a read.
-    fn view_answer(&self, read: &Read) -> ReadAnswer
+    fn view_answer(&self, read: &KeptRead<A>) -> ReadAnswer
         ensures { answer (seen_by self.now) (cell_of read.now) ≡ answer_of result }
     {
-        match read {
-            Read::Look(cell) => ReadAnswer::Look(self.looks.view.look(cell)),
-            Read::Lease(number) => ReadAnswer::Lease(self.looks.view.holds(self.client, *number)),
-        }
+        let mut near = Near::start();
+        self.looks.view.answer_near(self.client, read, &mut near)
     }
 
     /// The header of a node, or none.
@@ -115,9 +114,10 @@ impl<'a, 'e, 's, A: Allocator + Copy> Recorder<'a, 'e, 's, A> {
             return self.header_kept(number);
         }
         let header = self.looks.header(number);
-        let seen = Read::Look(Cell::Header(number));
-        self.reads
-            .see(&seen, &ReadAnswer::Look(Answer::Header(header)));
+        self.reads.see(
+            &KeptRead::header(number),
+            &ReadAnswer::Look(Answer::Header(header)),
+        );
         Ok(header)
     }
 
@@ -126,7 +126,7 @@ impl<'a, 'e, 's, A: Allocator + Copy> Recorder<'a, 'e, 's, A> {
     fn header_kept(&mut self, number: u32) -> Result<Option<Header>, AllocError>
         ensures { LooksAtHeader self.old self.new result number (λ header before. before.sight.head number ≡ option_map header_of header) }
     {
-        let answer = self.read_kept(Read::Look(Cell::Header(number)))?;
+        let answer = self.read_kept(KeptRead::header(number))?;
         Ok(header_in(answer))
     }
 
@@ -138,9 +138,7 @@ impl<'a, 'e, 's, A: Allocator + Copy> Recorder<'a, 'e, 's, A> {
             return self.target_kept(key);
         }
         let number = self.looks.target(key);
-        let seen = read_of(key);
-        self.reads
-            .see(&seen, &ReadAnswer::Look(Answer::Name(number)));
+        self.reads.see_name(key, &number);
         Ok(number)
     }
 
@@ -149,7 +147,7 @@ impl<'a, 'e, 's, A: Allocator + Copy> Recorder<'a, 'e, 's, A> {
     fn target_kept(&mut self, key: &NameKey<'e, 's>) -> Result<Option<u32>, AllocError>
         ensures { LooksAtName self.old self.new result key.now (λ number before. before.sight.name key.now.0 key.now.1 ≡ number) }
     {
-        let read = read_of(key);
+        let read = KeptRead::name(self.alloc, key)?;
         if let Some(answer) = self.reads.get(&read) {
             return Ok(number_in(answer));
         }
@@ -163,7 +161,7 @@ impl<'a, 'e, 's, A: Allocator + Copy> Recorder<'a, 'e, 's, A> {
     pub fn count(&mut self, dir: u32) -> Result<u64, AllocError>
         ensures { AnswersLook self.old self.new result (CountOf dir ∷ []) (λ count before. before.sight.count dir ≡ pos count) }
     {
-        let answer = self.read(Read::Look(Cell::Count(dir)))?;
+        let answer = self.read(KeptRead::count(dir))?;
         Ok(count_in(answer))
     }
 
@@ -172,7 +170,7 @@ impl<'a, 'e, 's, A: Allocator + Copy> Recorder<'a, 'e, 's, A> {
         ensures climbs { self.new.climbs ≡ self.old.climbs }
         ensures looks { AnswersLook self.old self.new result (ParentOf number ∷ []) (λ parent before. before.sight.parent number ≡ parent) }
     {
-        let answer = self.read(Read::Look(Cell::Parent(number)))?;
+        let answer = self.read(KeptRead::parent(number))?;
         Ok(number_in(answer))
     }
 
@@ -211,7 +209,7 @@ impl<'a, 'e, 's, A: Allocator + Copy> Recorder<'a, 'e, 's, A> {
     pub fn is_held(&mut self, number: u32) -> Result<bool, AllocError>
         ensures { AnswersLook self.old self.new result (LeaseOn number ∷ []) (λ held before. before.held number ≡ held) }
     {
-        let answer = self.read(Read::Lease(number))?;
+        let answer = self.read(KeptRead::lease(number))?;
         Ok(held_in(answer))
     }
 
@@ -221,14 +219,6 @@ impl<'a, 'e, 's, A: Allocator + Copy> Recorder<'a, 'e, 's, A> {
     {
         self.reads
     }
-}
-
-/// The read of a name.
-#[inline(always)]
-fn read_of(key: &NameKey<'_, '_>) -> Read
-    ensures { result ≡ Look (Name key.now.0 key.now.1) }
-{
-    Read::Look(Cell::Name(key.dir(), key.name().owned()))
 }
 
 /// The header in an answer.

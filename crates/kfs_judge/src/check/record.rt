@@ -1,18 +1,24 @@
-//! The reads that a judgement has made, with their answers. A read with its answer, which contracts
-//! alone see: it has no bytes.
+//! The reads that a judgement has made, with their answers.
 ghost use Rattle.std.specs.Prelude.{◌≡◌, true, false, List, [], ◌∷◌, ◌++◌, None, Some, OnErr, OnOk, IfSome, IfNone, is_some};
+ghost use Rattle.std.specs.Borrow.{ftrue};
 ghost use Rattle.std.specs.Map.{lookup};
 ghost use Rattle.indexmap.specs.IndexMap.{insert_entry};
 ghost use Rattle.kfs_judge.specs.Check.Kept.{keeps_reads};
+ghost use Rattle.kfs_image_nodes.specs.declared.cell.Cell.TheVariants.{Name};
+ghost use Rattle.kfs_image_nodes.specs.declared.cell.Answer.TheVariants as looks;
+ghost use Rattle.kfs_judge.specs.declared.check.reads.Read.{Read as ReadShown};
+ghost use Rattle.kfs_judge.specs.declared.check.reads.Read.TheVariants.{Look};
+ghost use Rattle.kfs_judge.specs.declared.check.reads.ReadAnswer.{ReadAnswer as AnswerShown};
+ghost use Rattle.kfs_judge.specs.declared.check.reads.ReadAnswer.TheVariants as answers;
 ghost use Rattle.kfs_judge.specs.Check.SameReads.{same_read};
 
-use crate::check::reads::{Read, ReadAnswer};
+use crate::check::kept_read::KeptRead;
+use crate::check::reads::ReadAnswer;
+use crate::draft::NameKey;
 use indexmap::IndexMap;
-use kfs_model::GhostList;
 use std::alloc::{AllocError, Allocator};
 use std::hash::{BuildHasherDefault, FoldHasher};
 use std::marker::Model;
-use std::snapshot::Snapshot;
 
 /// What a judgement keeps of its view.
 #[derive(Clone, Copy, Debug, PartialEq, Eq)]
@@ -24,7 +30,7 @@ pub enum Keeping {
 }
 
 /// Reads that are kept, each once, with their answers. They stand in the order in which they were made.
-pub type KeptReads<A> = IndexMap<Read, ReadAnswer, BuildHasherDefault<FoldHasher>, A>;
+pub type KeptReads<A> = IndexMap<KeptRead<A>, ReadAnswer, BuildHasherDefault<FoldHasher>, A>;
 
 /// The reads of a judgement with their answers, in order. Where they are kept, each stands there once.
 /// Where they aren't, contracts alone see them: they take no memory, and a read that is made again is
@@ -32,7 +38,7 @@ pub type KeptReads<A> = IndexMap<Read, ReadAnswer, BuildHasherDefault<FoldHasher
 #[derive(Drop)]
 pub struct Reads<A: Allocator> {
     kept: Option<KeptReads<A>>,
-    seen: GhostList<SeenRead>,
+    seen: SeenReads,
 }
 
 impl<A: Allocator> Model for Reads<A> {
@@ -54,11 +60,11 @@ impl<A: Allocator + Copy> Reads<A> {
         match keeping {
             Keeping::Reads => Reads {
                 kept: Some(IndexMap::new(alloc)),
-                seen: GhostList::none(),
+                seen: SeenReads::none(),
             },
             Keeping::Nothing => Reads {
                 kept: None,
-                seen: GhostList::none(),
+                seen: SeenReads::none(),
             },
         }
     }
@@ -71,7 +77,7 @@ impl<A: Allocator + Copy> Reads<A> {
     }
 
     /// The answer to a read that was made, if reads are kept.
-    pub fn get(&self, read: &Read) -> Option<ReadAnswer>
+    pub fn get(&self, read: &KeptRead<A>) -> Option<ReadAnswer>
         ensures found { IfSome result (λ answer. lookup (same_read read.now) self.now.entries ≡ Some answer) }
         ensures none { IfNone result (self.now.keeps ≡ true → lookup (same_read read.now) self.now.entries ≡ None) }
     {
@@ -88,21 +94,30 @@ impl<A: Allocator + Copy> Reads<A> {
 
     /// Adds a read that isn't kept, with its answer. At run time this is nothing.
     #[inline(always)]
-    pub(crate) fn see(&mut self, read: &Read, answer: &ReadAnswer)
+    pub(crate) fn see(&mut self, read: &KeptRead<A>, answer: &ReadAnswer)
         requires { self.old.keeps ≡ false }
         ensures { self.new ≡ record self.old { entries = self.old.entries ++ (read.now, answer.now) ∷ [] } }
     {
-        self.seen = self.seen.and(&SeenRead::of(read, answer));
+        self.seen = self.seen.and(read, answer);
+    }
+
+    /// The same of a name. The name isn't copied, as it would be in a read.
+    #[inline(always)]
+    pub(crate) fn see_name(&mut self, key: &NameKey<'_, '_>, number: &Option<u32>)
+        requires { self.old.keeps ≡ false }
+        ensures { self.new ≡ record self.old { entries = self.old.entries ++ (Look (Name key.now.0 key.now.1), answers.Look (looks.Name number.now)) ∷ [] } }
+    {
+        self.seen = self.seen.and_name(key, number);
     }
 
     /// Adds a read with its answer; one that isn't there yet, where reads are kept. `Err` where memory
     /// is refused; nothing is added then.
-    pub(crate) fn add(&mut self, read: Read, answer: ReadAnswer) -> Result<(), AllocError>
+    pub(crate) fn add(&mut self, read: KeptRead<A>, answer: ReadAnswer) -> Result<(), AllocError>
         requires { self.old.keeps ≡ true → lookup (same_read read) self.old.entries ≡ None }
         ensures ok { OnOk result (self.new ≡ record self.old { entries = self.old.entries ++ (read, answer) ∷ [] }) }
         ensures err { OnErr result (self.new ≡ self.old) }
     {
-        let seen = self.seen.and(&SeenRead::of(&read, &answer));
+        let seen = self.seen.and(&read, &answer);
         if let Some(map) = &mut self.kept {
             record(map, read, answer)?;
         }
@@ -112,12 +127,12 @@ impl<A: Allocator + Copy> Reads<A> {
 }
 
 /// Records an answer. `Err` where memory runs out; nothing is recorded then.
-// A function's frame is cleared at each call, and reads are long. So a read that is recorded already is
-// answered without the frame of this function.
+// A function's frame is cleared at each call. So a read that is recorded already is answered without the
+// frame of this function.
 #[inline(never)]
 fn record<A: Allocator + Copy>(
     reads: &mut KeptReads<A>,
-    read: Read,
+    read: KeptRead<A>,
     answer: ReadAnswer,
 ) -> Result<(), AllocError>
     ensures ok { OnOk result (reads.new.entries ≡ insert_entry same_read reads.old.entries read answer) }
@@ -127,30 +142,39 @@ fn record<A: Allocator + Copy>(
     Ok(())
 }
 
-/// A read with its answer. It takes no memory.
+/// Reads with their answers, in order. Contracts alone see them: they take no memory.
 #[derive(Drop)]
-pub(crate) struct SeenRead {
-    read: Snapshot<Read>,
-    answer: Snapshot<ReadAnswer>,
+pub(crate) struct SeenReads {
+    pub(crate) ghost items: { List (ReadShown × AnswerShown) },
 }
 
-impl Model for SeenRead {
-    ghost use Rattle.kfs_judge.specs.declared.check.reads.Read.{Read as ReadShown};
-    ghost use Rattle.kfs_judge.specs.declared.check.reads.ReadAnswer.{ReadAnswer as AnswerShown};
-
-    ghost Value = { ReadShown × AnswerShown };
-
-    ghost view = { λ seen. (seen.read.value, seen.answer.value) };
+impl Model for SeenReads {
+    ghost also_owns = { λ _. ftrue };
 }
 
-impl SeenRead {
-    /// This read with this answer. At run time this is nothing.
-    pub(crate) fn of(read: &Read, answer: &ReadAnswer) -> SeenRead
-        ensures { result ≡ (read.now, answer.now) }
+impl SeenReads {
+    /// No read.
+    fn none() -> SeenReads
+        ensures { result.items ≡ [] }
     {
-        SeenRead {
-            read: Snapshot::of(read),
-            answer: Snapshot::of(answer),
-        }
+        SeenReads {}
+    }
+
+    /// These reads and one more. At run time this is nothing.
+    #[inline(always)]
+    fn and<A: Allocator>(&self, read: &KeptRead<A>, answer: &ReadAnswer) -> SeenReads
+        ensures { result.items ≡ self.now.items ++ (read.now, answer.now) ∷ [] }
+    {
+        let _ = (read, answer);
+        SeenReads {}
+    }
+
+    /// These reads and that of a name. At run time this is nothing.
+    #[inline(always)]
+    fn and_name(&self, key: &NameKey<'_, '_>, number: &Option<u32>) -> SeenReads
+        ensures { result.items ≡ self.now.items ++ (Look (Name key.now.0 key.now.1), answers.Look (looks.Name number.now)) ∷ [] }
+    {
+        let _ = (key, number);
+        SeenReads {}
     }
 }

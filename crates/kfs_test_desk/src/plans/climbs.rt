@@ -129,8 +129,8 @@ fn fault(judged: &Judged<Global>) -> Option<Fault> {
 fn are_read_upwards(judged: &Judged<Global>) -> bool {
     let mut next = u32::from(LAST);
     for read in judged.reads().keys() {
-        if let Read::Look(Cell::Parent(number)) = read {
-            if *number != next {
+        if let Read::Look(Cell::Parent(number)) = read.read() {
+            if number != next {
                 return false;
             }
             next = next.saturating_sub(1);

@@ -6,9 +6,10 @@ use kfs_desk::{
     Unanswered, Why,
 };
 use kfs_entry::{ENTRY_LIMIT, Log, SpellFault, decode_log};
-use kfs_image::{Answer, Cell, Image, TierSizes};
+use kfs_image::{Answer, Image, TierSizes};
 use kfs_judge::{
-    EntryFault, FileSize, Keeping, Net, Read, ReadAnswer, Reason, View, Walk, judge_entries_keeping,
+    EntryFault, FileSize, Keeping, KeptRead, Net, ReadAnswer, Reason, View, Walk,
+    judge_entries_keeping,
 };
 use kfs_lease::LeaseFault;
 use kfs_mode::Client;
@@ -58,9 +59,9 @@ fn outcome(walk: &Walk<Global>) -> Differing {
 /// looked at.
 fn reads(walk: &Walk<Global>) -> [Option<ReadAnswer>; 3] {
     [
-        walk.reads.get(&Read::Lease(1)),
-        walk.reads.get(&Read::Look(Cell::Header(5))),
-        walk.reads.get(&Read::Look(Cell::Count(1))),
+        walk.reads.get(&KeptRead::lease(1)),
+        walk.reads.get(&KeptRead::header(5)),
+        walk.reads.get(&KeptRead::count(1)),
     ]
 }
 

@@ -3,7 +3,7 @@
 /// Logs and plans.
 pub mod entry {
     pub use kfs_entry::{
-        ENTRY_LIMIT, Entry, GREATEST_MODE, GREATEST_MODE_OF_VERSION_1, Header, Kind,
+        ENTRY_LIMIT, Entry, GREATEST_MODE, GREATEST_MODE_OF_VERSION_1, Header, KeptName, Kind,
         LATEST_VERSION, Log, Name, NameRow, NodeRow, PAYLOAD_LIMIT, Piece, Plan, RowList, Source,
         Span, SpellFault, decode_log, decode_plan, encode_log, encode_plan,
     };
@@ -50,16 +50,16 @@ pub mod lease {
 pub mod judge {
     pub use kfs_judge::laws::{cells_decide, clean_is_allowed, marks_give_bytes};
     pub use kfs_judge::{
-        Access, AccessFault, EntryFault, FileSize, Keeping, KeptReads, Net, Read, ReadAnswer,
-        Reads, Reason, View, Walk, judge_entries, judge_entries_keeping,
+        Access, AccessFault, EntryFault, FileSize, Keeping, KeptRead, KeptReads, Net, Read,
+        ReadAnswer, Reads, Reason, View, Walk, judge_entries, judge_entries_keeping,
     };
 }
 
 /// Submissions against a view.
 pub mod plan {
     pub use kfs_plan::{
-        Back, Fault, Judged, Outcome, RowFault, Submission, Why, check_plan, judge, judge_bytes,
-        sweep,
+        Back, Fault, Judged, KeptOutcome, Outcome, RowFault, Submission, Why, check_plan, judge,
+        judge_bytes, kept_outcome, sweep,
     };
 }
 

@@ -13,4 +13,4 @@ returns-clause-verdict g c =
     let found = c.in_ok-outcome.outcome in
     let path : submission_with client c.as_slice.result.now c.as_slice-2.result.now ≡ submission_of c.args.judged.now.submission =
     (λ i. submission_with client (c.as_slice.ensures.value i) (c.as_slice-2.ensures.value i)) ∙ ap submission_of c.submission-submission.ensures in
-    same_verdict state (submission_of c.args.judged.now.submission) found c.in_ok-owned.owned c.in_ok-owned.ensures (subst (λ (submission : Submission). IsVerdict state submission found) path c.in_ok-outcome.ensures.verdict)
+    same_verdict state (submission_of c.args.judged.now.submission) found c.in_ok-kept.kept c.in_ok-kept.ensures (subst (λ (submission : Submission). IsVerdict state submission found) path c.in_ok-outcome.ensures.verdict)

@@ -7,8 +7,12 @@ ghost use Rattle.kfs_model.specs.Table.{get};
 ghost use Rattle.kfs_model.specs.Tree.{target};
 ghost use Rattle.kfs_types.specs.Views.{header_of};
 ghost use Rattle.kfs_mode.specs.Clients.{ClientsAreDistinct};
-ghost use Rattle.kfs_judge.specs.Check.View.{contents_of, leases_of, clients_of};
+ghost use Rattle.kfs_model.specs.Sight.{answer};
+ghost use Rattle.kfs_judge.specs.Check.Reads.{answer_of, cell_of};
+ghost use Rattle.kfs_judge.specs.Check.View.{contents_of, leases_of, clients_of, client_sight_in};
 
+use crate::check::kept_read::{KeptRead, Place};
+use crate::check::reads::ReadAnswer;
 use crate::check::view::View;
 use kfs_image_nodes::{Answer, Cell, Header, Name, Near, Shape, look};
 use kfs_lease::Leases;
@@ -64,6 +68,23 @@ impl<A: Allocator + Copy> View<A> {
         ensures { result ≡ target (contents_of self.now).names key.now.0 key.now.1 }
     {
         self.shape.target_near(near, key)
+    }
+
+    /// The view's answer to a read of the client with this number, for reads of names that are made one
+    /// after another (`target_near`). Takes no memory.
+    pub fn answer_near(&self, client: u32, read: &KeptRead<A>, near: &mut Near) -> ReadAnswer
+        ensures { answer (client_sight_in self.now client) (cell_of read.now) ≡ answer_of result }
+    {
+        match read.place() {
+            Place::Header(number) => ReadAnswer::Look(Answer::Header(self.header(*number))),
+            Place::Name(dir, name) => {
+                let key = (*dir, name.owned());
+                ReadAnswer::Look(Answer::Name(self.target_near(near, &key)))
+            }
+            Place::Count(dir) => ReadAnswer::Look(Answer::Count(self.shape.count(*dir))),
+            Place::Parent(number) => ReadAnswer::Look(Answer::Parent(self.shape.parent(*number))),
+            Place::Lease(number) => ReadAnswer::Lease(self.holds(client, *number)),
+        }
     }
 
     /// Where the last name of the view was changed: a place to begin with for `target_near`.

@@ -27,3 +27,8 @@ pub returns-in-Borrowed : goal.returns-in-Borrowed
 returns-in-Borrowed c =
     subst (λ right. c.at_end-in-Borrowed.result ≡ apart_in c.args.rows.now (rows_in right)) (sym c.in-Borrowed.is)
     (c.at_end-in-Borrowed.ensures ∙ apart c.args.rows.now _ _ c.first_unlike_borrowed-differs.ensures)
+
+pub returns-in-Kept : goal.returns-in-Kept
+returns-in-Kept c =
+    subst (λ right. c.at_end-in-Kept.result ≡ apart_in c.args.rows.now (rows_in right)) (sym c.in-Kept.is)
+    (c.at_end-in-Kept.ensures ∙ apart c.args.rows.now _ _ c.first_unlike_kept-differs.ensures)

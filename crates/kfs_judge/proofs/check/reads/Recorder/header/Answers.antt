@@ -10,7 +10,7 @@ use Rattle.kfs_judge.specs.declared.check.reads.ReadAnswer.TheVariants as answer
 use Rattle.kfs_image_nodes.specs.declared.cell.Cell.TheVariants as cells
 use Rattle.kfs_image_nodes.specs.declared.cell.Answer.TheVariants as looks
 use Rattle.kfs_judge.proofs.CheckLemmas.ReadsAgree.{grows_by_one}
-use Rattle.kfs_judge.proofs.CheckLemmas.OneLook.{unkept_look}
+use Rattle.kfs_judge.proofs.CheckLemmas.OneLook.{unkept_look, read_as}
 use Rattle.kfs_judge.proofs.CheckLemmas.Ways.{hold_further}
 use Rattle.kfs_judge.proofs.check.reads.Recorder.header.Goals as goal
 
@@ -23,7 +23,7 @@ pub returns : goal.returns
 returns g c =
     let header = c.header-header.result in
     unkept_look c.args.self.now _ (Look (cells.Header c.args.number)) (answers.Look (looks.Header header))
-    (ap (λ (r : ReadsShown). r.entries) c.see.ensures)
+    (read_as c.args.self.now.reads.entries (answers.Look (looks.Header header)) c.header.ensures (ap (λ (r : ReadsShown). r.entries) c.see.ensures))
     (ap (λ (r : ReadsShown). r.keeps) c.see.ensures)
     (ap (λ view. client_sight_in view c.args.self.now.client) c.header-header.ensures.same)
     (ap Head (sym c.header-header.ensures.header))

@@ -9,14 +9,14 @@ use Rattle.kfs_judge.specs.declared.check.reads.ReadAnswer.TheVariants as answer
 use Rattle.kfs_image_nodes.specs.declared.cell.Cell.TheVariants.{Name}
 use Rattle.kfs_image_nodes.specs.declared.cell.Answer.TheVariants as looks
 use Rattle.kfs_judge.proofs.CheckLemmas.ReadsAgree.{grows_by_one}
-use Rattle.kfs_judge.proofs.CheckLemmas.OneLook.{unkept_look, read_as}
+use Rattle.kfs_judge.proofs.CheckLemmas.OneLook.{unkept_look}
 use Rattle.kfs_judge.proofs.CheckLemmas.Ways.{hold_further}
 use Rattle.kfs_judge.proofs.check.reads.Recorder.target.Goals as goal
 
 pub invariant_of-self : goal.invariant_of-self
 invariant_of-self g c =
-    let last = ap (λ (r : ReadsShown). r.entries) c.see.ensures in
-    record { ways = hold_further c.args.self.now.reads.entries c.see.new.self.entries c.args.self.now.climbs (grows_by_one _ _ _ _ last) c.args.self.now.ways }
+    let last = ap (λ (r : ReadsShown). r.entries) c.see_name.ensures in
+    record { ways = hold_further c.args.self.now.reads.entries c.see_name.new.self.entries c.args.self.now.climbs (grows_by_one _ _ _ _ last) c.args.self.now.ways }
 
 pub returns : goal.returns
 returns g c =
@@ -25,8 +25,8 @@ returns g c =
     let number = c.target-number.result in
     let told = answers.Look (looks.Name number) in
     unkept_look c.args.self.now _ (Look (Name d m)) told
-    (read_as c.args.self.now.reads.entries told c.read_of-seen.ensures (ap (λ (r : ReadsShown). r.entries) c.see.ensures))
-    (ap (λ (r : ReadsShown). r.keeps) c.see.ensures)
+    (ap (λ (r : ReadsShown). r.entries) c.see_name.ensures)
+    (ap (λ (r : ReadsShown). r.keeps) c.see_name.ensures)
     (ap (λ view. client_sight_in view c.args.self.now.client) c.target-number.ensures.same)
     (ap Number (sym c.target-number.ensures.target))
     number (λ found before. before.sight.name d m ≡ found)

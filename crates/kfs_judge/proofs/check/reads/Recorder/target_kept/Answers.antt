@@ -17,7 +17,7 @@ use Rattle.kfs_judge.proofs.check.reads.Recorder.target_kept.Goals as goal
 pub invariant_of-self : goal.invariant_of-self
 invariant_of-self g c =
     let told = answers.Look (looks.Name c.target-number.result) in
-    record { ways = hold_added c.args.self.now.climbs c.add.result c.args.self.now.reads c.add.new.self c.read_of-read.result told c.add.ensures.ok c.add.ensures.err c.args.self.now.ways }
+    record { ways = hold_added c.args.self.now.climbs c.add.result c.args.self.now.reads c.add.new.self c.in_ok-read.read told c.add.ensures.ok c.add.ensures.err c.args.self.now.ways }
 
 pub returns-in-Some : goal.returns-in-Some
 returns-in-Some g c =
@@ -26,7 +26,7 @@ returns-in-Some g c =
     record {
       goes = goes_nowhere c.args.self.now;
       known = λ state agrees.
-          c.number_in.ensures (state.sight.name d m) (ap (λ read. answer state (cell_of read)) (sym c.read_of-read.ensures) ∙ known_by_key _ c.read_of-read.result _ (sym c.in-Some.ensures.found) state agrees);
+          c.number_in.ensures (state.sight.name d m) (ap (λ read. answer state (cell_of read)) (sym c.in_ok-read.ensures) ∙ known_by_key _ c.in_ok-read.read _ (sym c.in-Some.ensures.found) state agrees);
       among = within_same c.args.self.now.reads.entries (NameIn d m ∷ []);
     }
 
@@ -39,12 +39,12 @@ returns g c =
     let old = c.args.self.now in
     let last = ap (λ (r : ReadsShown). r.entries) c.in_ok-add.ensures.ok in
     looks_at_one old _ (Look (Name d m)) told
-    (read_as old.reads.entries told c.read_of-read.ensures last)
+    (read_as old.reads.entries told c.in_ok-read.ensures last)
     (ap (λ (r : ReadsShown). r.keeps) c.in_ok-add.ensures.ok)
     (ap (λ view. client_sight_in view old.client) c.target-number.ensures.same)
     (ap Number (sym c.target-number.ensures.target))
     number (λ found before. before.sight.name d m ≡ found)
-    (λ kept. once_by_one old.reads.entries c.add.new.self.entries c.read_of-read.result told last (c.in_default.ensures.none kept))
+    (λ kept. once_by_one old.reads.entries c.add.new.self.entries c.in_ok-read.read told last (c.in_default.ensures.none kept))
     leads
   where
     leads : (state : ClientSight) → answer state (cell_of (Look (Name c.args.key.now.0 c.args.key.now.1))) ≡ answer_of (answers.Look (looks.Name c.target-number.result)) → state.sight.name c.args.key.now.0 c.args.key.now.1 ≡ c.target-number.result
