@@ -126,7 +126,7 @@ pub fn decode_log<A: Allocator>(alloc: A, source: &[u8]) -> Result<Log<A>, Spell
     log_in(alloc, source)
 }
 
-/// The same, with names where they lie in `source`: an entry is 56 bytes long then, and 528 with names
+/// The same, with names where they lie in `source`: an entry is 48 bytes long then, and 528 with names
 /// of its own.
 pub fn decode_borrowed_log<A: Allocator>(
     alloc: A,

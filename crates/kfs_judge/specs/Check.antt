@@ -8,4 +8,5 @@ pub mod Reads
 pub mod Recall
 pub mod Recorders
 pub mod SameReads
+pub mod SeenReads
 pub mod View

@@ -1,5 +1,5 @@
 -- A look that reads one cell more.
-use Rattle.std.specs.Prelude.{◌≡◌, true, false, Ok, List, ◌++◌, ◌∷◌, []}
+use Rattle.std.specs.Prelude.{◌≡◌, true, false, Result, Ok, List, ◌++◌, ◌∷◌, []}
 use Rattle.std.proofs.Common.{ap, sym, subst, ◌∙◌}
 use mathlib.Core.Bool.{true≢false}
 use Rattle.kfs_model.specs.Sight.{ClientSight, answer}
@@ -39,3 +39,9 @@ module _ {A : Type 0} (old new : Recorder A) (read : Read) (told : ReadAnswer) (
   pub unkept_look : {X E : Type 0} (x : X) (says : X → ClientSight → Type 0) → old.reads.keeps ≡ false
       → ((state : ClientSight) → answer state (cell_of read) ≡ answer_of told → says x state) → AnswersLook {E = E} old new (Ok x) (cell_of read ∷ []) says
   unkept_look x says unkept leads = looks_at_one x says (λ kept. absurd (true≢false (sym kept ∙ unkept))) leads
+
+-- a look at a read is one at the same read, said otherwise
+pub looks_as : {A E : Type 0} {read same : Read} (old new : Recorder A) (result : Result ReadAnswer E) → read ≡ same
+    → AnswersLook old new result (cell_of read ∷ []) (λ told before. answer before (cell_of read) ≡ answer_of told)
+    → AnswersLook old new result (cell_of same ∷ []) (λ told before. answer before (cell_of same) ≡ answer_of told)
+looks_as old new result is looks = subst (λ (r : Read). AnswersLook old new result (cell_of r ∷ []) (λ told before. answer before (cell_of r) ≡ answer_of told)) is looks

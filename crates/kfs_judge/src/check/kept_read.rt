@@ -17,7 +17,7 @@ use std::hash::{Hash, Hasher};
 use std::marker::Model;
 
 /// A read as a record keeps it. Its name is kept (`KeptName`), so it is 40 bytes long, and a `Read` is
-/// 272. For contracts it is the read.
+/// 268. For contracts it is the read.
 #[derive(Debug, Drop)]
 pub struct KeptRead<A: Allocator> {
     place: Place<A>,
@@ -34,6 +34,7 @@ pub(crate) enum Place<A: Allocator> {
 }
 
 impl<A: Allocator> Model for KeptRead<A> {
+    ghost use Rattle.kfs_judge.specs.Check.KeptReads.{read_at};
     ghost use Rattle.kfs_judge.specs.declared.check.reads.Read.{Read as ReadShown};
 
     ghost Value = { ReadShown };

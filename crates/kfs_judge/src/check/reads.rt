@@ -114,10 +114,9 @@ impl<'a, 'e, 's, A: Allocator + Copy> Recorder<'a, 'e, 's, A> {
             return self.header_kept(number);
         }
         let header = self.looks.header(number);
-        self.reads.see(
-            &KeptRead::header(number),
-            &ReadAnswer::Look(Answer::Header(header)),
-        );
+        let seen = KeptRead::header(number);
+        self.reads
+            .see(&seen, &ReadAnswer::Look(Answer::Header(header)));
         Ok(header)
     }
 
@@ -138,7 +137,7 @@ impl<'a, 'e, 's, A: Allocator + Copy> Recorder<'a, 'e, 's, A> {
             return self.target_kept(key);
         }
         let number = self.looks.target(key);
-        self.reads.see_name(key, &number);
+        self.reads.see_name(key, number);
         Ok(number)
     }
 

@@ -1,24 +1,24 @@
 //! The reads that a judgement has made, with their answers.
 ghost use Rattle.std.specs.Prelude.{◌≡◌, true, false, List, [], ◌∷◌, ◌++◌, None, Some, OnErr, OnOk, IfSome, IfNone, is_some};
-ghost use Rattle.std.specs.Borrow.{ftrue};
 ghost use Rattle.std.specs.Map.{lookup};
 ghost use Rattle.indexmap.specs.IndexMap.{insert_entry};
 ghost use Rattle.kfs_judge.specs.Check.Kept.{keeps_reads};
 ghost use Rattle.kfs_image_nodes.specs.declared.cell.Cell.TheVariants.{Name};
 ghost use Rattle.kfs_image_nodes.specs.declared.cell.Answer.TheVariants as looks;
-ghost use Rattle.kfs_judge.specs.declared.check.reads.Read.{Read as ReadShown};
 ghost use Rattle.kfs_judge.specs.declared.check.reads.Read.TheVariants.{Look};
-ghost use Rattle.kfs_judge.specs.declared.check.reads.ReadAnswer.{ReadAnswer as AnswerShown};
 ghost use Rattle.kfs_judge.specs.declared.check.reads.ReadAnswer.TheVariants as answers;
 ghost use Rattle.kfs_judge.specs.Check.SameReads.{same_read};
 
 use crate::check::kept_read::KeptRead;
-use crate::check::reads::ReadAnswer;
+use crate::check::reads::{Read, ReadAnswer};
 use crate::draft::NameKey;
 use indexmap::IndexMap;
+use kfs_image_nodes::{Answer, Cell};
+use kfs_model::GhostList;
 use std::alloc::{AllocError, Allocator};
 use std::hash::{BuildHasherDefault, FoldHasher};
 use std::marker::Model;
+use std::snapshot::Snapshot;
 
 /// What a judgement keeps of its view.
 #[derive(Clone, Copy, Debug, PartialEq, Eq)]
@@ -38,7 +38,7 @@ pub type KeptReads<A> = IndexMap<KeptRead<A>, ReadAnswer, BuildHasherDefault<Fol
 #[derive(Drop)]
 pub struct Reads<A: Allocator> {
     kept: Option<KeptReads<A>>,
-    seen: SeenReads,
+    seen: GhostList<SeenRead<A>>,
 }
 
 impl<A: Allocator> Model for Reads<A> {
@@ -60,11 +60,11 @@ impl<A: Allocator + Copy> Reads<A> {
         match keeping {
             Keeping::Reads => Reads {
                 kept: Some(IndexMap::new(alloc)),
-                seen: SeenReads::none(),
+                seen: GhostList::none(),
             },
             Keeping::Nothing => Reads {
                 kept: None,
-                seen: SeenReads::none(),
+                seen: GhostList::none(),
             },
         }
     }
@@ -98,16 +98,16 @@ impl<A: Allocator + Copy> Reads<A> {
         requires { self.old.keeps ≡ false }
         ensures { self.new ≡ record self.old { entries = self.old.entries ++ (read.now, answer.now) ∷ [] } }
     {
-        self.seen = self.seen.and(read, answer);
+        self.seen = self.seen.and(&SeenRead::of(read, answer));
     }
 
-    /// The same of a name. The name isn't copied, as it would be in a read.
+    /// The same of a name.
     #[inline(always)]
-    pub(crate) fn see_name(&mut self, key: &NameKey<'_, '_>, number: &Option<u32>)
+    pub(crate) fn see_name(&mut self, key: &NameKey<'_, '_>, number: Option<u32>)
         requires { self.old.keeps ≡ false }
-        ensures { self.new ≡ record self.old { entries = self.old.entries ++ (Look (Name key.now.0 key.now.1), answers.Look (looks.Name number.now)) ∷ [] } }
+        ensures { self.new ≡ record self.old { entries = self.old.entries ++ (Look (Name key.now.0 key.now.1), answers.Look (looks.Name number)) ∷ [] } }
     {
-        self.seen = self.seen.and_name(key, number);
+        self.seen = self.seen.and(&SeenRead::of_name(key, number));
     }
 
     /// Adds a read with its answer; one that isn't there yet, where reads are kept. `Err` where memory
@@ -117,7 +117,7 @@ impl<A: Allocator + Copy> Reads<A> {
         ensures ok { OnOk result (self.new ≡ record self.old { entries = self.old.entries ++ (read, answer) ∷ [] }) }
         ensures err { OnErr result (self.new ≡ self.old) }
     {
-        let seen = self.seen.and(&read, &answer);
+        let seen = self.seen.and(&SeenRead::of(&read, &answer));
         if let Some(map) = &mut self.kept {
             record(map, read, answer)?;
         }
@@ -142,39 +142,50 @@ fn record<A: Allocator + Copy>(
     Ok(())
 }
 
-/// Reads with their answers, in order. Contracts alone see them: they take no memory.
+/// A read with its answer, which contracts alone see.
 #[derive(Drop)]
-pub(crate) struct SeenReads {
-    pub(crate) ghost items: { List (ReadShown × AnswerShown) },
+pub(crate) struct SeenRead<A: Allocator> {
+    seen: Seen<A>,
 }
 
-impl Model for SeenReads {
-    ghost also_owns = { λ _. ftrue };
+#[derive(Drop)]
+enum Seen<A: Allocator> {
+    /// One that could be kept.
+    Kept(Snapshot<KeptRead<A>>, Snapshot<ReadAnswer>),
+    /// One whose name would take memory.
+    Name(Snapshot<Read>, Snapshot<ReadAnswer>),
 }
 
-impl SeenReads {
-    /// No read.
-    fn none() -> SeenReads
-        ensures { result.items ≡ [] }
+impl<A: Allocator> Model for SeenRead<A> {
+    ghost use Rattle.kfs_judge.specs.declared.check.reads.Read.{Read as ReadShown};
+    ghost use Rattle.kfs_judge.specs.declared.check.reads.ReadAnswer.{ReadAnswer as AnswerShown};
+    ghost use Rattle.kfs_judge.specs.Check.SeenReads.{pair_in};
+
+    ghost Value = { ReadShown × AnswerShown };
+
+    ghost view = { λ read. pair_in read.seen };
+}
+
+impl<A: Allocator> SeenRead<A> {
+    /// This read with this answer. At run time this is nothing.
+    #[inline(always)]
+    fn of(read: &KeptRead<A>, answer: &ReadAnswer) -> SeenRead<A>
+        ensures { result ≡ (read.now, answer.now) }
     {
-        SeenReads {}
+        SeenRead {
+            seen: Seen::Kept(Snapshot::of(read), Snapshot::of(answer)),
+        }
     }
 
-    /// These reads and one more. At run time this is nothing.
+    /// The read of this name. At run time this is nothing, since nobody looks at the copy of the name.
     #[inline(always)]
-    fn and<A: Allocator>(&self, read: &KeptRead<A>, answer: &ReadAnswer) -> SeenReads
-        ensures { result.items ≡ self.now.items ++ (read.now, answer.now) ∷ [] }
+    fn of_name(key: &NameKey<'_, '_>, number: Option<u32>) -> SeenRead<A>
+        ensures { result ≡ (Look (Name key.now.0 key.now.1), answers.Look (looks.Name number)) }
     {
-        let _ = (read, answer);
-        SeenReads {}
-    }
-
-    /// These reads and that of a name. At run time this is nothing.
-    #[inline(always)]
-    fn and_name(&self, key: &NameKey<'_, '_>, number: &Option<u32>) -> SeenReads
-        ensures { result.items ≡ self.now.items ++ (Look (Name key.now.0 key.now.1), answers.Look (looks.Name number.now)) ∷ [] }
-    {
-        let _ = (key, number);
-        SeenReads {}
+        let read = Read::Look(Cell::Name(key.dir(), key.name().owned()));
+        let answer = ReadAnswer::Look(Answer::Name(number));
+        SeenRead {
+            seen: Seen::Name(Snapshot::of(&read), Snapshot::of(&answer)),
+        }
     }
 }

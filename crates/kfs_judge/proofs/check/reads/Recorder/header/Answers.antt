@@ -23,7 +23,7 @@ pub returns : goal.returns
 returns g c =
     let header = c.header-header.result in
     unkept_look c.args.self.now _ (Look (cells.Header c.args.number)) (answers.Look (looks.Header header))
-    (read_as c.args.self.now.reads.entries (answers.Look (looks.Header header)) c.header.ensures (ap (λ (r : ReadsShown). r.entries) c.see.ensures))
+    (read_as c.args.self.now.reads.entries (answers.Look (looks.Header header)) c.header-seen.ensures (ap (λ (r : ReadsShown). r.entries) c.see.ensures))
     (ap (λ (r : ReadsShown). r.keeps) c.see.ensures)
     (ap (λ view. client_sight_in view c.args.self.now.client) c.header-header.ensures.same)
     (ap Head (sym c.header-header.ensures.header))

@@ -26,6 +26,6 @@ invariant_of-self-2 g c = elim c.match-self.branch [
       let none : lookup (same_read read) map.entries ≡ None = subst (λ es. lookup (same_read read) es ≡ None) entries (c.requires keeps) in
       let last = w.in_ok-record.ensures.ok ∙ insert_entry-new same_read map read c.args.answer none in
       subst (λ inside. IfSome inside.kept (λ m. m.entries ≡ c.and-seen.result.items)) (sym w.self-inside-is)
-      (last ∙ ap (λ es. es ++ (read, c.args.answer) ∷ []) shown ∙ sym c.and-seen.ensures)
+      (last ∙ ap (λ es. es ++ (read, c.args.answer) ∷ []) shown ∙ ap (λ seen. c.self.inside.seen.items ++ seen ∷ []) (sym c.of.ensures) ∙ sym c.and-seen.ensures)
   | in_default w ↦ at_none (λ m. m.entries ≡ c.and-seen.result.items) c.match-self.self-inside.kept (ap (λ inside. inside.kept) w.self-inside-is ∙ w.in_default.is)
 ]

@@ -10,4 +10,4 @@ unkept P None is = tt
 unkept P (Some m) is = absurd (true≢false is)
 
 pub invariant_of-self : goal.invariant_of-self
-invariant_of-self g c = unkept (λ map. map.entries ≡ c.and_name-self-inside.result.items) c.self.inside.kept (ap (λ (r : ReadsShown). r.keeps) c.self.view_is ∙ c.requires)
+invariant_of-self g c = unkept (λ map. map.entries ≡ c.and-self-inside.result.items) c.self.inside.kept (ap (λ (r : ReadsShown). r.keeps) c.self.view_is ∙ c.requires)
