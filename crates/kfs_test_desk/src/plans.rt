@@ -3,5 +3,6 @@
 mod accepted;
 mod climbs;
 mod desks;
+mod kept_names;
 mod logs;
 mod refused;

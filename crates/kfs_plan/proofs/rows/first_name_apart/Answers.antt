@@ -19,16 +19,16 @@ apart rows right differs is =
     ∙ first_difference-map is_same_row (same_pair same_place nat_eq) keyed_name_row (λ r q. refl) rows right
 
 pub returns-in-Owned : goal.returns-in-Owned
-returns-in-Owned c =
+returns-in-Owned g c =
     subst (λ right. c.at_end.result ≡ apart_in c.args.rows.now (rows_in right)) (sym c.in-Owned.is)
     (c.at_end.ensures ∙ apart c.args.rows.now _ _ c.first_unlike_owned-differs.ensures)
 
 pub returns-in-Borrowed : goal.returns-in-Borrowed
-returns-in-Borrowed c =
+returns-in-Borrowed g c =
     subst (λ right. c.at_end-in-Borrowed.result ≡ apart_in c.args.rows.now (rows_in right)) (sym c.in-Borrowed.is)
     (c.at_end-in-Borrowed.ensures ∙ apart c.args.rows.now _ _ c.first_unlike_borrowed-differs.ensures)
 
 pub returns-in-Kept : goal.returns-in-Kept
-returns-in-Kept c =
+returns-in-Kept g c =
     subst (λ right. c.at_end-in-Kept.result ≡ apart_in c.args.rows.now (rows_in right)) (sym c.in-Kept.is)
     (c.at_end-in-Kept.ensures ∙ apart c.args.rows.now _ _ c.first_unlike_kept-differs.ensures)
