@@ -31,7 +31,7 @@ change_state-requires-clause-fits g c =
     let image = c.args.image.now in
     let can : CanLandYes image source are.log are.plan (net_in parts.net) parts.need = subst (CanLand image source) are.is c.requires in
     let room : parts.need ≤ free_in image = subst (λ n. parts.need ≤ n) (c.from.ensures ∙ c.free-free.ensures) c.if-from-need.false in
-    let bytes = record { source = c.args.source; entries = parts.entries; pieces = parts.pieces } in
+    let bytes : LogBytes _ = record { source = c.args.source; entries = parts.entries; pieces = parts.pieces } in
     can.fits room bytes (are_of source are.log are.plan bytes refl are.entries are.pieces)
 
 pub returns-clause-answer : goal.returns-clause-answer
@@ -41,7 +41,7 @@ returns-clause-answer g c =
     let source = c.args.source.now in
     let image = c.args.image.now in
     let room : parts.need ≤ free_in image = subst (λ n. parts.need ≤ n) (c.from.ensures ∙ c.free-free.ensures) c.if-from-need.false in
-    let bytes = record { source = c.args.source; entries = parts.entries; pieces = parts.pieces } in
+    let bytes : LogBytes _ = record { source = c.args.source; entries = parts.entries; pieces = parts.pieces } in
     let landed : HasLandedWith image bytes (net_in parts.net) c.change_state.new.image = c.in_ok-change_state.ensures.image in
     subst (λ outcome. AnswersOutcome image source c.args.position c.args.rejudged outcome (replies.Yes c.args.position c.args.rejudged parts.need) c.change_state.new.image) (sym are.is)
     (refl, room, record { bytes = bytes; are = are_of source are.log are.plan bytes refl are.entries are.pieces; landed = landed })
