@@ -12,7 +12,7 @@ use kfs_judge::View;
 use kfs_lease::{LeaseKind, Leases};
 use kfs_mode::Client;
 use kfs_plan::{Outcome, Submission, judge};
-use kfs_types::KeptName;
+use kfs_types::{KeptName, KeptRow, NameRow};
 use std::alloc::{AllocError, Allocator};
 use std::sync::Arc;
 
@@ -82,14 +82,22 @@ fn right_net<A: Allocator + Copy>(
 
 /// The same net, with names of its own.
 fn owned<A: Allocator>(alloc: A, net: Net<A, KeptName<A>>) -> Option<Net<A>>
-    ensures { IfSome result (IsSameNet net.entry) }
+    ensures { IfSome result (IsSameNet net) }
 {
-    let Net { names: kept, nodes } = net;
-    let mut names = Vec::with_capacity(alloc, kept.len()).ok()?;
-    for row in kept.iter() {
-        names.push(row.borrowed().owned()).ok()?;
-    }
+    let Net { names, nodes } = net;
+    let names = owned_rows(alloc, names.as_slice())?;
     Some(Net { names, nodes })
+}
+
+/// The same rows, with names of their own.
+fn owned_rows<A: Allocator>(alloc: A, rows: &[KeptRow<A>]) -> Option<Vec<NameRow, A>>
+    ensures { IfSome result (λ owned. owned.items ≡ rows.now) }
+{
+    let mut owned = Vec::with_capacity(alloc, rows.len()).ok()?;
+    for row in rows {
+        owned.push(row.borrowed().owned()).ok()?;
+    }
+    Some(owned)
 }
 
 /// The net of what client 7 hands in at the image.

@@ -1,5 +1,5 @@
 -- The image's own state agrees with the reads, so the verdict is its own, and its net keeps the image lawful.
-use Rattle.std.proofs.Common.{◌≡◌, ℕ, List, Option, None, Some, refl, sym, ap, subst, ◌∙◌}
+use Rattle.std.proofs.Common.{◌≡◌, Option, None, Some, refl, sym, ap, subst, ◌∙◌}
 use Rattle.std.specs.Prelude.{IfSome}
 use Rattle.kfs_model.specs.Lease.{holds}
 use Rattle.kfs_model.specs.Sight.{client_sight}
@@ -8,14 +8,11 @@ use Rattle.kfs_image_nodes.specs.Contents.{sight_of}
 use Rattle.kfs_model.specs.Device.ShownTree.{IsLawful, shown_tree}
 use Rattle.kfs_image.specs.Net.{after_net}
 use Rattle.kfs_image_nodes.specs.Lent.{IsSameNet}
-use Rattle.kfs_image_nodes.specs.declared.net.Net.{Net}
 use Rattle.kfs_image.proofs.ShownTrees.{sight_shown}
 use Rattle.kfs_judge.specs.Check.Reads.{Agrees}
 use Rattle.kfs_judge.specs.Check.View.{client_sight_in, clients_of, leases_of}
 use Rattle.kfs_plan.specs.Judging.{IsVerdict, submission_of}
-use Rattle.kfs_plan.proofs.SameFindings.{same_verdict}
-use Rattle.kfs_plan.specs.declared.submission.Outcome.TheVariants as outcomes
-use Rattle.kfs_test_image.proofs.LandedNets.{net_is_lawful}
+use Rattle.kfs_test_image.proofs.LandedNets.{same_is_lawful}
 use Rattle.kfs_test_image.proofs.landed.right_net.Goals as goal
 
 for_same : {X : Type 0} (P Q : X → Type 0) (found : Option X) → ((x : X) → P x → Q x) → IfSome found P → IfSome found Q
@@ -34,7 +31,7 @@ returns-in-Yes g c =
     let agrees = subst (Agrees c.in-Ok.judged.reads) seen c.in-Ok.ensures.view_agrees in
     let verdict = c.in-Ok.ensures.known s (record { sound = lawful.tree.sound; row = sym c.in-Ok.ensures.client; agrees = agrees }) in
     let told = subst (λ o. IsVerdict s (submission_of c.args.submission) o) (sym c.into_parts-submission.ensures.outcome ∙ c.in-Yes.is) verdict in
-    let submission = submission_of c.args.submission in
-    let is_lawful : (net : Net _ (List ℕ)) → IsSameNet c.in-Yes.net net → IsLawful (after_net net image) =
-    λ net same. net_is_lawful image lawful s refl submission _ _ net _ (same_verdict s submission _ (outcomes.Yes _ _ net _) (refl, refl, same, refl) told) in
-    record { lawful = for_same (IsSameNet c.in-Yes.net) (λ net. IsLawful (after_net net image)) c.owned.result is_lawful c.owned.ensures }
+    record {
+      lawful = for_same (IsSameNet c.in-Yes.net) (λ net. IsLawful (after_net net image)) c.owned.result
+          (λ net same. same_is_lawful image lawful s refl (submission_of c.args.submission) _ _ c.in-Yes.net net _ told same) c.owned.ensures;
+    }
