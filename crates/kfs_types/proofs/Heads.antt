@@ -105,7 +105,8 @@ zeros zero k = refl
 zeros (suc m) zero = refl
 zeros (suc m) (suc k) = zeros m k
 
-behind : (xs : List ℕ) (m k : ℕ) → get_or (xs ++ replicate m 0) k 0 ≡ get_or xs k 0
+-- zeros behind change no byte
+pub behind : (xs : List ℕ) (m k : ℕ) → get_or (xs ++ replicate m 0) k 0 ≡ get_or xs k 0
 behind [] m k = zeros m k
 behind (x ∷ xs) m zero = refl
 behind (x ∷ xs) m (suc k) = behind xs m k

@@ -1,11 +1,12 @@
 //! Names where they lie in other bytes.
-ghost use Rattle.std.specs.Prelude.{◌≡◌, ◌↔◌, IsSome, IfOk, IfSome, Some, nat_eq, refl, ⊤};
+ghost use Rattle.std.specs.Prelude.{◌≡◌, ◌↔◌, ◌≤◌, IsSome, IsOk, IfOk, IfSome, Some, length, nat_eq, refl, ⊤};
 ghost use Rattle.std.specs.Ordering.{nat_cmp};
 ghost use Rattle.std.specs.Cmp.{partial_equiv_from_equiv};
 ghost use Rattle.std.specs.Cmp.Lexicographic.{pointwise, slice_cmp, nat_list_eq_equiv, nat_list_cmp_total, texts_po, texts_ties};
 
 use crate::kept_name::KeptName;
 use crate::name::Name;
+use crate::sought_name::SoughtName;
 use std::alloc::{AllocError, Allocator};
 use std::cmp::Ordering;
 use std::fmt;
@@ -123,9 +124,17 @@ impl<'s> BorrowedName<'s> {
 
     /// The same name, to be kept (`KeptName::of`). `Err` where memory runs out.
     pub fn kept<A: Allocator>(&self, alloc: A) -> Result<KeptName<A>, AllocError>
-        ensures { IfOk result (λ kept. kept ≡ self.now) }
+        ensures name { IfOk result (λ kept. kept ≡ self.now) }
+        ensures short { length self.now ≤ 30 → IsOk result }
     {
         KeptName::of(alloc, self)
+    }
+
+    /// The same name, to be looked for. Takes no memory.
+    pub fn sought(&self) -> SoughtName<'s>
+        ensures { result ≡ self.now }
+    {
+        SoughtName::of(self.bytes)
     }
 
     /// The same name as a value of its own. Takes no memory.

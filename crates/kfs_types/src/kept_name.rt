@@ -1,5 +1,5 @@
 //! Names that a verdict keeps.
-ghost use Rattle.std.specs.Prelude.{◌≡◌, ◌≤◌, IfOk, length, nat_eq, take};
+ghost use Rattle.std.specs.Prelude.{◌≡◌, ◌≤◌, IfOk, IsOk, length, nat_eq, take};
 ghost use Rattle.std.specs.Cmp.{partial_equiv_from_equiv};
 ghost use Rattle.std.specs.Cmp.Lexicographic.{pointwise, nat_list_eq_equiv};
 ghost use Rattle.std.specs.Cmp.Rules.{hashing};
@@ -9,6 +9,7 @@ ghost use Rattle.kfs_types.specs.Kept.{bytes_in, IsPlaced};
 
 use crate::borrowed_name::BorrowedName;
 use crate::name::Name;
+use crate::sought_name::SoughtName;
 use std::alloc::{AllocError, Allocator};
 use std::fmt;
 use std::hash::{Hash, Hasher};
@@ -82,7 +83,8 @@ impl<A: Allocator> KeptName<A> {
     /// The same name, to be kept. `Err` where memory runs out, which a name of up to 30 bytes doesn't
     /// take.
     pub fn of(alloc: A, name: &BorrowedName<'_>) -> Result<KeptName<A>, AllocError>
-        ensures { IfOk result (λ kept. kept ≡ name.now) }
+        ensures name { IfOk result (λ kept. kept ≡ name.now) }
+        ensures short { length name.now ≤ 30 → IsOk result }
     {
         let bytes = name.as_bytes();
         let place = if bytes.len() <= SHORT_LEN {
@@ -109,6 +111,13 @@ impl<A: Allocator> KeptName<A> {
         ensures { result ≡ self.now }
     {
         BorrowedName::of(self.as_bytes())
+    }
+
+    /// The same name, to be looked for. Takes no memory.
+    pub fn sought(&self) -> SoughtName<'_>
+        ensures { result ≡ self.now }
+    {
+        SoughtName::of(self.as_bytes())
     }
 
     /// The same name as a value of its own. Takes no memory.

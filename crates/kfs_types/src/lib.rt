@@ -15,6 +15,7 @@ mod moves;
 mod name;
 mod plan;
 mod rows;
+mod sought_name;
 
 pub use borrowed_name::BorrowedName;
 pub use change::{Change, Nothing};
@@ -30,3 +31,4 @@ pub use moves::{Move, MoveFault};
 pub use name::Name;
 pub use plan::{BorrowedRow, KeptRow, NameRow, NodeRow, Piece, Plan, Source};
 pub use rows::RowList;
+pub use sought_name::SoughtName;

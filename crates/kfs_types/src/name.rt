@@ -12,6 +12,7 @@ ghost use Rattle.kfs_types.specs.Padded.{padded};
 
 use crate::borrowed_name::BorrowedName;
 use crate::limits::NAME_LIMIT;
+use crate::sought_name::SoughtName;
 use std::alloc::AllocError;
 use std::cmp::Ordering;
 use std::fmt;
@@ -89,18 +90,8 @@ impl Ord for Name {
 
     ghost matches_eq = { texts_ties };
 
-    // The first 16 bytes are compared as one number. A shorter name is all in it, with zeros behind. No byte
-    // of a name is zero, so two names with equal numbers are both shorter, or neither is.
     fn cmp(&self, other: &Self) -> Ordering {
-        let (head, other_head) = (head(&self.bytes), head(&other.bytes));
-        if head != other_head {
-            return head.cmp(&other_head);
-        }
-        if self.len < 16 {
-            return Ordering::Equal;
-        }
-        let (rest, other_rest) = (&self.as_bytes()[16..], &other.as_bytes()[16..]);
-        rest.cmp(&other_rest)
+        self.sought().against(other)
     }
 }
 
@@ -161,6 +152,24 @@ impl Name {
         ensures { result ≡ self.now }
     {
         BorrowedName::of(self.as_bytes())
+    }
+
+    /// The same name, to be looked for. Takes no memory.
+    #[inline(always)]
+    pub fn sought(&self) -> SoughtName<'_>
+        ensures { result ≡ self.now }
+    {
+        SoughtName::with_head(self.head(), self.as_bytes())
+    }
+
+    /// The first 16 bytes as one number, the greatest first; zeros where the name is shorter.
+    #[inline(always)]
+    pub(crate) fn head(&self) -> u128
+        ensures value { result ≡ from_be_bytes w128 (take 16 (padded self.now)) }
+        ensures bytes { IsBytes (padded self.now) }
+        ensures name { IsName self.now }
+    {
+        head(&self.bytes)
     }
 
     /// The bytes of the name, 1 to 255. Takes no memory.
