@@ -14,6 +14,6 @@ mod run;
 pub use self::change::EditChunks;
 pub use self::chunk_list::ChunkList;
 pub use self::chunks::Chunks;
-pub use self::entries::{Key, KeyEdit, push_above};
+pub use self::entries::{Key, KeyEdit, NameAt, Sought, push_above};
 pub use self::overlay::{Overlay, key_edits};
 pub use self::part::Near;

@@ -7,6 +7,7 @@ mod chunks;
 mod pages;
 
 pub use chunks::{
-    ChunkList, Chunks, EditChunks, Key, KeyEdit, Near, Overlay, key_edits, push_above,
+    ChunkList, Chunks, EditChunks, Key, KeyEdit, NameAt, Near, Overlay, Sought, key_edits,
+    push_above,
 };
 pub use pages::{EditPages, NumberEdit, Page, Pages};

@@ -94,6 +94,15 @@ module _ {K V : Type 0} (R : Order K) where
       at true e = e
       at false e = absurd (true_or_false false (ap is_some (sym (none_later R (slice_index_or es i d).key (slice_index_or es j d).key xs later (not_some _ e))) ∙ reached) refl)
 
+  -- where the first edit doesn't reach into the entries, none does
+  pub none_reaches : (xs : List (K × V)) (es : List (KeyEdit K V)) → KeysAscend R.compare es → ((d : KeyEdit K V) → reaches R.compare (Included (slice_index_or es 0 d).key) xs ≡ false)
+      → (k : ℕ) (d : KeyEdit K V) → 0 ≤ k → k < length es → reaches R.compare (Included (slice_index_or es k d).key) xs ≡ false
+  none_reaches xs es ascend missed k d least within = at (reaches R.compare (Included (slice_index_or es k d).key) xs) refl
+    where
+      at : (b : Bool) → reaches R.compare (Included (slice_index_or es k d).key) xs ≡ b → reaches R.compare (Included (slice_index_or es k d).key) xs ≡ false
+      at true e = absurd (true_or_false _ (parted_edits xs es ascend 0 k d (omega arith) within e) (missed d))
+      at false e = e
+
   -- the keys of those that do are below what stands behind the entries
   pub run_below : (xs ys : List (K × V)) (es : List (KeyEdit K V)) (run : ℕ) → T (is_sorted R.compare (xs ++ ys)) → ((k : ℕ) (d : KeyEdit K V) → 0 ≤ k → k < run → reaches R.compare (Included (slice_index_or es k d).key) xs ≡ true)
       → All (λ e. T (below_all R.compare e.key ys)) (take run es)

@@ -8,7 +8,7 @@ ghost use Rattle.kfs_maps.specs.Chunks.Joined.{joined, AreSized};
 ghost use Rattle.kfs_maps.specs.Chunks.Starts.{is_from, IsNextEntry, IsNextRun};
 
 use crate::chunks::change::{change_parts, cut_parts};
-use crate::chunks::entries::{Entries, Key, KeyEdit};
+use crate::chunks::entries::{Entries, Key, KeyEdit, Sought};
 use crate::chunks::part::{Near, Part};
 use crate::chunks::run::{Run, place, place_near, rebuilt};
 use kfs_types::Change;
@@ -78,8 +78,8 @@ impl<K: Key, V: Copy, A: Allocator> Chunks<K, V, A> {
     /// where this key is the one behind the last, with two where it would stand there but has no entry, and
     /// without a search for its chunk where that is the last one's. `near` becomes the place behind this
     /// key. Takes no memory.
-    pub fn get_near(&self, near: &mut Near, key: &K) -> Option<&V>
-        ensures { option_copied result ≡ find K.order.compare key.now self.now }
+    pub fn get_near<Q: Sought<K>>(&self, near: &mut Near, key: Q) -> Option<&V>
+        ensures { option_copied result ≡ find K.order.compare (Q.key key) self.now }
     {
         if let Some(part) = self.parts.get(near.part) {
             if let Some(told) = part.told_at(*near, key) {

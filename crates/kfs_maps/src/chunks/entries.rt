@@ -15,7 +15,7 @@ ghost use Rattle.kfs_model.specs.Tree.{name_order};
 
 use crate::chunks::change::append;
 use crate::chunks::run::{Recut, Run};
-use kfs_types::Name;
+use kfs_types::{Name, SoughtName};
 use std::alloc::{AllocError, Allocator};
 use std::cmp::Ordering;
 use std::marker::Model;
@@ -84,8 +84,8 @@ impl<K: Key, V: Copy, A: Allocator> Entries<K, V, A> {
 
     /// The same value, found faster where the key stands at `near`, which becomes the index of the entry
     /// behind the key. Takes no memory.
-    pub(crate) fn get_near(&self, near: &mut usize, key: &K) -> Option<&V>
-        ensures { option_copied result ≡ find K.cmp key.now self.now.pairs }
+    pub(crate) fn get_near<Q: Sought<K>>(&self, near: &mut usize, key: Q) -> Option<&V>
+        ensures { option_copied result ≡ find K.cmp (Q.key key) self.now.pairs }
     {
         match search_near(&self.pairs, 0, *near, key) {
             Ok(at) => {
@@ -101,13 +101,15 @@ impl<K: Key, V: Copy, A: Allocator> Entries<K, V, A> {
 
     /// What the entry at an index and the one before it tell of a key, if they do: its value, or that it
     /// stands between them and has none. Takes no memory.
-    pub(crate) fn told_at(&self, index: usize, key: &K) -> Option<Option<&V>>
-        ensures { IfSome result (λ told. Tells K.cmp key.now self.now.pairs (option_copied told)) }
+    pub(crate) fn told_at<Q: Sought<K>>(&self, index: usize, key: Q) -> Option<Option<&V>>
+        ensures { IfSome result (λ told. Tells K.cmp (Q.key key) self.now.pairs (option_copied told)) }
     {
         let (there, value) = self.pairs.get(index)?;
-        match key.cmp(there) {
+        match key.against(there) {
             Ordering::Equal => Some(Some(value)),
-            Ordering::Less if index > 0 && self.pairs[index - 1].0.cmp(key).is_lt() => Some(None),
+            Ordering::Less if index > 0 && key.against(&self.pairs[index - 1].0).is_gt() => Some(
+                None,
+            ),
             _ => None,
         }
     }
@@ -197,7 +199,7 @@ impl<K: Key, V: Copy, A: Allocator> Entries<K, V, A> {
 impl<K: Key, V: Copy, A: Allocator> Run<K, V> for Entries<K, V, A> {
     ghost entries = { λ chunk. chunk.pairs };
 
-    fn reaches(&self, start: &Bound<&K>) -> bool {
+    fn reaches<Q: Sought<K>>(&self, start: &Bound<Q>) -> bool {
         match self.pairs.last() {
             Some((last, _)) => is_from(start, last),
             None => false,
@@ -254,9 +256,9 @@ impl<K: Key, V: Copy, A: Allocator + Clone> Entries<K, V, A> {
 
 /// The index of the first entry at the bound or behind it, or the number of entries where there is
 /// none.
-pub(crate) fn first_from<K: Key, V: Copy>(pairs: &[(K, V)], start: Bound<&K>) -> usize
+pub(crate) fn first_from<K: Key, V: Copy, Q: Sought<K>>(pairs: &[(K, V)], start: Bound<Q>) -> usize
     requires { T (is_sorted K.cmp pairs.now) }
-    ensures { result ≡ first_from K.cmp (bound_map (λ x. x.now) start.entry) pairs.now }
+    ensures { result ≡ first_from K.cmp (bound_map Q.key start) pairs.now }
 {
     pairs.partition_point(|pair| !is_from(&start, &pair.0))
 }
@@ -271,29 +273,33 @@ fn search<K: Key, V: Copy>(pairs: &[(K, V)], key: &K) -> Result<usize, usize>
 
 /// The same, found faster where the index is `near`. Condition: no entry before index `from` is at the key or
 /// behind it; those aren't searched.
-fn search_near<K: Key, V: Copy>(
+fn search_near<K: Key, V: Copy, Q: Sought<K>>(
     pairs: &[(K, V)],
     from: usize,
     near: usize,
-    key: &K,
+    key: Q,
 ) -> Result<usize, usize>
     requires sorted { T (is_sorted K.cmp pairs.now) }
-    requires from { from ≤ first_from K.cmp (Included key.now) pairs.now }
-    ensures { result ≡ (let at = first_from K.cmp (Included key.now) pairs.now in if is_some (find K.cmp key.now pairs.now) then Ok at else Err at) }
+    requires from { from ≤ first_from K.cmp (Included (Q.key key)) pairs.now }
+    ensures { result ≡ (let at = first_from K.cmp (Included (Q.key key)) pairs.now in if is_some (find K.cmp (Q.key key) pairs.now) then Ok at else Err at) }
 {
     found_at(pairs, first_near(pairs, from, near, key), key)
 }
 
 /// The same, where `at` is the index of the first entry at the key or behind it.
-fn found_at<K: Key, V: Copy>(pairs: &[(K, V)], at: usize, key: &K) -> Result<usize, usize>
+fn found_at<K: Key, V: Copy, Q: Sought<K>>(
+    pairs: &[(K, V)],
+    at: usize,
+    key: Q,
+) -> Result<usize, usize>
     requires sorted { T (is_sorted K.cmp pairs.now) }
-    requires first { at ≡ first_from K.cmp (Included key.now) pairs.now }
-    ensures { result ≡ (let at = first_from K.cmp (Included key.now) pairs.now in if is_some (find K.cmp key.now pairs.now) then Ok at else Err at) }
+    requires first { at ≡ first_from K.cmp (Included (Q.key key)) pairs.now }
+    ensures { result ≡ (let at = first_from K.cmp (Included (Q.key key)) pairs.now in if is_some (find K.cmp (Q.key key) pairs.now) then Ok at else Err at) }
 {
     let Some(pair) = pairs.get(at) else {
         return Err(at);
     };
-    if key.cmp(&pair.0).is_eq() {
+    if key.against(&pair.0).is_eq() {
         Ok(at)
     } else {
         Err(at)
@@ -301,10 +307,15 @@ fn found_at<K: Key, V: Copy>(pairs: &[(K, V)], at: usize, key: &K) -> Result<usi
 }
 
 /// The index of the first entry at the key or behind it, looked for from index `from` on, unless it is `near`.
-fn first_near<K: Key, V: Copy>(pairs: &[(K, V)], from: usize, near: usize, key: &K) -> usize
+fn first_near<K: Key, V: Copy, Q: Sought<K>>(
+    pairs: &[(K, V)],
+    from: usize,
+    near: usize,
+    key: Q,
+) -> usize
     requires sorted { T (is_sorted K.cmp pairs.now) }
-    requires from { from ≤ first_from K.cmp (Included key.now) pairs.now }
-    ensures { result ≡ first_from K.cmp (Included key.now) pairs.now }
+    requires from { from ≤ first_from K.cmp (Included (Q.key key)) pairs.now }
+    ensures { result ≡ first_from K.cmp (Included (Q.key key)) pairs.now }
 {
     let start = Bound::Included(key);
     let near = near.min(pairs.len());
@@ -318,22 +329,22 @@ fn first_near<K: Key, V: Copy>(pairs: &[(K, V)], from: usize, near: usize, key: 
 }
 
 /// The index of the first entry at the key or behind it, looked for from index `from` on.
-fn first_behind<K: Key, V: Copy>(pairs: &[(K, V)], from: usize, key: &K) -> usize
+fn first_behind<K: Key, V: Copy, Q: Sought<K>>(pairs: &[(K, V)], from: usize, key: Q) -> usize
     requires sorted { T (is_sorted K.cmp pairs.now) }
-    requires from { from ≤ first_from K.cmp (Included key.now) pairs.now }
-    ensures { result ≡ first_from K.cmp (Included key.now) pairs.now }
+    requires from { from ≤ first_from K.cmp (Included (Q.key key)) pairs.now }
+    ensures { result ≡ first_from K.cmp (Included (Q.key key)) pairs.now }
 {
     let (_, rest) = pairs.split_at(from);
     from + first_from(rest, Bound::Included(key))
 }
 
 /// Whether a key is at the bound or behind it.
-fn is_from<K: Ord>(start: &Bound<&K>, key: &K) -> bool
-    ensures { result ≡ is_from K.cmp (bound_map (λ x. x.now) start.now) key.now }
+fn is_from<K: Key, Q: Sought<K>>(start: &Bound<Q>, key: &K) -> bool
+    ensures { result ≡ is_from K.cmp (bound_map Q.key start.now) key.now }
 {
     match start {
-        Bound::Included(first) => !key.cmp(first).is_lt(),
-        Bound::Excluded(last) => key.cmp(last).is_gt(),
+        Bound::Included(first) => !first.against(key).is_gt(),
+        Bound::Excluded(last) => last.against(key).is_lt(),
         Bound::Unbounded => true,
     }
 }
@@ -352,6 +363,59 @@ pub trait Key: Ord + Copy {
 
     /// The order is that of `cmp`.
     ghost compared: { Self.cmp ≡ order.compare };
+}
+
+/// What is looked for in a map in chunks. It stands for a key: it may be one, or say where one's bytes lie.
+pub trait Sought<K: Key>: Copy {
+    /// The key for which it stands.
+    ghost key: { Self → K };
+
+    /// How that key compares with one of the map. Takes no memory.
+    fn against(self, other: &K) -> Ordering
+        ensures { result ≡ K.cmp (key self) other.now };
+}
+
+impl<'k, K: Key> Sought<K> for &'k K {
+    ghost key = { λ key. key.now };
+
+    fn against(self, other: &K) -> Ordering {
+        self.cmp(other)
+    }
+}
+
+/// A name of a directory that is looked for, where its bytes lie.
+#[derive(Drop)]
+pub struct NameAt<'s> {
+    dir: u32,
+    name: SoughtName<'s>,
+}
+
+impl<'s> Model for NameAt<'s> {
+    ghost use Rattle.std.specs.Prelude.{ℕ, List};
+
+    ghost Value = { ℕ × List ℕ };
+
+    ghost view = { λ at. (at.dir, at.name) };
+}
+
+impl<'s> NameAt<'s> {
+    /// The name of the directory with this number.
+    pub fn new(dir: u32, name: SoughtName<'s>) -> NameAt<'s>
+        ensures { result ≡ (dir, name.entry) }
+    {
+        NameAt { dir, name }
+    }
+}
+
+impl<'k, 's> Sought<(u32, Name)> for &'k NameAt<'s> {
+    ghost key = { λ at. at.now };
+
+    fn against(self, other: &(u32, Name)) -> Ordering {
+        if self.dir != other.0 {
+            return self.dir.cmp(&other.0);
+        }
+        self.name.against(&other.1)
+    }
 }
 
 impl Key for (u32, u32) {

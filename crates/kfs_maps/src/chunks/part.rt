@@ -9,7 +9,7 @@ ghost use Rattle.kfs_maps.specs.Chunks.Starts.{IsNextRun};
 ghost use Rattle.std.specs.declared.ops.Bound.TheVariants.{Included};
 
 use crate::chunks::change::cut_parts;
-use crate::chunks::entries::{Entries, Key, KeyEdit};
+use crate::chunks::entries::{Entries, Key, KeyEdit, Sought};
 use crate::chunks::run::{Recut, Run, edits_of, place, place_near, rebuilt};
 use std::alloc::{AllocError, Allocator};
 use std::marker::Model;
@@ -60,8 +60,8 @@ impl<K: Key, V: Copy, A: Allocator> Part<K, V, A> {
 
     /// The same value, found faster where the key's chunk is that of `near`, which becomes the place of
     /// the key. Takes no memory.
-    pub(crate) fn get_near(&self, near: &mut Near, key: &K) -> Option<&V>
-        ensures { option_copied result ≡ find K.cmp key.now self.now.pairs }
+    pub(crate) fn get_near<Q: Sought<K>>(&self, near: &mut Near, key: Q) -> Option<&V>
+        ensures { option_copied result ≡ find K.cmp (Q.key key) self.now.pairs }
     {
         let at = place_near(&self.chunks, &Bound::Included(key), near.chunk);
         near.chunk = at;
@@ -71,8 +71,8 @@ impl<K: Key, V: Copy, A: Allocator> Part<K, V, A> {
 
     /// What the entry at `near` and the one before it in its chunk tell of a key, if they do. Takes no
     /// memory.
-    pub(crate) fn told_at(&self, near: Near, key: &K) -> Option<Option<&V>>
-        ensures { IfSome result (λ told. Tells K.cmp key.now self.now.pairs (option_copied told)) }
+    pub(crate) fn told_at<Q: Sought<K>>(&self, near: Near, key: Q) -> Option<Option<&V>>
+        ensures { IfSome result (λ told. Tells K.cmp (Q.key key) self.now.pairs (option_copied told)) }
     {
         let chunk = self.chunks.get(near.chunk)?;
         chunk.told_at(near.entry, key)
@@ -80,8 +80,12 @@ impl<K: Key, V: Copy, A: Allocator> Part<K, V, A> {
 
     /// The chunk at an index, if the key is behind the chunk in front of it and not behind its own last
     /// key. Then only this chunk can have the key, also where the part is one of several.
-    pub(crate) fn inner_chunk(&self, index: usize, key: &K) -> Option<&Arc<Entries<K, V, A>, A>>
-        ensures { IfSome result (λ chunk. TellsAlone K.cmp key.now self.now.pairs chunk.now.value.pairs) }
+    pub(crate) fn inner_chunk<Q: Sought<K>>(
+        &self,
+        index: usize,
+        key: Q,
+    ) -> Option<&Arc<Entries<K, V, A>, A>>
+        ensures { IfSome result (λ chunk. TellsAlone K.cmp (Q.key key) self.now.pairs chunk.now.value.pairs) }
     {
         if index == 0 {
             return None;
@@ -128,7 +132,7 @@ impl<K: Key, V: Copy, A: Allocator> Part<K, V, A> {
 impl<K: Key, V: Copy, A: Allocator> Run<K, V> for Part<K, V, A> {
     ghost entries = { λ part. part.pairs };
 
-    fn reaches(&self, start: &Bound<&K>) -> bool {
+    fn reaches<Q: Sought<K>>(&self, start: &Bound<Q>) -> bool {
         match self.chunks.last() {
             Some(last) => last.reaches(start),
             None => false,

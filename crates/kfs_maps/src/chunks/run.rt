@@ -8,7 +8,7 @@ ghost use Rattle.kfs_maps.specs.Chunks.Edits.{entered_all, KeysAscend};
 ghost use Rattle.kfs_maps.specs.Chunks.Joined.{joined_by, EachBy, IsNotEmpty, first_run_from};
 ghost use Rattle.kfs_maps.specs.Chunks.Starts.{entry_from, reaches};
 
-use crate::chunks::entries::{Key, KeyEdit};
+use crate::chunks::entries::{Key, KeyEdit, Sought};
 use std::alloc::{AllocError, Allocator};
 use std::ops::Bound;
 use std::sync::Arc;
@@ -19,8 +19,8 @@ pub(crate) trait Run<K: Key, V: Copy> {
     ghost entries: { Self → List (K × V) };
 
     /// Whether an entry is at the bound or behind it. Only the last entry is looked at.
-    fn reaches(&self, start: &Bound<&K>) -> bool
-        ensures { result ≡ reaches K.cmp (bound_map (λ x. x.now) start.now) (entries self.now) };
+    fn reaches<Q: Sought<K>>(&self, start: &Bound<Q>) -> bool
+        ensures { result ≡ reaches K.cmp (bound_map Q.key start.now) (entries self.now) };
 }
 
 /// A run that stands in a list, and is cut anew where it is edited.
@@ -51,26 +51,26 @@ pub(crate) trait Recut<K: Key, V: Copy, A: Allocator + Clone>: Run<K, V> {
 
 /// The index of the first run with an entry at the bound or behind it, or the number of runs where there
 /// is none.
-pub(crate) fn place<K: Key, V: Copy, A: Allocator, R: Run<K, V>>(
+pub(crate) fn place<K: Key, V: Copy, A: Allocator, R: Run<K, V>, Q: Sought<K>>(
     runs: &[Arc<R, A>],
-    start: &Bound<&K>,
+    start: &Bound<Q>,
 ) -> usize
     requires sorted { T (is_sorted K.cmp (joined_by R.entries runs.now)) }
     requires filled { EachBy R.entries IsNotEmpty runs.now }
-    ensures { result ≡ first_run_from K.cmp R.entries (bound_map (λ x. x.now) start.now) runs.now }
+    ensures { result ≡ first_run_from K.cmp R.entries (bound_map Q.key start.now) runs.now }
 {
     runs.partition_point(|run| !run.reaches(start))
 }
 
 /// The same index. It is found faster where it is `near`; a guess over the number of runs is taken as that.
-pub(crate) fn place_near<K: Key, V: Copy, A: Allocator, R: Run<K, V>>(
+pub(crate) fn place_near<K: Key, V: Copy, A: Allocator, R: Run<K, V>, Q: Sought<K>>(
     runs: &[Arc<R, A>],
-    start: &Bound<&K>,
+    start: &Bound<Q>,
     near: usize,
 ) -> usize
     requires sorted { T (is_sorted K.cmp (joined_by R.entries runs.now)) }
     requires filled { EachBy R.entries IsNotEmpty runs.now }
-    ensures { result ≡ first_run_from K.cmp R.entries (bound_map (λ x. x.now) start.now) runs.now }
+    ensures { result ≡ first_run_from K.cmp R.entries (bound_map Q.key start.now) runs.now }
 {
     let near = near.min(runs.len());
     if near < runs.len() && !runs[near].reaches(start) {
@@ -98,7 +98,13 @@ pub(crate) fn edits_of<K: Key, V: Copy, A: Allocator, R: Run<K, V>>(
     if rest.is_empty() {
         return edits.len();
     }
-    edits.partition_point(|edit| run.reaches(&Bound::Included(&edit.key)))
+    // Most runs of a list have no edit, and one look tells it.
+    match edits.first() {
+        Some(first) if run.reaches(&Bound::Included(&first.key)) => {
+            edits.partition_point(|edit| run.reaches(&Bound::Included(&edit.key)))
+        }
+        _ => 0,
+    }
 }
 
 /// The runs after the edits. Runs without edits are shared; the others are cut anew.

@@ -10,7 +10,7 @@ use Rattle.kfs_maps.proofs.chunks.entries.first_near.Goals.{else-near-pairs-via-
 pub returns : goal.returns
 returns g c =
     let cmp = g.K.Ord.cmp in
-    let q = c.args.key.now in
+    let q = (g.Q.Sought.key c.args.key) in
     let es = c.args.pairs.now in
     let near = c.min-near.result in
     let least : near ≤ length es = omega (arith, c.min-near.ensures) in

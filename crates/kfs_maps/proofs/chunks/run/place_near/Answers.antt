@@ -1,4 +1,4 @@
-use Rattle.std.proofs.Common.{◌≡◌, ◌∙◌, ◌<◌, ◌≤◌, ◌-◌, ℕ, ◌+◌, true, false, length, get_or, ap, sym, arith, Bor}
+use Rattle.std.proofs.Common.{◌≡◌, ◌∙◌, ◌<◌, ◌≤◌, ◌-◌, ℕ, ◌+◌, true, false, length, get_or, ap, sym, arith}
 use Rattle.std.proofs.lemmas.List.{get_or_default}
 use Rattle.std.specs.Range.Bound.{bound_map}
 use Rattle.kfs_maps.specs.Chunks.Starts.{reaches}
@@ -10,7 +10,7 @@ use Rattle.kfs_maps.proofs.chunks.run.place_near.Goals.{else-near-runs-via-then-
 pub returns : goal.returns
 returns g c =
     let cmp = g.K.Ord.cmp in
-    let start = bound_map (λ (x : Bor g.row.K.Denot). x.now) c.args.start.now in
+    let start = bound_map g.Q.Sought.key c.args.start.now in
     let cs = c.args.runs.now in
     let near = c.min-near.result in
     let least : near ≤ length cs = omega (arith, c.min-near.ensures) in

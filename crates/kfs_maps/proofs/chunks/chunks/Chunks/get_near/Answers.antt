@@ -16,7 +16,7 @@ place_near-at-requires-clause-filled g c = subst AreFilled (sym c.deref-2.ensure
 pub returns-in_err-part : goal.returns-in_err-part
 returns-in_err-part g c =
     let cmp = g.K.Ord.cmp in
-    let q = c.args.key.now in
+    let q = (g.Q.Sought.key c.args.key) in
     let cs = c.self.inside.parts.items in
     let order = order_by g.K.Key.order cmp g.met.K.Key.compared in
     let at : c.place_near-at.result ≡ first_chunk_from cmp (Included q) cs = search rules in
@@ -29,7 +29,7 @@ returns-in_err-part g c =
 pub returns : goal.returns
 returns g c =
     let cmp = g.K.Ord.cmp in
-    let q = c.args.key.now in
+    let q = (g.Q.Sought.key c.args.key) in
     let cs = c.self.inside.parts.items in
     let order = order_by g.K.Key.order cmp g.met.K.Key.compared in
     let chunk = c.in_ok-part.part.now in
@@ -46,7 +46,7 @@ returns g c =
 pub returns-in-Some-inner_chunk : goal.returns-in-Some-inner_chunk
 returns-in-Some-inner_chunk g c =
     let cmp = g.K.Ord.cmp in
-    let q = c.args.key.now in
+    let q = (g.Q.Sought.key c.args.key) in
     let cs = c.self.inside.parts.items in
     let part = c.in-Some.part.now in
     let chunk = c.in-Some-inner_chunk.chunk.now in
@@ -63,7 +63,7 @@ returns-in-Some-inner_chunk g c =
 pub returns-in-Some-told_at : goal.returns-in-Some-told_at
 returns-in-Some-told_at g c =
     let cmp = g.K.Ord.cmp in
-    let q = c.args.key.now in
+    let q = (g.Q.Sought.key c.args.key) in
     let cs = c.self.inside.parts.items in
     let part = c.in-Some.part.now in
     let told = option_copied c.in-Some-told_at.told in

@@ -11,7 +11,7 @@ use Rattle.kfs_maps.proofs.chunks.entries.Entries.told_at.Goals as goal
 pub returns-in-Equal : goal.returns-in-Equal
 returns-in-Equal g c =
     let cmp = g.K.Ord.cmp in
-    let q = c.args.key.now in
+    let q = (g.Q.Sought.key c.args.key) in
     let es = c.self.inside.pairs.items in
     let order = order_by g.K.Key.order cmp g.met.K.Key.compared in
     let pair = c.in_ok-there.field-0.now in
@@ -25,7 +25,7 @@ returns-in-Equal g c =
 pub returns-in-Less : goal.returns-in-Less
 returns-in-Less g c =
     let cmp = g.K.Ord.cmp in
-    let q = c.args.key.now in
+    let q = (g.Q.Sought.key c.args.key) in
     let es = c.self.inside.pairs.items in
     let order = order_by g.K.Key.order cmp g.met.K.Key.compared in
     let pair = c.in_ok-there.field-0.now in

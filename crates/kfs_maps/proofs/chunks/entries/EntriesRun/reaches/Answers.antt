@@ -1,4 +1,4 @@
-use Rattle.std.proofs.Common.{rules, ◌≡◌, ◌∙◌, ◌<◌, ◌-◌, length, get_or, ap, sym, arith, Bor}
+use Rattle.std.proofs.Common.{rules, ◌≡◌, ◌∙◌, ◌<◌, ◌-◌, length, get_or, ap, sym, arith}
 use Rattle.std.specs.Range.Bound.{bound_map}
 use Rattle.kfs_maps.specs.Chunks.Starts.{is_from, reaches}
 use Rattle.kfs_maps.proofs.ChunksLemmas.Parts.{reaches_last}
@@ -8,7 +8,7 @@ use Rattle.kfs_maps.proofs.chunks.entries.EntriesRun.reaches.Goals as goal
 pub returns-in-Some : goal.returns-in-Some
 returns-in-Some g c =
     let cmp = g.K.Ord.cmp in
-    let start = bound_map (λ (x : Bor g.row.K.Denot). x.now) c.args.start.now in
+    let start = bound_map g.Q.Sought.key c.args.start.now in
     let order = order_by g.K.Key.order cmp g.met.K.Key.compared in
     let es = c.deref.result.now in
     let pair = c.in-Some.field-0.now in

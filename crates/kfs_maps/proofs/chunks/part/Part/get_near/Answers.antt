@@ -15,7 +15,7 @@ place_near-at-requires-clause-filled g c = subst AreFilled (sym c.deref.ensures.
 pub returns-in_err-chunk : goal.returns-in_err-chunk
 returns-in_err-chunk g c =
     let cmp = g.K.Ord.cmp in
-    let q = c.args.key.now in
+    let q = (g.Q.Sought.key c.args.key) in
     let cs = c.self.inside.chunks.items in
     let order = order_by g.K.Key.order cmp g.met.K.Key.compared in
     let at : c.place_near-at.result ≡ first_chunk_from cmp (Included q) cs = search rules in
@@ -27,7 +27,7 @@ returns-in_err-chunk g c =
 pub returns : goal.returns
 returns g c =
     let cmp = g.K.Ord.cmp in
-    let q = c.args.key.now in
+    let q = (g.Q.Sought.key c.args.key) in
     let cs = c.self.inside.chunks.items in
     let order = order_by g.K.Key.order cmp g.met.K.Key.compared in
     let chunk = c.in_ok-chunk.chunk.now in

@@ -11,7 +11,7 @@ use Rattle.kfs_maps.proofs.chunks.part.Part.inner_chunk.Goals as goal
 pub returns : goal.returns
 returns g c =
     let cmp = g.K.Ord.cmp in
-    let q = c.args.key.now in
+    let q = (g.Q.Sought.key c.args.key) in
     let cs = c.self.inside.chunks.items in
     let order = order_by g.K.Key.order cmp g.met.K.Key.compared in
     let chunk = c.in_ok-chunk.chunk.now in

@@ -9,7 +9,7 @@ use Rattle.kfs_maps.proofs.chunks.part.Part.told_at.Goals as goal
 pub returns : goal.returns
 returns g c =
     let cmp = g.K.Ord.cmp in
-    let q = c.args.key.now in
+    let q = (g.Q.Sought.key c.args.key) in
     let cs = c.self.inside.chunks.items in
     let chunk = c.in_ok-chunk.chunk.now in
     let within : c.args.near.chunk < length cs = search rules in
