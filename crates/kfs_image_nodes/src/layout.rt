@@ -23,7 +23,7 @@ use crate::edits::NodeChanges;
 use crate::name_edits::LastPlaces;
 use crate::net::NameRows;
 use crate::rows::{NodeTables, name_key};
-use kfs_maps::{Near, Page, Pages};
+use kfs_maps::{NameAt, Near, Page, Pages};
 use kfs_types::{Change, GREATEST_MODE_OF_VERSION_1, Header, Kind, Name, NameRow, ROOT};
 use std::alloc::{AllocError, Allocator};
 use std::marker::Model;
@@ -88,9 +88,10 @@ impl<A: Allocator> Shape<A> {
         self.rows.target(key)
     }
 
-    /// The same for names that are looked up one after another. It is found faster where the last name
-    /// was near. `near` becomes the place of this one. Takes no memory.
-    pub fn target_near(&self, near: &mut Near, key: &(u32, Name)) -> Option<u32>
+    /// The same for a name that is looked for where its bytes lie, and for several that are looked up one
+    /// after another. It is found faster where the last name was near. `near` becomes the place of this
+    /// one. Takes no memory.
+    pub fn target_near(&self, near: &mut Near, key: &NameAt<'_>) -> Option<u32>
         ensures { result ≡ target self.now.names key.now.0 key.now.1 }
     {
         self.rows.target_near(near, key)

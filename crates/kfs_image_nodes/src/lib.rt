@@ -1,6 +1,6 @@
 //! The nodes and names of an image, in tables that views share.
 //!
-//! It stands on `kfs_maps` and `kfs_maps`; the image, the leases and the judge stand on it.
+//! It stands on `kfs_maps`; the image, the leases and the judge stand on it.
 //! Begin with `layout.rt` (`Shape`) and `cell.rt` (what can be looked up).
 #![tactic(auto)]
 
@@ -17,7 +17,7 @@ mod tallies;
 pub use cell::{Answer, Cell};
 pub use edits::NodeChanges;
 pub use header_page::HeaderPage;
-pub use kfs_maps::{Near, Page};
+pub use kfs_maps::{NameAt, Near, Page};
 pub use kfs_types::{Header, Kind, Name, TierSizes};
 pub use layout::{Shape, look};
 pub use net::{LentNet, NameRows, Net, kept_net, owned_net};

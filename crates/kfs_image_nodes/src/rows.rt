@@ -23,7 +23,7 @@ use crate::edits::NodeChanges;
 use crate::name_edits::{LastPlaces, NameEdits, name_edits};
 use crate::net::NameRows;
 use crate::sorted_rows::{NameCounts, counts_of, names_of};
-use kfs_maps::{Chunks, EditChunks, EditPages, Near, NumberEdit, Pages};
+use kfs_maps::{Chunks, EditChunks, EditPages, NameAt, Near, NumberEdit, Pages};
 use kfs_types::{Change, Header, Name, NameRow, Nothing};
 use std::alloc::{AllocError, Allocator};
 use std::ops::Bound;
@@ -84,7 +84,7 @@ impl<A: Allocator> NodeTables<A> {
         self.names.get(key).copied()
     }
 
-    pub(crate) fn target_near(&self, near: &mut Near, key: &(u32, Name)) -> Option<u32>
+    pub(crate) fn target_near(&self, near: &mut Near, key: &NameAt<'_>) -> Option<u32>
         ensures { result ≡ get (names_in self.now) key.now }
     {
         self.names.get_near(near, key).copied()

@@ -1,5 +1,5 @@
 //! Reads as a record keeps them.
-ghost use Rattle.std.specs.Prelude.{◌≡◌, IfOk};
+ghost use Rattle.std.specs.Prelude.{◌≡◌, ◌≤◌, IfOk, IsOk, length};
 ghost use Rattle.std.specs.Cmp.{partial_equiv_from_equiv};
 ghost use Rattle.kfs_image_nodes.specs.declared.cell.Cell.TheVariants as cells;
 ghost use Rattle.kfs_judge.specs.declared.check.reads.Read.TheVariants as reads;
@@ -118,7 +118,8 @@ impl<A: Allocator> KeptRead<A> {
 
     /// The read of a name. `Err` where memory runs out, which a name of up to 30 bytes doesn't take.
     pub(crate) fn name(alloc: A, key: &NameKey<'_, '_>) -> Result<KeptRead<A>, AllocError>
-        ensures { IfOk result (λ read. read ≡ reads.Look (cells.Name key.now.0 key.now.1)) }
+        ensures read { IfOk result (λ read. read ≡ reads.Look (cells.Name key.now.0 key.now.1)) }
+        ensures short { length key.now.1 ≤ 30 → IsOk result }
     {
         let name = key.name().kept(alloc)?;
         Ok(KeptRead {

@@ -10,7 +10,7 @@ ghost use Rattle.kfs_judge.specs.Check.Looks.{HeadersAreRight, NamesAreRight};
 
 use crate::check::view::View;
 use crate::draft::NameKey;
-use kfs_image_nodes::{Header, Near};
+use kfs_image_nodes::{Header, NameAt, Near};
 use std::alloc::Allocator;
 
 /// A view, and what it answered last: two headers and two names, which take no memory. Names are kept
@@ -73,9 +73,11 @@ fn look_up<A: Allocator + Copy>(
 ) -> Option<u32>
     ensures { result ≡ target (contents_of view.now).names key.now.0 key.now.1 }
 {
-    let place = key.copied();
-    nears.turn_to(place.0);
-    view.target_near(&mut nears.last, &place)
+    nears.turn_to(key.dir());
+    view.target_near(
+        &mut nears.last,
+        &NameAt::new(key.dir(), key.name().sought()),
+    )
 }
 
 /// The last two questions, each with its answer. A judgement asks for few cells of its view, and for each

@@ -4,7 +4,7 @@ ghost use Rattle.std.specs.Ordering.{eq_by_cmp};
 ghost use Rattle.std.specs.Cmp.{eq_by_cmp_equiv, partial_equiv_from_equiv, partial_order_from_total};
 ghost use Rattle.kfs_model.specs.Tree.{name_order};
 
-use kfs_types::{BorrowedName, Name};
+use kfs_types::BorrowedName;
 use std::cmp::Ordering;
 use std::marker::Model;
 
@@ -75,13 +75,6 @@ impl<'e, 's> NameKey<'e, 's> {
         ensures { result.now ≡ self.now.1 }
     {
         self.name
-    }
-
-    /// The directory's number with a copy of the name.
-    pub fn copied(&self) -> (u32, Name)
-        ensures { result ≡ self.now }
-    {
-        (self.dir, self.name.owned())
     }
 
     /// The same key once more.

@@ -14,7 +14,7 @@ ghost use Rattle.kfs_judge.specs.Check.View.{contents_of, leases_of, clients_of,
 use crate::check::kept_read::{KeptRead, Place};
 use crate::check::reads::ReadAnswer;
 use crate::check::view::View;
-use kfs_image_nodes::{Answer, Cell, Header, Name, Near, Shape, look};
+use kfs_image_nodes::{Answer, Cell, Header, NameAt, Near, Shape, look};
 use kfs_lease::Leases;
 use kfs_mode::{Client, find_client};
 use std::alloc::Allocator;
@@ -64,7 +64,7 @@ impl<A: Allocator + Copy> View<A> {
     /// The number that a name of a directory leads to, or none, for names that are looked up one after
     /// another. It is found faster where the last name was near. `near` becomes the place of this one.
     /// Takes no memory.
-    pub fn target_near(&self, near: &mut Near, key: &(u32, Name)) -> Option<u32>
+    pub(crate) fn target_near(&self, near: &mut Near, key: &NameAt<'_>) -> Option<u32>
         ensures { result ≡ target (contents_of self.now).names key.now.0 key.now.1 }
     {
         self.shape.target_near(near, key)
@@ -78,7 +78,7 @@ impl<A: Allocator + Copy> View<A> {
         match read.place() {
             Place::Header(number) => ReadAnswer::Look(Answer::Header(self.header(*number))),
             Place::Name(dir, name) => {
-                let key = (*dir, name.owned());
+                let key = NameAt::new(*dir, name.sought());
                 ReadAnswer::Look(Answer::Name(self.target_near(near, &key)))
             }
             Place::Count(dir) => ReadAnswer::Look(Answer::Count(self.shape.count(*dir))),

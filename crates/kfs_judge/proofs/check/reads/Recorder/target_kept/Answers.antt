@@ -26,7 +26,7 @@ returns-in-Some g c =
     record {
       goes = goes_nowhere c.args.self.now;
       known = λ state agrees.
-          c.number_in.ensures (state.sight.name d m) (ap (λ read. answer state (cell_of read)) (sym c.in_ok-read.ensures) ∙ known_by_key _ c.in_ok-read.read _ (sym c.in-Some.ensures.found) state agrees);
+          c.number_in.ensures (state.sight.name d m) (ap (λ read. answer state (cell_of read)) (sym c.in_ok-read.ensures.read) ∙ known_by_key _ c.in_ok-read.read _ (sym c.in-Some.ensures.found) state agrees);
       among = within_same c.args.self.now.reads.entries (NameIn d m ∷ []);
     }
 
@@ -39,7 +39,7 @@ returns g c =
     let old = c.args.self.now in
     let last = ap (λ (r : ReadsShown). r.entries) c.in_ok-add.ensures.ok in
     looks_at_one old _ (Look (Name d m)) told
-    (read_as old.reads.entries told c.in_ok-read.ensures last)
+    (read_as old.reads.entries told c.in_ok-read.ensures.read last)
     (ap (λ (r : ReadsShown). r.keeps) c.in_ok-add.ensures.ok)
     (ap (λ view. client_sight_in view old.client) c.target-number.ensures.same)
     (ap Number (sym c.target-number.ensures.target))
