@@ -103,6 +103,20 @@ module _ {K V : Type 0} (R : Order K) where
       at true e = absurd (true_or_false _ (parted_edits xs es ascend 0 k d (omega arith) within e) (missed d))
       at false e = e
 
+  -- where the first edit and a run of the later ones reach into the entries, one more than that run does
+  pub one_more_reaches : (xs : List (K × V)) (e : KeyEdit K V) (es : List (KeyEdit K V)) (run : ℕ) → reaches R.compare (Included e.key) xs ≡ true
+      → ((k : ℕ) (d : KeyEdit K V) → 0 ≤ k → k < run → reaches R.compare (Included (slice_index_or es k d).key) xs ≡ true)
+      → (k : ℕ) (d : KeyEdit K V) → 0 ≤ k → k < 1 + run → reaches R.compare (Included (slice_index_or (e ∷ es) k d).key) xs ≡ true
+  one_more_reaches xs e es run first later zero d least within = first
+  one_more_reaches xs e es run first later (suc k) d least within = later k d (omega arith) (omega (arith, within))
+
+  -- and where the later ones from a run on don't, the edits from one more on don't
+  pub one_more_past : (xs : List (K × V)) (e : KeyEdit K V) (es : List (KeyEdit K V)) (run : ℕ)
+      → ((k : ℕ) (d : KeyEdit K V) → run ≤ k → k < length es → reaches R.compare (Included (slice_index_or es k d).key) xs ≡ false)
+      → (k : ℕ) (d : KeyEdit K V) → 1 + run ≤ k → k < length (e ∷ es) → reaches R.compare (Included (slice_index_or (e ∷ es) k d).key) xs ≡ false
+  one_more_past xs e es run later zero d behind within = absurd (let no : ⊥ = omega (arith, behind) in no)
+  one_more_past xs e es run later (suc k) d behind within = later k d (omega (arith, behind)) (omega (arith, within))
+
   -- the keys of those that do are below what stands behind the entries
   pub run_below : (xs ys : List (K × V)) (es : List (KeyEdit K V)) (run : ℕ) → T (is_sorted R.compare (xs ++ ys)) → ((k : ℕ) (d : KeyEdit K V) → 0 ≤ k → k < run → reaches R.compare (Included (slice_index_or es k d).key) xs ≡ true)
       → All (λ e. T (below_all R.compare e.key ys)) (take run es)

@@ -339,6 +339,7 @@ fn first_behind<K: Key, V: Copy, Q: Sought<K>>(pairs: &[(K, V)], from: usize, ke
 }
 
 /// Whether a key is at the bound or behind it.
+#[inline(always)]
 fn is_from<K: Key, Q: Sought<K>>(start: &Bound<Q>, key: &K) -> bool
     ensures { result ≡ is_from K.cmp (bound_map Q.key start.now) key.now }
 {
@@ -378,6 +379,7 @@ pub trait Sought<K: Key>: Copy {
 impl<'k, K: Key> Sought<K> for &'k K {
     ghost key = { λ key. key.now };
 
+    #[inline(always)]
     fn against(self, other: &K) -> Ordering {
         self.cmp(other)
     }
@@ -410,6 +412,7 @@ impl<'s> NameAt<'s> {
 impl<'k, 's> Sought<(u32, Name)> for &'k NameAt<'s> {
     ghost key = { λ at. at.now };
 
+    #[inline(always)]
     fn against(self, other: &(u32, Name)) -> Ordering {
         if self.dir != other.0 {
             return self.dir.cmp(&other.0);

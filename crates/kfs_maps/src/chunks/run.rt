@@ -99,9 +99,9 @@ pub(crate) fn edits_of<K: Key, V: Copy, A: Allocator, R: Run<K, V>>(
         return edits.len();
     }
     // Most runs of a list have no edit, and one look tells it.
-    match edits.first() {
-        Some(first) if run.reaches(&Bound::Included(&first.key)) => {
-            edits.partition_point(|edit| run.reaches(&Bound::Included(&edit.key)))
+    match edits.split_first() {
+        Some((first, more)) if run.reaches(&Bound::Included(&first.key)) => {
+            1 + more.partition_point(|edit| run.reaches(&Bound::Included(&edit.key)))
         }
         _ => 0,
     }
