@@ -143,7 +143,7 @@ pub(crate) fn load(alloc: Global, bytes: &[u8]) -> Result<Image<Global>, Unopene
 {
     let raw = read_rows(alloc, bytes)?;
     match check_keeping(alloc, &raw, &InTurn) {
-        Ok(headers) => match Image::from_raw_with(alloc, raw, headers) {
+        Ok(headers) => match Image::from_raw_with(alloc, &InTurn, raw, headers) {
             Ok(image) => Ok(image),
             Err(_) => Err(Unopened::NoMemory),
         },

@@ -16,7 +16,7 @@ use std::thread::Threads;
 
 /// Lets a raw image in: the image of its rows, if they break none of the ten rules of
 /// crates/kfs_model/specs/Device/Rules.antt. What is found is what `check_shape` finds. The order of
-/// names is tested in several threads.
+/// names is tested in several threads, and uplinks that don't ascend are sorted in several.
 ///
 /// Refused with `Found`, the least rule that is broken and the least number at which it is, or with
 /// `OutOfMemory` where memory runs out; then the raw image comes back as it was.
@@ -30,7 +30,7 @@ pub fn fsck<A: Allocator + Copy>(
     ensures fault { IfErr result (Tells raw) }
 {
     match check_keeping(alloc, &raw, &InParts { threads: rt }) {
-        Ok(headers) => image_from(alloc, raw, headers),
+        Ok(headers) => image_from(rt, alloc, raw, headers),
         Err(ShapeFault::Found(finding)) => Err(FsckFault::Found(finding)),
         Err(ShapeFault::OutOfMemory) => Err(FsckFault::OutOfMemory(raw)),
     }
@@ -38,6 +38,7 @@ pub fn fsck<A: Allocator + Copy>(
 
 /// The image of rows that break no rule, given their headers.
 fn image_from<A: Allocator + Copy>(
+    rt: &(impl Threads + Sync),
     alloc: A,
     raw: RawImage<A>,
     headers: Pages<Header, A>,
@@ -48,7 +49,7 @@ fn image_from<A: Allocator + Copy>(
     ensures image { IfOk result (λ image. image ≡ image_of (raw_of raw)) }
     ensures fault { IfErr result (Tells raw) }
 {
-    match Image::from_raw_with(alloc, raw, headers) {
+    match Image::from_raw_with(alloc, &InParts { threads: rt }, raw, headers) {
         Ok(image) => Ok(image),
         Err(back) => Err(FsckFault::OutOfMemory(back)),
     }

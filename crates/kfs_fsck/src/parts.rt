@@ -1,17 +1,17 @@
 //! The order of name rows, tested in several threads: a part is a row and the one before it. The least number of
-//! all rows is the least of those of the parts. Node rows are tested one after another, since threads take longer
+//! all rows is the least of those of the parts. Uplinks are sorted in several threads, too. Node rows are tested one after another, since threads take longer
 //! for them (docs/DECISIONS.md).
 ghost use Rattle.std.specs.Prelude.{◌≡◌, ℕ, ⊤, List, None, Option, fold, map};
 ghost use Rattle.kfs_shape.specs.Least.{merged};
 ghost use Rattle.kfs_shape.specs.Names.{least_unordered};
 ghost use Rattle.kfs_types.specs.Views.{name_row_of};
 
-use kfs_image::RawNode;
+use kfs_image::{RawNode, SortUplinks};
 use kfs_shape::{AskRows, NameRow, NodeTest, least_unordered, lesser};
 use rayon::prelude::*;
 use std::thread::Threads;
 
-/// Tests the order of name rows in several threads, and node rows one after another.
+/// Tests the order of name rows and sorts uplinks in several threads, and tests node rows one after another.
 #[derive(Drop)]
 pub struct InParts<'a, R: Threads + Sync> {
     /// The leave to start threads.
@@ -30,6 +30,16 @@ impl<'a, R: Threads + Sync> AskRows for InParts<'a, R> {
 
     fn least_unordered(&self, rows: &[NameRow]) -> Option<u32> {
         least_of_pairs(self.threads, rows)
+    }
+}
+
+impl<'a, R: Threads + Sync> SortUplinks for InParts<'a, R> {
+    ghost use Rattle.std.specs.Thread.{IsSync};
+
+    ghost can_sort = { λ parts. IsSync R.row };
+
+    fn sort(&self, uplinks: &mut [(u32, u32)]) {
+        par_sort_unstable(self.threads, uplinks);
     }
 }
 

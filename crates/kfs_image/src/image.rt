@@ -30,7 +30,9 @@ use crate::edit::{Edit, Parts};
 use crate::net::Fill;
 use crate::raw::{raw_blocks, raw_headers, raw_shape, tell_spelled};
 use crate::read::{ReadFault, released_blocks};
-use kfs_image_nodes::{Answer, Cell, LentNet, NameRows, Net, NodeChanges, Shape, look};
+use kfs_image_nodes::{
+    Answer, Cell, InTurn, LentNet, NameRows, Net, NodeChanges, Shape, SortUplinks, look,
+};
 use kfs_maps::{Pages, key_edits};
 use kfs_model::device::laws::well_formed_image_is_lawful;
 use kfs_types::{BLOCK_SIZE, Header, Kind, Name, TierSizes};
@@ -92,25 +94,27 @@ impl<A: Allocator + Clone> Image<A> {
         ensures err { IfErr result (λ back. back ≡ raw) }
     {
         match raw_headers(&alloc, &raw) {
-            Ok(headers) => Image::from_raw_with(alloc, raw, headers),
+            Ok(headers) => Image::from_raw_with(alloc, &InTurn, raw, headers),
             // It can only be a lack of memory.
             Err(_refused) => Err(raw),
         }
     }
 
-    /// `from_raw`, given the headers of the rows. A check of the rows has made them already.
+    /// `from_raw`, given the headers of the rows, which a check of them has made already, and who sorts uplinks.
     #[doc(hidden)]
-    pub fn from_raw_with(
+    pub fn from_raw_with<T: SortUplinks>(
         alloc: A,
+        sorter: &T,
         raw: RawImage<A>,
         headers: Pages<Header, A>,
     ) -> Result<Image<A>, RawImage<A>>
+        requires can_sort { T.can_sort sorter.now }
         requires well_formed { IsWellFormed (raw_of raw) }
         requires headers { AreHeaders headers raw }
         ensures ok { IfOk result (λ image. image ≡ image_of (raw_of raw)) }
         ensures err { IfErr result (λ back. back ≡ raw) }
     {
-        match Image::of_rows(alloc, &raw, headers) {
+        match Image::of_rows(alloc, sorter, &raw, headers) {
             Ok(image) => Ok(image),
             // It can only be a lack of memory.
             Err(_refused) => Err(raw),
@@ -118,18 +122,20 @@ impl<A: Allocator + Clone> Image<A> {
     }
 
     /// The image of the rows, which stay as they are.
-    fn of_rows(
+    fn of_rows<T: SortUplinks>(
         alloc: A,
+        sorter: &T,
         raw: &RawImage<A>,
         headers: Pages<Header, A>,
     ) -> Result<Image<A>, AllocError>
+        requires can_sort { T.can_sort sorter.now }
         requires well_formed { IsWellFormed (raw_of raw.now) }
         requires headers { AreHeaders headers raw.now }
         ensures { IfOk result (λ image. image ≡ image_of (raw_of raw.now)) }
     {
         tell_spelled(raw);
         well_formed_image_is_lawful();
-        let shape = raw_shape(&alloc, raw, headers)?;
+        let shape = raw_shape(&alloc, sorter, raw, headers)?;
         let shape = Arc::new(alloc.clone()?, shape)?;
         let blocks = raw_blocks(&alloc, raw)?;
         Ok(Image {

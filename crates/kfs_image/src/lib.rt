@@ -28,6 +28,8 @@ pub use image::Image;
 #[doc(hidden)]
 pub use image::{header, header_after};
 pub use kfs_image_nodes::{Answer, Cell, HeaderPage, Net, Page, Shape, look};
+#[doc(hidden)]
+pub use kfs_image_nodes::{InTurn, SortUplinks};
 pub use kfs_types::{
     BLOCK_SIZE, GREATEST_MODE, GREATEST_NUMBER, Header, Kind, LINK_LIMIT, Name, NameRow, NodeRow,
     ROOT, SIZE_LIMIT, TIER_LIMIT, TierSizes,

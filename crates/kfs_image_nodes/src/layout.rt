@@ -23,6 +23,7 @@ use crate::edits::NodeChanges;
 use crate::name_edits::LastPlaces;
 use crate::net::NameRows;
 use crate::rows::{NodeTables, name_key};
+use crate::uplink_order::SortUplinks;
 use kfs_maps::{NameAt, Near, Page, Pages};
 use kfs_types::{Change, GREATEST_MODE_OF_VERSION_1, Header, Kind, Name, NameRow, ROOT};
 use std::alloc::{AllocError, Allocator};
@@ -179,19 +180,21 @@ impl<A: Allocator + Clone> Shape<A> {
     }
 
     /// The nodes with these headers, and the names of rows that ascend. Conditions: each name is one, and
-    /// each directory's number is 1 to 65,536. Each name is written once. `Err` where memory runs out.
+    /// each directory's number is 1 to 65,536. Each name is written once, and `sorter` sorts uplinks. `Err` where memory runs out.
     #[doc(hidden)]
-    pub fn of_rows(
+    pub fn of_rows<T: SortUplinks>(
         alloc: &A,
+        sorter: &T,
         headers: Pages<Header, A>,
         names: &[NameRow],
     ) -> Result<Shape<A>, AllocError>
+        requires can_sort { T.can_sort sorter.now }
         requires sorted { T (is_sorted name_order.compare (name_entries names.now)) }
         requires named { All (λ row. IsName row.name) names.now }
         requires numbered { All (λ row. IsNumber row.dir) names.now }
         ensures { IfOk result (λ shape. shape ≡ record { heads = heads_of headers; names = table name_order (name_entries names.now) }) }
     {
-        let rows = NodeTables::of_rows(alloc, headers, names)?;
+        let rows = NodeTables::of_rows(alloc, sorter, headers, names)?;
         Ok(Shape {
             rows,
             last: LastPlaces::none(),

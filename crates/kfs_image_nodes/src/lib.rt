@@ -13,6 +13,7 @@ mod net;
 mod rows;
 mod sorted_rows;
 mod tallies;
+mod uplink_order;
 
 pub use cell::{Answer, Cell};
 pub use edits::NodeChanges;
@@ -21,3 +22,4 @@ pub use kfs_maps::{NameAt, Near, Page};
 pub use kfs_types::{Header, Kind, Name, TierSizes};
 pub use layout::{Shape, look};
 pub use net::{LentNet, NameRows, Net, kept_net, owned_net};
+pub use uplink_order::{InTurn, SortUplinks};

@@ -23,6 +23,7 @@ use crate::edits::NodeChanges;
 use crate::name_edits::{LastPlaces, NameEdits, name_edits};
 use crate::net::NameRows;
 use crate::sorted_rows::{NameCounts, counts_of, names_of};
+use crate::uplink_order::SortUplinks;
 use kfs_maps::{Chunks, EditChunks, EditPages, NameAt, Near, NumberEdit, Pages};
 use kfs_types::{Change, Header, Name, NameRow, Nothing};
 use std::alloc::{AllocError, Allocator};
@@ -195,11 +196,13 @@ impl<A: Allocator + Clone> NodeTables<A> {
     }
 
     /// The tables with these headers, and with the names of rows that ascend.
-    pub(crate) fn of_rows(
+    pub(crate) fn of_rows<T: SortUplinks>(
         alloc: &A,
+        sorter: &T,
         headers: Pages<Header, A>,
         rows: &[NameRow],
     ) -> Result<NodeTables<A>, AllocError>
+        requires can_sort { T.can_sort sorter.now }
         requires sorted { T (is_sorted name_order.compare (name_entries rows.now)) }
         requires named { All (λ row. IsName row.name) rows.now }
         requires numbered { All (λ row. IsNumber row.dir) rows.now }
@@ -207,7 +210,7 @@ impl<A: Allocator + Clone> NodeTables<A> {
         ensures names { IfOk result (λ tables. tables.names ≡ name_entries rows.now) }
         ensures indexed { IfOk result CountsAreExact }
     {
-        let NameCounts { counts, uplinks } = counts_of(alloc, rows)?;
+        let NameCounts { counts, uplinks } = counts_of(alloc, sorter, rows)?;
         let names = names_of(alloc, rows)?;
         Ok(NodeTables {
             headers,

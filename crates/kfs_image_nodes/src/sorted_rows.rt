@@ -15,6 +15,7 @@ ghost use Rattle.kfs_image_nodes.specs.SortedRows.{name_entry, name_entries, dir
 use crate::name_edits::number_edits;
 use crate::rows::name_key;
 use crate::tallies::add;
+use crate::uplink_order::{SortUplinks, put_in_order};
 use kfs_maps::{ChunkList, Chunks, Key, KeyEdit, Overlay, Pages, push_above};
 use kfs_types::{Name, NameRow, Nothing};
 use std::alloc::{AllocError, Allocator};
@@ -62,10 +63,12 @@ pub(crate) struct NameCounts<A: Allocator> {
 }
 
 /// The counts of the rows' names.
-pub(crate) fn counts_of<A: Allocator + Clone>(
+pub(crate) fn counts_of<A: Allocator + Clone, T: SortUplinks>(
     alloc: &A,
+    sorter: &T,
     rows: &[NameRow],
 ) -> Result<NameCounts<A>, AllocError>
+    requires can_sort { T.can_sort sorter.now }
     requires sorted { T (is_sorted name_order.compare (name_entries rows.now)) }
     requires numbered { All (λ row. IsNumber row.dir) rows.now }
     ensures { IfOk result (λ made. IsCounted (table name_order (name_entries rows.now)) made.counts (table by_node made.uplinks)) }
@@ -76,7 +79,7 @@ pub(crate) fn counts_of<A: Allocator + Clone>(
     let listed = uplinks_of(alloc, rows)?;
     let tally = directory_counts(alloc, listed.as_slice())?;
     let count_edits = number_edits(alloc, &tally)?;
-    let uplink_edits = uplink_counts(alloc, listed)?;
+    let uplink_edits = uplink_counts(alloc, sorter, listed)?;
     counts.change_then(count_edits.as_slice(), &mut Nothing)?;
     uplinks.change_then(uplink_edits.as_slice(), &mut Nothing)?;
     Ok(NameCounts { counts, uplinks })
@@ -132,14 +135,16 @@ fn is_in_run(uplink: &(u32, u32), later: &[(u32, u32)]) -> bool
 
 /// How many names of each directory lead to each node, by the names' uplinks, as edits that make an empty
 /// map say so. The list is sorted, where a map would be searched for each.
-fn uplink_counts<A: Allocator + Clone>(
+fn uplink_counts<A: Allocator + Clone, T: SortUplinks>(
     alloc: &A,
+    sorter: &T,
     mut uplinks: Vec<(u32, u32), A>,
 ) -> Result<Vec<KeyEdit<(u32, u32), u64>, A>, AllocError>
+    requires { T.can_sort sorter.now }
     ensures ascend { IfOk result (λ edits. KeysAscend by_node.compare edits.items) }
     ensures said { IfOk result (λ edits. SayHowOften by_node uplinks.items edits.items) }
 {
-    uplinks.sort_unstable();
+    put_in_order(sorter, uplinks.as_mut_slice());
     let edits = how_often(alloc, uplinks.as_slice())?;
     Ok(edits)
 }

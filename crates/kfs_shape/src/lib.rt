@@ -31,4 +31,4 @@ pub use least::lesser;
 #[doc(hidden)]
 pub use names::least_unordered;
 #[doc(hidden)]
-pub use node_test::{AskRows, InTurn, NodeTest};
+pub use node_test::{AskRows, NodeTest};

@@ -10,7 +10,7 @@ use crate::climbs::is_below_root;
 use crate::least::noted;
 use crate::names::{has_right_names, least_unordered};
 use crate::nodes::is_header_in_range;
-use kfs_image::RawNode;
+use kfs_image::{InTurn, RawNode};
 use kfs_types::NameRow;
 
 /// A test of a node row by itself.
@@ -63,10 +63,6 @@ pub trait AskRows {
         requires { can_ask self.now }
         ensures { result ≡ least_unordered (map name_row_of rows.now) };
 }
-
-/// Asks one row after another.
-#[derive(Clone, Copy)]
-pub struct InTurn;
 
 impl AskRows for InTurn {
     ghost use Rattle.std.specs.Prelude.{⊤};

@@ -17,7 +17,7 @@ use crate::restore::fault::RestoreFault;
 use crate::restore::rows::{clients_of, leases_of};
 use kfs_call::{LeaseRow, StateRows, decode_state};
 use kfs_desk::{BeginFault, Desk};
-use kfs_image::{Image, RawImage, decode_image};
+use kfs_image::{Image, RawImage, SortUplinks, decode_image};
 use kfs_lease::{LeaseRowFault, Leases};
 use kfs_mode::Client;
 use kfs_shape::{AskRows, InTurn, ShapeFault, check_keeping};
@@ -25,18 +25,19 @@ use std::alloc::Allocator;
 
 /// The image of rows, if they break no rule.
 #[tactic(auto, using(crate::proofs::RestoreLemmas::ReadFaults::rule_refused))]
-fn image_from<A: Allocator + Copy, T: AskRows>(
+fn image_from<A: Allocator + Copy, T: AskRows + SortUplinks>(
     ask: &T,
     alloc: A,
     raw: RawImage<A>,
 ) -> Result<Image<A>, RestoreFault>
-    requires { T.can_ask ask.now }
+    requires can_ask { T.can_ask ask.now }
+    requires can_sort { T.can_sort ask.now }
     ensures well_formed { IfOk result (λ image. IsWellFormed (raw_of raw)) }
     ensures image { IfOk result (λ image. image ≡ image_of (raw_of raw)) }
     ensures err { IfErr result (IsRefusedFor (rule_refusal (raw_of raw))) }
 {
     match check_keeping(alloc, &raw, ask) {
-        Ok(headers) => match Image::from_raw_with(alloc, raw, headers) {
+        Ok(headers) => match Image::from_raw_with(alloc, ask, raw, headers) {
             Ok(image) => Ok(image),
             Err(_) => Err(RestoreFault::OutOfMemory),
         },
@@ -100,14 +101,15 @@ fn desk_with<A: Allocator + Copy>(
 }
 
 /// A desk of the rows.
-fn desk_of<A: Allocator + Copy, T: AskRows>(
+fn desk_of<A: Allocator + Copy, T: AskRows + SortUplinks>(
     ask: &T,
     alloc: A,
     rows: &StateRows<'_, A>,
     raw: RawImage<A>,
     limit: u32,
 ) -> Result<Desk<A>, RestoreFault>
-    requires { T.can_ask ask.now }
+    requires can_ask { T.can_ask ask.now }
+    requires can_sort { T.can_sort ask.now }
     ensures { OnRestored limit (λ answer. answer ≡ verdict (state_shown rows.now) (raw_of raw)) result }
 {
     let image = image_from(ask, alloc, raw)?;
@@ -117,13 +119,14 @@ fn desk_of<A: Allocator + Copy, T: AskRows>(
 }
 
 /// `restore_asking`, with the first of its clauses.
-fn restore_in<A: Allocator + Copy, T: AskRows>(
+fn restore_in<A: Allocator + Copy, T: AskRows + SortUplinks>(
     ask: &T,
     alloc: A,
     bytes: &[u8],
     limit: u32,
 ) -> Result<Desk<A>, RestoreFault>
-    requires { T.can_ask ask.now }
+    requires can_ask { T.can_ask ask.now }
+    requires can_sort { T.can_sort ask.now }
     ensures { OnRestored limit (RestoreAnswer bytes.now) result }
 {
     let rows = decode_state(alloc, bytes)?;
@@ -131,15 +134,16 @@ fn restore_in<A: Allocator + Copy, T: AskRows>(
     desk_of(ask, alloc, &rows, raw, limit)
 }
 
-/// `restore_alone`, where the tests of single nodes are asked by `ask`.
+/// `restore_alone`, where `ask` tests the rows and sorts uplinks.
 #[doc(hidden)]
-pub fn restore_asking<A: Allocator + Copy, T: AskRows>(
+pub fn restore_asking<A: Allocator + Copy, T: AskRows + SortUplinks>(
     ask: &T,
     alloc: A,
     bytes: &[u8],
     limit: u32,
 ) -> Result<Desk<A>, RestoreFault>
-    requires { T.can_ask ask.now }
+    requires can_ask { T.can_ask ask.now }
+    requires can_sort { T.can_sort ask.now }
     // Soundness: the answer is right for these bytes.
     ensures found { OnRestored limit (RestoreAnswer bytes.now) result }
     // Completeness: the right answer is given, unless memory runs out.

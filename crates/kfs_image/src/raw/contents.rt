@@ -7,23 +7,25 @@ ghost use Rattle.kfs_image.specs.Codec.RawImages.{raw_of};
 ghost use Rattle.kfs_image.specs.Raw.Rows.{header_edit, contents_of_raw, AreHeaders};
 
 use crate::codec::{RawImage, RawNode};
-use kfs_image_nodes::{Header, Shape};
+use kfs_image_nodes::{Header, Shape, SortUplinks};
 use kfs_maps::{NumberEdit, Pages};
 use kfs_types::Nothing;
 use std::alloc::{AllocError, Allocator};
 
-/// The nodes and names of a raw image's rows, given their headers. `Err` where memory runs out.
-pub fn raw_shape<A: Allocator + Clone>(
+/// The nodes and names of a raw image's rows, given their headers. `sorter` sorts uplinks. `Err` where memory runs out.
+pub fn raw_shape<A: Allocator + Clone, T: SortUplinks>(
     alloc: &A,
+    sorter: &T,
     raw: &RawImage<A>,
     headers: Pages<Header, A>,
 ) -> Result<Shape<A>, AllocError>
+    requires can_sort { T.can_sort sorter.now }
     requires spelled { IsSpelled (raw_of raw.now) }
     requires well_formed { IsWellFormed (raw_of raw.now) }
     requires headers { AreHeaders headers raw.now }
     ensures { IfOk result (λ shape. shape ≡ contents_of_raw (raw_of raw.now)) }
 {
-    let shape = Shape::of_rows(alloc, headers, raw.names.as_slice())?;
+    let shape = Shape::of_rows(alloc, sorter, headers, raw.names.as_slice())?;
     Ok(shape)
 }
 

@@ -1,4 +1,5 @@
-//! Images with as many nodes as there can be. The order of their names is tested in several threads.
+//! Images with as many nodes as there can be. The order of their names is tested in several threads, and
+//! uplinks that don't ascend are sorted in several.
 
 use kfs_fsck::{FsckFault, RawImage, fsck};
 use kfs_test_support::images::many::{GREATEST, chain};
@@ -57,6 +58,23 @@ fn found_with_directories<A: Allocator + Copy>(
     found_in(rt, alloc, raw)
 }
 
+/// The finding in the deepest chain whose numbers fall from the second node on. So its uplinks don't ascend.
+fn found_in_falling_chain<A: Allocator + Copy>(
+    rt: &(impl Threads + Sync),
+    alloc: A,
+) -> Option<Option<(u8, u32)>> {
+    let mut raw = chain(alloc, 1, None)?;
+    for row in raw.names.iter_mut() {
+        if row.dir == 1 {
+            row.number = GREATEST;
+        } else {
+            row.number = row.dir;
+            row.dir = row.dir.checked_add(1)?;
+        }
+    }
+    found_in(rt, alloc, raw)
+}
+
 /// The finding in the deepest chain without the name of its last directory.
 fn found_without_a_name<A: Allocator + Copy>(
     rt: &(impl Threads + Sync),
@@ -70,6 +88,11 @@ fn found_without_a_name<A: Allocator + Copy>(
 #[test]
 fn the_deepest_chain_is_let_in(rt: HostRuntime) {
     assert!(&rt; found(&rt, rt.alloc(), 1, None) == Some(None));
+}
+
+#[test]
+fn a_chain_with_falling_numbers_is_let_in(rt: HostRuntime) {
+    assert!(&rt; found_in_falling_chain(&rt, rt.alloc()) == Some(None));
 }
 
 #[test]
