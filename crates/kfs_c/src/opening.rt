@@ -18,9 +18,9 @@ use crate::numbers::ClientRow;
 use crate::slot::{put_in, take_out};
 use crate::submission::{FaultNumbers, fault};
 use kfs_desk::{BeginFault, Desk};
-use kfs_image::{Image, ImageFault, RawImage, TierSizes, decode_image};
+use kfs_image::{Image, ImageFault, InTurn, RawImage, TierSizes, decode_image};
 use kfs_mode::{Client, ClientFault};
-use kfs_shape::{InTurn, ShapeFault, check_keeping};
+use kfs_shape::{ShapeFault, check_keeping};
 use std::alloc::Global;
 
 /// Why no desk is opened.

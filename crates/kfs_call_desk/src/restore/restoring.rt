@@ -17,10 +17,10 @@ use crate::restore::fault::RestoreFault;
 use crate::restore::rows::{clients_of, leases_of};
 use kfs_call::{LeaseRow, StateRows, decode_state};
 use kfs_desk::{BeginFault, Desk};
-use kfs_image::{Image, RawImage, SortUplinks, decode_image};
+use kfs_image::{Image, InTurn, RawImage, SortUplinks, decode_image};
 use kfs_lease::{LeaseRowFault, Leases};
 use kfs_mode::Client;
-use kfs_shape::{AskRows, InTurn, ShapeFault, check_keeping};
+use kfs_shape::{AskRows, ShapeFault, check_keeping};
 use std::alloc::Allocator;
 
 /// The image of rows, if they break no rule.
