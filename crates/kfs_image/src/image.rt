@@ -102,13 +102,13 @@ impl<A: Allocator + Clone> Image<A> {
 
     /// `from_raw`, given the headers of the rows, which a check of them has made already, and who sorts uplinks.
     #[doc(hidden)]
-    pub fn from_raw_with<T: SortUplinks>(
+    pub fn from_raw_with<S: SortUplinks>(
         alloc: A,
-        sorter: &T,
+        sorter: &S,
         raw: RawImage<A>,
         headers: Pages<Header, A>,
     ) -> Result<Image<A>, RawImage<A>>
-        requires can_sort { T.can_sort sorter.now }
+        requires can_sort { S.can_sort sorter.now }
         requires well_formed { IsWellFormed (raw_of raw) }
         requires headers { AreHeaders headers raw }
         ensures ok { IfOk result (λ image. image ≡ image_of (raw_of raw)) }
@@ -122,13 +122,13 @@ impl<A: Allocator + Clone> Image<A> {
     }
 
     /// The image of the rows, which stay as they are.
-    fn of_rows<T: SortUplinks>(
+    fn of_rows<S: SortUplinks>(
         alloc: A,
-        sorter: &T,
+        sorter: &S,
         raw: &RawImage<A>,
         headers: Pages<Header, A>,
     ) -> Result<Image<A>, AllocError>
-        requires can_sort { T.can_sort sorter.now }
+        requires can_sort { S.can_sort sorter.now }
         requires well_formed { IsWellFormed (raw_of raw.now) }
         requires headers { AreHeaders headers raw.now }
         ensures { IfOk result (λ image. image ≡ image_of (raw_of raw.now)) }

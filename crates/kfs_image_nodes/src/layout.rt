@@ -182,13 +182,13 @@ impl<A: Allocator + Clone> Shape<A> {
     /// The nodes with these headers, and the names of rows that ascend. Conditions: each name is one, and
     /// each directory's number is 1 to 65,536. Each name is written once, and `sorter` sorts uplinks. `Err` where memory runs out.
     #[doc(hidden)]
-    pub fn of_rows<T: SortUplinks>(
+    pub fn of_rows<S: SortUplinks>(
         alloc: &A,
-        sorter: &T,
+        sorter: &S,
         headers: Pages<Header, A>,
         names: &[NameRow],
     ) -> Result<Shape<A>, AllocError>
-        requires can_sort { T.can_sort sorter.now }
+        requires can_sort { S.can_sort sorter.now }
         requires sorted { T (is_sorted name_order.compare (name_entries names.now)) }
         requires named { All (λ row. IsName row.name) names.now }
         requires numbered { All (λ row. IsNumber row.dir) names.now }

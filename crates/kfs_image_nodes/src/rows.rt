@@ -196,13 +196,13 @@ impl<A: Allocator + Clone> NodeTables<A> {
     }
 
     /// The tables with these headers, and with the names of rows that ascend.
-    pub(crate) fn of_rows<T: SortUplinks>(
+    pub(crate) fn of_rows<S: SortUplinks>(
         alloc: &A,
-        sorter: &T,
+        sorter: &S,
         headers: Pages<Header, A>,
         rows: &[NameRow],
     ) -> Result<NodeTables<A>, AllocError>
-        requires can_sort { T.can_sort sorter.now }
+        requires can_sort { S.can_sort sorter.now }
         requires sorted { T (is_sorted name_order.compare (name_entries rows.now)) }
         requires named { All (λ row. IsName row.name) rows.now }
         requires numbered { All (λ row. IsNumber row.dir) rows.now }

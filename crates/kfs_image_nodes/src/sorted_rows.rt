@@ -63,12 +63,12 @@ pub(crate) struct NameCounts<A: Allocator> {
 }
 
 /// The counts of the rows' names.
-pub(crate) fn counts_of<A: Allocator + Clone, T: SortUplinks>(
+pub(crate) fn counts_of<A: Allocator + Clone, S: SortUplinks>(
     alloc: &A,
-    sorter: &T,
+    sorter: &S,
     rows: &[NameRow],
 ) -> Result<NameCounts<A>, AllocError>
-    requires can_sort { T.can_sort sorter.now }
+    requires can_sort { S.can_sort sorter.now }
     requires sorted { T (is_sorted name_order.compare (name_entries rows.now)) }
     requires numbered { All (λ row. IsNumber row.dir) rows.now }
     ensures { IfOk result (λ made. IsCounted (table name_order (name_entries rows.now)) made.counts (table by_node made.uplinks)) }
@@ -135,12 +135,12 @@ fn is_in_run(uplink: &(u32, u32), later: &[(u32, u32)]) -> bool
 
 /// How many names of each directory lead to each node, by the names' uplinks, as edits that make an empty
 /// map say so. The list is sorted, where a map would be searched for each.
-fn uplink_counts<A: Allocator + Clone, T: SortUplinks>(
+fn uplink_counts<A: Allocator + Clone, S: SortUplinks>(
     alloc: &A,
-    sorter: &T,
+    sorter: &S,
     mut uplinks: Vec<(u32, u32), A>,
 ) -> Result<Vec<KeyEdit<(u32, u32), u64>, A>, AllocError>
-    requires { T.can_sort sorter.now }
+    requires { S.can_sort sorter.now }
     ensures ascend { IfOk result (λ edits. KeysAscend by_node.compare edits.items) }
     ensures said { IfOk result (λ edits. SayHowOften by_node uplinks.items edits.items) }
 {

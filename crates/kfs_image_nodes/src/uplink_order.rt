@@ -32,8 +32,8 @@ impl SortUplinks for InTurn {
 
 /// Sorts uplinks, unless they ascend. Takes no memory.
 // (no thread is begun for those that ascend, as in a tree that was made name by name)
-pub(crate) fn put_in_order<T: SortUplinks>(sorter: &T, uplinks: &mut [(u32, u32)])
-    requires { T.can_sort sorter.now }
+pub(crate) fn put_in_order<S: SortUplinks>(sorter: &S, uplinks: &mut [(u32, u32)])
+    requires { S.can_sort sorter.now }
     ensures permutation { IsPermutation uplinks.old uplinks.new }
     ensures len { length uplinks.new ≡ length uplinks.old }
     ensures sorted { IsSorted by_node.compare uplinks.new }

@@ -13,13 +13,13 @@ use kfs_types::Nothing;
 use std::alloc::{AllocError, Allocator};
 
 /// The nodes and names of a raw image's rows, given their headers. `sorter` sorts uplinks. `Err` where memory runs out.
-pub fn raw_shape<A: Allocator + Clone, T: SortUplinks>(
+pub fn raw_shape<A: Allocator + Clone, S: SortUplinks>(
     alloc: &A,
-    sorter: &T,
+    sorter: &S,
     raw: &RawImage<A>,
     headers: Pages<Header, A>,
 ) -> Result<Shape<A>, AllocError>
-    requires can_sort { T.can_sort sorter.now }
+    requires can_sort { S.can_sort sorter.now }
     requires spelled { IsSpelled (raw_of raw.now) }
     requires well_formed { IsWellFormed (raw_of raw.now) }
     requires headers { AreHeaders headers raw.now }
