@@ -5,3 +5,5 @@ pub mod Told
 pub mod EngineLemmas
 pub mod VerdictsLemmas
 pub mod ImagesLemmas
+-- Lemmas on the texts of replies.
+pub mod Texts

@@ -3,7 +3,7 @@ use Rattle.std.proofs.Common.{◌≡◌, ℕ, nat_lt, List, [], ◌∷◌, ◌++
 use Rattle.std.specs.Result.{IsErrAnd}
 use Rattle.kfs_model.specs.Access.{Client}
 use Rattle.kfs_model.specs.Device.ShownTree.{DeviceImage}
-use Rattle.kfs_program_command.specs.Command.{Load, asked_by}
+use Rattle.kfs_program_text.specs.Command.{Load, asked_by}
 use Rattle.kfs_program.specs.Images.Loading.{AppendsLine, LoadsWith}
 use Rattle.kfs_program_text.specs.Decimals.{hexadecimal}
 use Rattle.kfs_program_text.specs.Parts.{line_of}

@@ -6,10 +6,10 @@ use Rattle.kfs_program_text.specs.Cut.{cut, space}
 use Rattle.kfs_program_text.specs.Decimals.{hexadecimal}
 use Rattle.kfs_program_text.specs.Parts.{line_of}
 use Rattle.kfs_program_text.specs.Reading.{only}
-use Rattle.kfs_program_command.specs.Command.{Command, Load, Row, Setup, asked_by}
+use Rattle.kfs_program_text.specs.Command.{Command, Load, Row, Setup, asked_by}
 use Rattle.kfs_program.specs.Images.Loading.{IsLoaded, SaysWhyNot}
 use Rattle.kfs_program.specs.Engine.PlanLine.{SaysPlan}
-use Rattle.kfs_report.specs.Text.{client_text}
+use Rattle.kfs_program.specs.Report.{client_text}
 
 -- the text of a line that isn't the one wanted
 abbrev pub bad_line : List ℕ

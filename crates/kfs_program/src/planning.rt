@@ -1,7 +1,7 @@
 //! The word `plan`: an image, a client and a log, and the plan of that log.
 ghost use Rattle.std.specs.Prelude.{◌≡◌, [], Err, IfErr, IfOk, IsErrOf, MatchOption, None, Ok, Some, bytes_eq, codes};
-ghost use Rattle.kfs_program_command.specs.Command.{Load, Row, Setup, asked_by};
-ghost use Rattle.kfs_program_command.specs.Views.{opening_of};
+ghost use Rattle.kfs_program_text.specs.Command.{Load, Row, Setup, asked_by};
+ghost use Rattle.kfs_program_text.specs.Views.{opening_of};
 ghost use Rattle.kfs_program_text.specs.Decimals.{hexadecimal};
 ghost use Rattle.kfs_program_text.specs.Reading.{ReadsAs, only, words_left};
 ghost use Rattle.kfs_program.specs.Answer.{Tells};
@@ -10,12 +10,11 @@ ghost use Rattle.kfs_program.specs.declared.answer.LineWord.TheVariants.{Plan};
 
 use crate::images::load;
 use crate::input::Unread;
+use crate::report::client_line;
 use crate::sessions::{EngineFault, plan_line};
 use kfs_image::Image;
 use kfs_mode::{Client, ClientFault};
-use kfs_program_command::{Command, OpeningCommand};
-use kfs_program_text::{Refusal, Words};
-use kfs_report::client_line;
+use kfs_program_text::{Command, OpeningCommand, Refusal, Words};
 use std::alloc::{AllocError, Allocator};
 use std::io::Read;
 use std::thread::Threads;

@@ -9,3 +9,9 @@ pub mod NumbersRead
 pub mod Numerals
 pub mod WordByWord
 pub mod WordsCut
+-- Lemmas on the reading of commands.
+pub mod Asked
+pub mod Landings
+pub mod MovesRead
+pub mod Readings
+pub mod Rows

@@ -1,7 +1,11 @@
+pub mod Command
+pub mod CommandReading
 pub mod Cut
 pub mod Decimals
 pub mod Digits
+pub mod Example
 pub mod HeldOutput
 pub mod Parts
 pub mod Reading
 pub mod Streams
+pub mod Views

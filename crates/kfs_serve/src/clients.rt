@@ -1,12 +1,11 @@
 //! The clients of a desk, from the lines of a file.
 ghost use Rattle.std.specs.Prelude.{◌≡◌, Ok, Some, IfOk};
-ghost use Rattle.kfs_program_command.specs.Command.{Row, Setup, asked_by};
-ghost use Rattle.kfs_program_command.specs.Views.{opening_of};
+ghost use Rattle.kfs_program_text.specs.Command.{Row, Setup, asked_by};
+ghost use Rattle.kfs_program_text.specs.Views.{opening_of};
 
 use crate::fault::ProgramFault;
 use kfs_mode::{Client, ClientFault};
-use kfs_program_command::{Command, OpeningCommand};
-use kfs_program_text::{Refusal, first_line};
+use kfs_program_text::{Command, OpeningCommand, Refusal, first_line};
 use std::alloc::Global;
 
 /// The clients of a text, one a line, each as the command `client` of `kfs` (docs/FORMATS.md). The last line may lack its end.

@@ -10,10 +10,10 @@ use Rattle.kfs_plan.specs.Judged.{Judged}
 use Rattle.kfs_lease.specs.declared.act.Act.{Act}
 use Rattle.kfs_lease.specs.declared.act.Act.TheVariants as acts
 use Rattle.kfs_desk.specs.Machine.{Desk, IsImageOf, call_of, done_by}
-use Rattle.kfs_program_command.specs.Command as commands
-use Rattle.kfs_program_command.specs.Command.{asked_by, landing_worker}
-use Rattle.kfs_program_command.specs.Views.{act_of, asked_of_desk}
-use Rattle.kfs_program_command.specs.declared.command.DeskCommand.{DeskCommand}
+use Rattle.kfs_program_text.specs.Command as commands
+use Rattle.kfs_program_text.specs.Command.{asked_by, landing_worker}
+use Rattle.kfs_program_text.specs.Views.{act_of, asked_of_desk}
+use Rattle.kfs_program_text.specs.declared.command.DeskCommand.{DeskCommand}
 use Rattle.kfs_program.specs.Verdicts.HeldVerdicts.{HeldVerdicts, held_by, with_held}
 use Rattle.kfs_program.specs.Engine.Session.{After, Before, DeskOutcome, AnswersCommand, AnswersLine, IsCallAnswered, IsLandingAnswered, IsReplied, IsSaid, Start, AnswersJudge, AnswersLand, AnswersLoad, LineOutcome, DeskAnswers, Stage, WithHands, left_without_memory, opened, with_image}
 use Rattle.kfs_program.specs.Engine.Views.{IsUndone, stage_in, start_of}

@@ -5,10 +5,10 @@ use Rattle.std.proofs.lemmas.Result.{on_ok_weaker}
 use Rattle.kfs_model.specs.Access.{Client}
 use Rattle.kfs_model.specs.Lease.{row_of}
 use Rattle.kfs_desk.specs.Machine.{Desk}
-use Rattle.kfs_program_command.specs.Command.{Plan}
-use Rattle.kfs_program_command.specs.Views.{asked_of_desk}
-use Rattle.kfs_program_command.specs.declared.command.DeskCommand.{DeskCommand}
-use Rattle.kfs_program_command.specs.declared.command.DeskCommand.TheVariants as asked
+use Rattle.kfs_program_text.specs.Command.{Plan}
+use Rattle.kfs_program_text.specs.Views.{asked_of_desk}
+use Rattle.kfs_program_text.specs.declared.command.DeskCommand.{DeskCommand}
+use Rattle.kfs_program_text.specs.declared.command.DeskCommand.TheVariants as asked
 use Rattle.kfs_program.specs.Verdicts.HeldVerdicts.{HeldVerdicts}
 use Rattle.kfs_program.specs.Engine.Session.{After, DeskAnswers, DeskOutcome, IsPlanAnswered, IsReplied}
 use Rattle.kfs_program.specs.Engine.PlanLine.{AppendsPlan}

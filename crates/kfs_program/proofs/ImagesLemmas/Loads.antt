@@ -12,7 +12,7 @@ use Rattle.kfs_image.specs.declared.codec.fault.ImageFault.TheVariants as faults
 use Rattle.kfs_shape.specs.Findings.{finding_shown}
 use Rattle.kfs_shape.specs.declared.fault.Finding.{Finding as CodeFinding}
 use Rattle.kfs_program_text.specs.Parts.{line_of}
-use Rattle.kfs_report.specs.Text.{finding_text, image_fault_text}
+use Rattle.kfs_program.specs.Report.{finding_text, image_fault_text}
 use Rattle.kfs_program.specs.Images.Loading.{AppendsLine, AreSound, LoadsWith, SaysWhyNot}
 use Rattle.kfs_program.specs.Images.Showing.{AnswersImage, AppendsAnswer, Passes, Shows, bytes_said, show_text}
 

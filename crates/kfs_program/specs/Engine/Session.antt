@@ -20,7 +20,7 @@ use Rattle.kfs_desk.specs.declared.history.answers.BeginFault.{BeginFault}
 use Rattle.kfs_desk.specs.declared.history.answers.Done.{Done}
 use Rattle.kfs_desk.specs.declared.history.answers.Done.TheVariants.{Leased, Dropped, Ticked, Moved}
 use Rattle.kfs_desk.specs.declared.history.answers.Reply.{Reply}
-use Rattle.kfs_program_command.specs.Command.{Command, Setup, Request, OpeningCommand, New, Row, Begin, DeskCommand, Lease, LeaseAt, Drop, Tick, Submit, Node, Listing, Bytes, DocketLength, Judge, Land, Load, Save, Move, Plan, asked_by, landing_worker}
+use Rattle.kfs_program_text.specs.Command.{Command, Setup, Request, OpeningCommand, New, Row, Begin, DeskCommand, Lease, LeaseAt, Drop, Tick, Submit, Node, Listing, Bytes, DocketLength, Judge, Land, Load, Save, Move, Plan, asked_by, landing_worker}
 use Rattle.kfs_program.specs.Engine.Bytes.{read_text}
 use Rattle.kfs_program.specs.Images.Loading.{LoadsWith}
 use Rattle.kfs_program.specs.Images.Saving.{save_text}
@@ -28,7 +28,7 @@ use Rattle.kfs_program.specs.Engine.PlanLine.{SaysPlan}
 use Rattle.kfs_program.specs.Verdicts.HeldVerdicts.{HeldVerdicts, held_by, no_verdict, with_held}
 use Rattle.kfs_desk.specs.Verdict.Verdict.{IsVerdictOn, HeldVerdict, LandsVerdict}
 use Rattle.kfs_program.specs.Engine.Listing.{list_text}
-use Rattle.kfs_report.specs.Text.{act_text, begin_text, client_text, node_text, reply_text}
+use Rattle.kfs_program.specs.Report.{act_text, begin_text, client_text, node_text, reply_text}
 use Rattle.kfs_program_text.specs.Parts.{line_of}
 
 -- what a desk is begun with: the image, if there is one yet, and the clients

@@ -1,7 +1,7 @@
 -- The parts of a session, in terms of the definitions.
 use Rattle.std.specs.Prelude.{◌≡◌, ◌⊎◌, ℕ, List, codes, Option, None, Some}
 use Rattle.kfs_desk.specs.Machine.{Desk}
-use Rattle.kfs_program_command.specs.Command as commands
+use Rattle.kfs_program_text.specs.Command as commands
 use Rattle.kfs_program.specs.Verdicts.HeldVerdicts.{no_verdict}
 use Rattle.kfs_program.specs.Engine.Session.{AnswersCommand, IsReplied, LineOutcome, Stage, Start, Before, After, left_without_memory, opened}
 use Rattle.kfs_program_text.specs.Parts.{line_of}

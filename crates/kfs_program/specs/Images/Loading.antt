@@ -7,7 +7,7 @@ use Rattle.kfs_model.specs.Device.Spelling.{ImageSpellingFault, ImageAnswer, Bad
 use Rattle.kfs_image.specs.declared.codec.raw.RawImage.{RawImage as CodeRawImage}
 use Rattle.kfs_image.specs.Codec.RawImages.{raw_of}
 use Rattle.kfs_program_text.specs.Parts.{line_of, numbered_text}
-use Rattle.kfs_report.specs.Text.{finding_text}
+use Rattle.kfs_program.specs.Report.{finding_text}
 
 -- the bytes decode to rows that break no rule, and this is their image
 pub record IsLoaded (bytes : List ℕ) (image : DeviceImage) : Type 0 where

@@ -13,7 +13,7 @@ use Rattle.kfs_program_text.specs.Cut.{cut, space}
 use Rattle.kfs_program_text.specs.Decimals.{hexadecimal}
 use Rattle.kfs_program_text.specs.Parts.{field_text, line_of}
 use Rattle.kfs_program_text.specs.Reading.{only}
-use Rattle.kfs_report.specs.Text.{node_text}
+use Rattle.kfs_program.specs.Report.{node_text}
 use Rattle.kfs_program.specs.Images.Loading.{IsLoaded, SaysWhyNot}
 
 -- the bytes that a line says in hexadecimal, none where it says no bytes

@@ -2,9 +2,9 @@
 ghost use Rattle.std.specs.Prelude.{IfOk};
 ghost use Rattle.kfs_program.specs.Images.Loading.{AppendsLine, AreRead, AreSound, LoadsWith};
 
+use crate::report::{finding_line, image_line};
 use kfs_fsck::{FsckFault, fsck};
 use kfs_image::{Image, ImageFault, RawImage, decode_image};
-use kfs_report::{finding_line, image_line};
 use kfs_shape::{ShapeFault, check_shape};
 use std::alloc::{AllocError, Allocator};
 use std::thread::Threads;

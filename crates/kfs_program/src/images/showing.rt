@@ -6,10 +6,10 @@ ghost use Rattle.kfs_program_text.specs.Parts.{line_of};
 ghost use Rattle.kfs_program_text.specs.Reading.{ReadsAs};
 
 use crate::images::loading::{load, sound_rows};
+use crate::report::{LONGEST_LINE, node_line};
 use kfs_image::{NameRow, RawImage, RawNode};
 use kfs_program_text::parts::{field, text};
 use kfs_program_text::{Refusal, Words};
-use kfs_report::{LONGEST_LINE, node_line};
 use std::alloc::{AllocError, Allocator};
 use std::thread::Threads;
 

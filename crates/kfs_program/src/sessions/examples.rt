@@ -4,7 +4,7 @@
 ghost use Rattle.std.specs.Prelude.{◌≡◌, [], ◌∷◌, codes, None, Err};
 ghost use Rattle.kfs_model.specs.Examples.Example.{client_7, client_8};
 ghost use Rattle.kfs_mode.specs.declared.client.ClientFault.TheVariants.{TooManyGroups};
-ghost use Rattle.kfs_program_command.specs.Command.{Begin, New, Row};
+ghost use Rattle.kfs_program_text.specs.Command.{Begin, New, Row};
 ghost use Rattle.kfs_program.specs.Engine.Transcript.{BreaksOff};
 ghost use Rattle.kfs_program.specs.Engine.Example.{desk_of_7, desk_with, eight_blocks_each, full_docket, held_by_3, names_of_two_directories, opening_with, root_leased};
 ghost use Rattle.kfs_program.specs.Verdicts.HeldVerdicts.{no_verdict};

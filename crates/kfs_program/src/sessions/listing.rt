@@ -4,9 +4,9 @@ ghost use Rattle.hex.specs.Hex.{encode_lower};
 ghost use Rattle.kfs_program.specs.Engine.Listing.{list_text, names_in, names_text};
 ghost use Rattle.kfs_program_text.specs.Parts.{line_of};
 
+use crate::report::LONGEST_LINE;
 use kfs_image::{Image, Name};
 use kfs_program_text::parts::{field, number, text};
-use kfs_report::LONGEST_LINE;
 use std::alloc::{AllocError, Allocator};
 
 /// Appends `list N`, and then for each name of the directory, in order, a space and `HEXNAME:NUMBER`.

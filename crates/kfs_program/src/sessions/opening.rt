@@ -1,20 +1,19 @@
 //! What a desk is begun with: an image and clients.
 ghost use Rattle.std.specs.Prelude.{◌≡◌, ◌≤◌, IfErr, IfOk, IsErrOf, None, OnOk};
-ghost use Rattle.kfs_program_command.specs.Command as commands;
+ghost use Rattle.kfs_program_text.specs.Command as commands;
 ghost use Rattle.kfs_program.specs.Engine.Session.{AnswersLoad, Before, IsReplied, fresh};
-ghost use Rattle.kfs_program_command.specs.Views.{opening_of};
+ghost use Rattle.kfs_program_text.specs.Views.{opening_of};
 ghost use Rattle.kfs_program.specs.Engine.Views.{IsOpened, IsWithoutImage, start_of};
 ghost use Rattle.kfs_types.specs.Room.{spare_of};
 
 use crate::images::load;
+use crate::report::{begin_line, client_line};
 use kfs_desk::Desk;
 use kfs_desk::history::answers::BeginFault;
 use kfs_image::{Image, TierSizes};
 use kfs_mode::{Client, ClientFault};
-use kfs_program_command::OpeningCommand;
-use kfs_program_text::Refusal;
 use kfs_program_text::parts::text;
-use kfs_report::{begin_line, client_line};
+use kfs_program_text::{OpeningCommand, Refusal};
 use std::alloc::Allocator;
 use std::mem;
 use std::thread::Threads;

@@ -1,6 +1,6 @@
 //! Cuts the input into lines, and writes the reply to each.
 ghost use Rattle.std.specs.Prelude.{◌≡◌, ◌++◌, [], codes, IsErrOf, OnOk};
-ghost use Rattle.kfs_program_command.specs.Command.{asked_by};
+ghost use Rattle.kfs_program_text.specs.Command.{asked_by};
 ghost use Rattle.kfs_program.specs.Engine.Progress.{Ends, IsAnsweredIfShort, IsHeldAnswered, LineIsKept, IsLineAnswered, HasAnsweredSoFar, Takes, reply_written};
 ghost use Rattle.kfs_program.specs.Engine.Session.{AnswersLine};
 ghost use Rattle.kfs_program.specs.Engine.Views.{IsUndone, stage_of};
@@ -8,10 +8,10 @@ ghost use Rattle.kfs_program_text.specs.HeldOutput.{contents_with};
 ghost use Rattle.kfs_program_text.specs.Parts.{line_of};
 ghost use Rattle.kfs_program_text.specs.Streams.{Writes};
 
+use crate::report::LONGEST_LINE;
 use crate::sessions::fault::EngineFault;
 use crate::sessions::session::Session;
 use kfs_program_text::{HeldBack, Refusal, first_line};
-use kfs_report::LONGEST_LINE;
 use std::alloc::Allocator;
 use std::io::Write;
 use std::thread::Threads;

@@ -2,19 +2,18 @@
 //! and is landed later.
 ghost use Rattle.std.specs.Prelude.{◌≡◌, ◌≤◌, codes, IfErr, IfOk, IsErrOf, OnOk, Some};
 ghost use Rattle.kfs_plan.specs.Judging.{submission_of};
-ghost use Rattle.kfs_program_command.specs.Command as commands;
+ghost use Rattle.kfs_program_text.specs.Command as commands;
 ghost use Rattle.kfs_desk.specs.Verdict.Verdict.{IsVerdictOn, verdict_of};
 ghost use Rattle.kfs_program.specs.Engine.Session.{After, IsLandingAnswered, IsReplied, DeskAnswers, left_without_memory};
 ghost use Rattle.kfs_program_text.specs.Parts.{line_of};
 ghost use Rattle.kfs_types.specs.Room.{spare_of};
 
+use crate::report::reply_line;
 use crate::verdicts::HeldVerdicts;
 use kfs_desk::{Desk, DeskView};
 use kfs_plan::{Judged, Submission, Why};
-use kfs_program_command::Worker;
-use kfs_program_text::Refusal;
 use kfs_program_text::parts::{number, text};
-use kfs_report::reply_line;
+use kfs_program_text::{Refusal, Worker};
 use std::alloc::Allocator;
 
 /// Judges the submission for a worker who holds nothing; the worker holds the verdict then.

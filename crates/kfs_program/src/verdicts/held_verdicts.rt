@@ -5,7 +5,7 @@ ghost use Rattle.kfs_desk.specs.Verdict.Verdict.{verdict_of};
 
 use kfs_desk::{WORKERS, none_of};
 use kfs_plan::Judged;
-use kfs_program_command::{LAST_WORKER, Worker};
+use kfs_program_text::{LAST_WORKER, Worker};
 use std::alloc::{AllocError, Allocator};
 use std::marker::Model;
 

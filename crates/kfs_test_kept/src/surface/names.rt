@@ -104,7 +104,7 @@ pub mod workers {
 
 /// The lines of answers.
 pub mod report {
-    pub use kfs_report::{act_line, fault_line, finding_line, node_line, reply_line};
+    pub use kfs_program::{act_line, fault_line, finding_line, node_line, reply_line};
 }
 
 /// The program.

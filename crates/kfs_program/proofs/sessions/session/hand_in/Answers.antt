@@ -1,5 +1,5 @@
 use Rattle.std.proofs.Common.{inr, refl}
-use Rattle.kfs_report.specs.Text.{reply_text}
+use Rattle.kfs_program.specs.Report.{reply_text}
 use Rattle.kfs_program_text.specs.Parts.{line_of}
 use Rattle.kfs_program.proofs.sessions.session.hand_in.Goals as goal
 

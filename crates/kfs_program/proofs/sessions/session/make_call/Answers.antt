@@ -1,5 +1,5 @@
 use Rattle.std.proofs.Common.{◌≡◌, Ok, Err, inr, refl}
-use Rattle.kfs_report.specs.Text.{act_text}
+use Rattle.kfs_program.specs.Report.{act_text}
 use Rattle.kfs_program_text.specs.Parts.{line_of}
 use Rattle.kfs_program.proofs.sessions.session.make_call.Goals as goal
 

@@ -3,7 +3,7 @@ use Rattle.std.specs.Prelude.{codes}
 use Rattle.kfs_desk.specs.Opening.{begin_fault}
 use Rattle.kfs_desk.specs.declared.history.answers.BeginFault.TheVariants.{OutOfMemory}
 use Rattle.kfs_program_text.specs.Parts.{line_of}
-use Rattle.kfs_report.specs.Text.{begin_text}
+use Rattle.kfs_program.specs.Report.{begin_text}
 use Rattle.kfs_program.specs.Engine.Session.{Before, begun_with, begun_over}
 use Rattle.kfs_program.proofs.sessions.opening.Opening.begin.Goals as goal
 

@@ -1,4 +1,0 @@
-pub mod Command
-pub mod Example
-pub mod Reading
-pub mod Views

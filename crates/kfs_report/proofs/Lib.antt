@@ -1,2 +1,0 @@
--- Lemmas on the texts of replies.
-pub mod Texts
