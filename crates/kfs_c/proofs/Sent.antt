@@ -5,7 +5,7 @@ use denote.Param.SendFields.{declared_send, variants_send}
 use Rattle.std.proofs.Crossing as std
 use Rattle.std.specs.contracts.alloc.Global as Heap
 use Rattle.std.specs.contracts.impls.GlobalAllocator.TheImpl.{ghosts}
-use Rattle.kfs_judge.proofs.check.view.View.TheSendSync as view
+use Rattle.kfs_judge_reads.proofs.view.View.TheSendSync as view
 use Rattle.kfs_plan.specs.contracts.judged.Judged as Judged
 use Rattle.kfs_plan.proofs.judged.Judged.TheSendSync as judged
 use Rattle.kfs_desk.proofs.Sent.{desk_send}

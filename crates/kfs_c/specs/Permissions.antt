@@ -2,11 +2,11 @@
 use Rattle.std.specs.Prelude.{◌≡◌, ℕ, ◌==◌, Option, None, Some, Ok, Err, if◌then◌else◌}
 use Rattle.std.specs.Option.{option_map}
 use Rattle.kfs_model.specs.Judgement.{State}
-use Rattle.kfs_judge.specs.Access.{Permission, permitted_by_state}
-use Rattle.kfs_judge.specs.declared.access.Access.{Access}
-use Rattle.kfs_judge.specs.declared.access.Access.TheVariants.{FindName, ListNames, ReadBytes}
-use Rattle.kfs_judge.specs.declared.access.AccessFault.{AccessFault}
-use Rattle.kfs_judge.specs.declared.access.AccessFault.TheVariants as faults
+use Rattle.kfs_mode.specs.Access.{Permission, permitted_by_state}
+use Rattle.kfs_mode.specs.declared.access.Access.{Access}
+use Rattle.kfs_mode.specs.declared.access.Access.TheVariants.{FindName, ListNames, ReadBytes}
+use Rattle.kfs_mode.specs.declared.access.AccessFault.{AccessFault}
+use Rattle.kfs_mode.specs.declared.access.AccessFault.TheVariants as faults
 use Rattle.kfs_c.specs.declared.submission.numbers.FaultNumbers.{FaultNumbers}
 use Rattle.kfs_c.specs.Submission.Told.{numbers}
 

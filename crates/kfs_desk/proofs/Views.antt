@@ -7,9 +7,7 @@ use Rattle.kfs_image_nodes.specs.Contents.{sight_of}
 use Rattle.kfs_model.specs.Device.ShownTree.{DeviceImage, IsLawful}
 use Rattle.kfs_image.specs.Image as images
 use Rattle.kfs_image.proofs.ShownTrees.{sight_shown}
-use Rattle.kfs_judge.specs.Check.Reads.{Agrees}
-use Rattle.kfs_judge.specs.Check.View.{client_sight_in, clients_of, contents_of, leases_of}
-use Rattle.kfs_judge.specs.declared.check.view.View.{View}
+use Rattle.kfs_judge.specs.Views.{View, clients_of, contents_of, leases_of, client_sight_in, Agrees}
 use Rattle.kfs_plan.specs.Judged.{HoldsIn, IsKnown, Judged}
 use Rattle.kfs_plan.specs.Judging.{IsVerdict, submission_of}
 use Rattle.kfs_desk.specs.Machine.{IsCurrent, IsViewOf, state_at}

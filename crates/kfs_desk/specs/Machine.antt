@@ -35,9 +35,7 @@ use Rattle.kfs_desk.specs.declared.history.answers.Done.{Done}
 use Rattle.kfs_desk.specs.declared.history.answers.Done.TheVariants as dones
 use Rattle.kfs_desk.specs.declared.history.answers.Reply.{Reply as CodeReply}
 use Rattle.kfs_desk.specs.declared.history.answers.Reply.TheVariants as replies
-use Rattle.kfs_judge.specs.Check.Reads.{Agrees}
-use Rattle.kfs_judge.specs.Check.View.{clients_of, contents_of, leases_of}
-use Rattle.kfs_judge.specs.declared.check.view.View.{View}
+use Rattle.kfs_judge.specs.Views.{View, clients_of, contents_of, leases_of, Agrees}
 use Rattle.kfs_image_nodes.specs.Contents.{sight_of}
 use Rattle.kfs_plan.specs.Judged.{Judged}
 use Rattle.kfs_desk.specs.Docket.{position_of, is_rejudged}

@@ -15,7 +15,7 @@ ghost use Rattle.kfs_lease.specs.Rows.Rows.{kind_of};
 ghost use Rattle.kfs_image_nodes.specs.Contents.{sight_of};
 ghost use Rattle.kfs_model.specs.Device.ShownTree.{IsLawful, shown_tree};
 ghost use Rattle.kfs_image.specs.Image as images;
-ghost use Rattle.kfs_judge.specs.Check.View.{clients_of, contents_of, leases_of};
+ghost use Rattle.kfs_judge.specs.Views.{clients_of, contents_of, leases_of};
 ghost use Rattle.kfs_plan.specs.Judging.{IsVerdict, submission_of, submission_with};
 ghost use Rattle.kfs_desk.specs.Again.{latest};
 ghost use Rattle.kfs_desk.specs.Found.{found_in};

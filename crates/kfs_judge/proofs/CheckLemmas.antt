@@ -1,10 +1,4 @@
--- Lemmas on what a judgement reads, and on what checks read and find.
-pub mod ReadsAgree
-pub mod Recording
-pub mod OneLook
-pub mod ViewShows
-pub mod Climbing
-pub mod Ways
+-- Lemmas on what checks read and find.
 pub mod Failing
 pub mod Lists
 pub mod Looking

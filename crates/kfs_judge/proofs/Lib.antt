@@ -1,6 +1,5 @@
 -- Lemmas on what a walk comes to.
 pub mod TreeWalks
 pub mod SameNets
-pub mod DraftLemmas
 pub mod CheckLemmas
 pub mod StepLemmas

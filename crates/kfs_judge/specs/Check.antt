@@ -1,12 +1,1 @@
 pub mod Checks
-pub mod Climbs
-pub mod Kept
-pub mod KeptReads
-pub mod Looks
-pub mod ReadKeys
-pub mod Reads
-pub mod Recall
-pub mod Recorders
-pub mod SameReads
-pub mod SeenReads
-pub mod View

@@ -7,8 +7,8 @@ use Rattle.kfs_types.specs.declared.entry.Entry.{Entry as CodeEntry}
 use Rattle.kfs_types.specs.declared.entry.Span.{Span}
 use Rattle.kfs_judge.specs.declared.step.log_judge.LogJudge.{LogJudge}
 use Rattle.kfs_judge.specs.declared.walk.EntryFault.{EntryFault}
-use Rattle.kfs_judge.specs.Draft.Overlay.{ChangesAreAmong}
-use Rattle.kfs_judge.specs.Check.Recorders.{Known, ReadsAt}
+use Rattle.kfs_judge_reads.specs.Draft.Overlay.{ChangesAreAmong}
+use Rattle.kfs_judge_reads.specs.Recorders.{Known, ReadsAt}
 use Rattle.kfs_judge.specs.Step.FileSizes.{HasFilesOf}
 use Rattle.kfs_judge.specs.Walks.{EndsAt}
 

@@ -1,7 +1,5 @@
-pub mod Access
-pub mod AccessExamples
+pub mod Views
 pub mod Walks
 pub mod EntriesEntered
-pub mod Draft
 pub mod Check
 pub mod Step

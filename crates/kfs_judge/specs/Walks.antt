@@ -1,8 +1,8 @@
 -- What a walk over a log's entries found, in terms of a state.
 use Rattle.std.specs.Prelude.{◌≡◌, ℕ, List, [], map, length, Option, None, Some, Result, Ok, Err, IsErr, Bool}
 use Rattle.std.specs.List.{AllByRecursion}
-use Rattle.kfs_judge.specs.Check.Reads.{Agrees, Always, AreAmong}
-use Rattle.kfs_judge.specs.Check.View.{clients_of, client_sight_in}
+use Rattle.kfs_judge_reads.specs.Reads.{Agrees, Always, AreAmong}
+use Rattle.kfs_judge_reads.specs.View.{clients_of, client_sight_in}
 use Rattle.kfs_model.specs.Looked.{seen_run, looked_cells}
 use Rattle.kfs_model.specs.Access.{Client}
 use Rattle.kfs_model.specs.Lease.{row_of}
@@ -20,13 +20,13 @@ use Rattle.kfs_judge.specs.Step.Nets.{IsNetOf}
 use Rattle.kfs_pieces.specs.declared.log.FileSize.{FileSize}
 use Rattle.kfs_pieces.specs.Sizes.{AreSizesBetween, SizesAscend, IsSize}
 use Rattle.kfs_judge.specs.Check.Checks.{reason_of}
-use Rattle.kfs_judge.specs.declared.draft.draft.Draft.{Draft}
+use Rattle.kfs_judge_reads.specs.declared.draft.draft.Draft.{Draft}
 use Rattle.kfs_judge.specs.declared.walk.Walk.{Walk}
-use Rattle.kfs_judge.specs.declared.check.view.View.{View}
+use Rattle.kfs_judge_reads.specs.declared.view.View.{View}
 use Rattle.kfs_entry.specs.Answers.{SpansAreWithin}
 use Rattle.kfs_types.specs.Views.{entry_of}
 use Rattle.kfs_types.specs.declared.entry.Log.{Log as CodeLog}
-use Rattle.kfs_judge.specs.Draft.Overlay.{over}
+use Rattle.kfs_judge_reads.specs.Draft.Overlay.{over}
 
 abbrev pub fault_of : CodeEntryFault → EntryFault
 fault_of fault = record { entry = fault.index; reason = reason_of fault.reason }

@@ -1,2 +1,4 @@
 pub mod Mode
 pub mod Clients
+pub mod Access
+pub mod AccessExamples

@@ -4,8 +4,12 @@
 //! and `may`.
 #![tactic(auto)]
 
+mod access;
+#[doc(hidden)]
+pub mod access_examples;
 mod class;
 mod client;
 
+pub use access::{Access, AccessFault, permission};
 pub use class::{Class, Want, class_of, may};
 pub use client::{Client, ClientFault, GROUP_LIMIT, find_client};

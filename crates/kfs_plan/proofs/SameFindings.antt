@@ -4,9 +4,7 @@ use Rattle.std.proofs.Common.{sym, ap, subst, ◌∙◌}
 use Rattle.kfs_model.specs.Sight.{sight}
 use Rattle.kfs_model.specs.Judgement.{State, Submission, Verdict, Yes, No}
 use Rattle.kfs_judge.proofs.SameNets.{same_net}
-use Rattle.kfs_judge.specs.declared.check.view.View.{View}
-use Rattle.kfs_judge.specs.declared.check.reads.Read.{Read}
-use Rattle.kfs_judge.specs.declared.check.reads.ReadAnswer.{ReadAnswer}
+use Rattle.kfs_judge.specs.Views.{View, Read, ReadAnswer}
 use Rattle.kfs_plan.specs.declared.submission.Outcome.{Outcome}
 use Rattle.kfs_plan.specs.declared.submission.Outcome.TheVariants as outcomes
 use Rattle.kfs_plan.specs.Judging.{AreLooked, IsSameFinding, IsVerdict, RefusesByFault, TellsVerdict, stops_before}

@@ -34,12 +34,8 @@ use Rattle.kfs_plan.specs.declared.submission.Outcome.TheVariants as outcomes
 use Rattle.kfs_judge.specs.declared.walk.EntryFault.{EntryFault as CodeEntryFault}
 use Rattle.kfs_plan.specs.Judging.{row_fault_of, spelling_fault_of, refusal_of, RefusesByFault, is_before_entries, stops_before, AreOfLog, AreLooked, AreSpelled, AgreesWithReads, IsVerdict, OutcomeIsSettled}
 use Rattle.kfs_judge.specs.declared.walk.Walk.{Walk}
-use Rattle.kfs_judge.specs.declared.check.reads.Read.{Read}
-use Rattle.kfs_judge.specs.declared.check.reads.ReadAnswer.{ReadAnswer}
+use Rattle.kfs_judge.specs.Views.{View, Read, ReadAnswer, client_sight_in, Agrees}
 use Rattle.kfs_plan.specs.PlanCheck.{TellsOfEachRun, TellsRow}
-use Rattle.kfs_judge.specs.declared.check.view.View.{View}
-use Rattle.kfs_judge.specs.Check.Reads.{Agrees}
-use Rattle.kfs_judge.specs.Check.View.{client_sight_in}
 use Rattle.kfs_judge.specs.Walks.{ComesToTree, fault_of, IsWalkOf}
 use Rattle.kfs_model.proofs.AnswersExist.{log_has_answer, plan_has_answer}
 use Rattle.kfs_judge.proofs.CheckLemmas.Lists.{row_has_number}

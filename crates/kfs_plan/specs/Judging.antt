@@ -31,14 +31,10 @@ use Rattle.kfs_plan.specs.declared.submission.Outcome.{Outcome}
 use Rattle.kfs_plan.specs.declared.submission.Outcome.TheVariants as outcomes
 use Rattle.kfs_plan.specs.declared.judgement.Spelled.{Spelled}
 use Rattle.kfs_plan.specs.declared.judgement.Spelled.TheVariants as readings
-use Rattle.kfs_judge.specs.declared.check.view.View.{View}
+use Rattle.kfs_judge.specs.Views.{View, Read, ReadAnswer, clients_of, client_sight_in, Agrees, AreAmong}
 use Rattle.kfs_judge.specs.declared.walk.EntryFault.{EntryFault as CodeEntryFault}
-use Rattle.kfs_judge.specs.declared.check.reads.Read.{Read}
-use Rattle.kfs_judge.specs.declared.check.reads.ReadAnswer.{ReadAnswer}
 use Rattle.kfs_pieces.specs.declared.log.FileSize.{FileSize}
 use Rattle.kfs_plan.specs.PlanCheck.{TellsOfEachRun}
-use Rattle.kfs_judge.specs.Check.Reads.{Agrees, AreAmong}
-use Rattle.kfs_judge.specs.Check.View.{clients_of, client_sight_in}
 use Rattle.kfs_judge.specs.Walks.{fault_of}
 use Rattle.kfs_judge.specs.Step.Nets.{IsNetOf}
 

@@ -19,7 +19,7 @@ use Rattle.kfs_pieces.specs.Sizes.{AreSizes}
 use Rattle.kfs_image_nodes.specs.declared.net.Net.{Net}
 use Rattle.kfs_plan.specs.declared.rows.RowFault.{RowFault as CodeRowFault}
 use Rattle.kfs_plan.specs.declared.rows.RowFault.TheVariants as faults
-use Rattle.kfs_judge.specs.Check.Reads.{Agrees}
+use Rattle.kfs_judge.specs.Views.{Agrees}
 use Rattle.kfs_judge.specs.declared.walk.Walk.{Walk}
 use Rattle.kfs_judge.specs.Step.Rows.{keyed_name_row, keyed_node_row}
 

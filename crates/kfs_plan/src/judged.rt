@@ -2,8 +2,7 @@
 ghost use Rattle.std.specs.Prelude.{◌≡◌, ◌↔◌, IsTrue};
 ghost use Rattle.std.specs.Option.{option_map};
 ghost use Rattle.kfs_model.specs.Lease.{row_of};
-ghost use Rattle.kfs_judge.specs.Check.Reads.{Agrees, answer_of, look_answer_of};
-ghost use Rattle.kfs_judge.specs.Check.View.{clients_of, client_sight_in};
+ghost use Rattle.kfs_judge.specs.Views.{clients_of, client_sight_in, look_answer_of, answer_of, Agrees};
 ghost use Rattle.kfs_plan.specs.Judged.{HoldsIn, IsKnown};
 
 use crate::submission::{KeptOutcome, Submission};

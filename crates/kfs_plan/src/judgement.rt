@@ -5,10 +5,8 @@ ghost use Rattle.kfs_model.specs.Judgement.{State};
 ghost use Rattle.kfs_model.specs.Lease.{row_of};
 ghost use Rattle.kfs_model.specs.Limits.{entry_limit};
 ghost use Rattle.kfs_types.specs.Views.{IsSpanned};
-ghost use Rattle.kfs_judge.specs.Check.Kept.{keeps_reads};
-ghost use Rattle.kfs_judge.specs.Check.Reads.{Agrees};
+ghost use Rattle.kfs_judge.specs.Views.{clients_of, client_sight_in, Agrees, keeps_reads};
 ghost use Rattle.kfs_judge.specs.Walks.{HasOrderedSizes};
-ghost use Rattle.kfs_judge.specs.Check.View.{clients_of, client_sight_in};
 ghost use Rattle.kfs_plan.specs.Judging.{AreLooked, AgreesWithReads, OutcomeIsSettled, ReadsDecide, IsSameFinding, IsVerdict, RefusesByFault, ShowsAs, submission_of, submission_with, IsEarly, IsReading, StopsByFault};
 
 use crate::judged::Judged;

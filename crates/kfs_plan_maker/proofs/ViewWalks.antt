@@ -13,9 +13,7 @@ use Rattle.kfs_image.proofs.ShownTrees.{sight_shown}
 use Rattle.kfs_image_nodes.specs.Contents.{sight_of}
 use Rattle.kfs_judge.specs.Walks.{IsRowOf, IsWalkOf}
 use Rattle.kfs_judge.specs.declared.walk.Walk.{Walk}
-use Rattle.kfs_judge.specs.Check.Reads.{Agrees}
-use Rattle.kfs_judge.specs.Check.View.{client_sight_in, clients_of, contents_of, leases_of}
-use Rattle.kfs_judge.specs.declared.check.view.View.{View}
+use Rattle.kfs_judge.specs.Views.{View, clients_of, contents_of, leases_of, client_sight_in, Agrees}
 use Rattle.kfs_lease.specs.Writer.{leases_of_writer}
 use Rattle.kfs_lease.proofs.WriterLeases.{writer_holds}
 use Rattle.kfs_plan_maker.specs.AskedLeases.{named_in}

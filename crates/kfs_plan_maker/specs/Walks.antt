@@ -8,7 +8,7 @@ use Rattle.kfs_types.specs.declared.plan.Plan.{Plan as CodePlan}
 use Rattle.kfs_image_nodes.specs.declared.net.Net.{Net}
 use Rattle.kfs_judge.specs.Walks.{IsWalkOf}
 use Rattle.kfs_judge.specs.declared.walk.Walk.{Walk}
-use Rattle.kfs_judge.specs.Check.Reads.{Agrees}
+use Rattle.kfs_judge.specs.Views.{Agrees}
 use Rattle.kfs_model.specs.Access.{Client}
 use Rattle.kfs_model.specs.Entry.{Log}
 use Rattle.kfs_model.specs.Limits.{entry_limit}

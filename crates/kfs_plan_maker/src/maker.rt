@@ -6,7 +6,7 @@ ghost use Rattle.kfs_model.specs.Device.ShownTree.{IsLawful, shown_tree};
 ghost use Rattle.kfs_entry.specs.Answers.{AreSpanned, plan_of};
 ghost use Rattle.kfs_image.specs.Image as images;
 ghost use Rattle.kfs_judge.specs.Walks.{HasOrderedSizes};
-ghost use Rattle.kfs_judge.specs.Check.View.{clients_of, contents_of, leases_of};
+ghost use Rattle.kfs_judge.specs.Views.{clients_of, contents_of, leases_of};
 ghost use Rattle.kfs_plan_maker.specs.PlanMade.{HasNoPlan, IsPlanMade};
 ghost use Rattle.kfs_plan_maker.specs.Rows.{IsShort};
 ghost use Rattle.kfs_plan_maker.specs.Walks.{HasNoLog, HasRowsOf, IsLogFrom, IsWalkWithLeases};

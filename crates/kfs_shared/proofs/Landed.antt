@@ -5,7 +5,7 @@ use Rattle.std.proofs.lemmas.Bool.{both_ways}
 use Rattle.kfs_model.specs.Judgement.{State}
 use Rattle.kfs_model.specs.Machine.{Row}
 use Rattle.kfs_desk.specs.History.Legal.{IsLegalDocket}
-use Rattle.kfs_judge.specs.declared.check.view.View.{View}
+use Rattle.kfs_judge.specs.Views.{View}
 use Rattle.kfs_desk.specs.Beginning.{Beginning, IsDocketFrom, beginning_of}
 use Rattle.kfs_desk.specs.Machine.{Desk, IsViewOf}
 use Rattle.kfs_shared.specs.Turns.Stages.{having_added, ticket}

@@ -4,7 +4,7 @@ use Rattle.kfs_model.specs.Judgement.{State}
 use Rattle.kfs_model.specs.Machine.{Row}
 use Rattle.kfs_desk.specs.History.Legal.{IsLegalDocket}
 use Rattle.kfs_lease.specs.declared.act.Act.{Act}
-use Rattle.kfs_judge.specs.declared.check.view.View.{View}
+use Rattle.kfs_judge.specs.Views.{View}
 use Rattle.kfs_plan.specs.Judged.{Judged}
 use Rattle.kfs_plan.specs.Judging.{submission_of}
 use Rattle.kfs_plan.specs.declared.submission.Submission.{Submission}

@@ -2,7 +2,7 @@
 use Rattle.std.specs.Prelude.{ℕ, false}
 use Rattle.kfs_model.specs.Judgement.{State}
 use Rattle.kfs_model.specs.Machine.{Row}
-use Rattle.kfs_judge.specs.declared.check.view.View.{View}
+use Rattle.kfs_judge.specs.Views.{View}
 use Rattle.kfs_desk.specs.Beginning.{Beginning, beginning_of}
 use Rattle.kfs_desk.specs.Machine.{Desk}
 use Rattle.kfs_shared.specs.Calls.{HasAdded, IsUnanswered, IsViewAfter}

@@ -5,7 +5,7 @@ ghost use Rattle.kfs_model.specs.Device.ShownTree.{IsLawful};
 ghost use Rattle.kfs_image.specs.Image as images;
 ghost use Rattle.kfs_image_nodes.specs.Lent.{IsSameNet};
 ghost use Rattle.kfs_image.specs.Net.{after_net};
-ghost use Rattle.kfs_judge.specs.Check.View.{contents_of};
+ghost use Rattle.kfs_judge.specs.Views.{contents_of};
 
 use kfs_image::{Fill, Image, Net, TierSizes, net_apply};
 use kfs_judge::View;

@@ -8,11 +8,7 @@ use Rattle.kfs_model.specs.Lease.{holds, row_of}
 use Rattle.kfs_model.specs.Looked.{looked_cells}
 use Rattle.kfs_model.specs.Order.{IsInOrder}
 use Rattle.kfs_model.specs.Sight.{Cell, Answer, ClientSight, answer}
-use Rattle.kfs_judge.specs.Check.Reads.{Agrees, AgreesAlong, answer_of, cell_of}
-use Rattle.kfs_judge.specs.Check.View.{client_sight_in, clients_of}
-use Rattle.kfs_judge.specs.declared.check.reads.Read.{Read}
-use Rattle.kfs_judge.specs.declared.check.reads.ReadAnswer.{ReadAnswer}
-use Rattle.kfs_judge.specs.declared.check.view.View.{View}
+use Rattle.kfs_judge.specs.Views.{View, Read, ReadAnswer, clients_of, client_sight_in, cell_of, answer_of, AgreesAlong, Agrees}
 use Rattle.kfs_plan.specs.Judged.{Judged}
 use Rattle.kfs_plan.specs.Judging.{AreLooked, AreOfLog, AgreesWithReads, IsVerdict, TellsVerdict, refusal_of, stops_before, submission_of}
 use Rattle.kfs_plan.specs.declared.submission.Fault.{Fault as CodeFault}

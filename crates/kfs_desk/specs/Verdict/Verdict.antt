@@ -12,7 +12,7 @@ use Rattle.kfs_model.specs.Sight.{Cell, Answer, answer}
 use Rattle.kfs_model.specs.Soundness.{IsSound}
 use Rattle.kfs_model.specs.Spelling.{LogAnswer}
 use Rattle.kfs_model.specs.Tree.{Tree}
-use Rattle.kfs_judge.specs.Check.Reads.{answer_of, cell_of}
+use Rattle.kfs_judge.specs.Views.{cell_of, answer_of}
 use Rattle.kfs_plan.specs.Judged.{Judged}
 use Rattle.kfs_plan.specs.Judging.{submission_of}
 use Rattle.kfs_desk.specs.declared.history.answers.Reply.{Reply}

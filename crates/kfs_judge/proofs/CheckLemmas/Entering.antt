@@ -8,11 +8,11 @@ use Rattle.kfs_model.specs.Sight.{Sight, ClientSight}
 use Rattle.kfs_model.specs.Check.{Reason, first_fault}
 use Rattle.kfs_model.specs.Run.{EntryFault, created_by, entry_context}
 use Rattle.kfs_model.specs.SeenAfter.{seen_after, seen_run_from}
-use Rattle.kfs_judge.specs.declared.draft.draft.Draft.{Draft}
-use Rattle.kfs_judge.specs.declared.check.reads.Read.{Read}
-use Rattle.kfs_judge.specs.declared.check.reads.ReadAnswer.{ReadAnswer}
-use Rattle.kfs_judge.specs.Draft.Overlay.{over, has_created, entry_context_of, AreCreated}
-use Rattle.kfs_judge.specs.Check.Reads.{Always, Grows}
+use Rattle.kfs_judge_reads.specs.declared.draft.draft.Draft.{Draft}
+use Rattle.kfs_judge_reads.specs.declared.reads.Read.{Read}
+use Rattle.kfs_judge_reads.specs.declared.reads.ReadAnswer.{ReadAnswer}
+use Rattle.kfs_judge_reads.specs.Draft.Overlay.{over, has_created, entry_context_of, AreCreated}
+use Rattle.kfs_judge_reads.specs.Reads.{Always, Grows}
 
 module _ {A : Type 0} (client : Client) (draft : Draft A) (state : ClientSight) (numbers : List ℕ) (created : AreCreated draft numbers) where
   pub same_context : entry_context_of client draft state ≡ entry_context client state (over draft state.sight) numbers

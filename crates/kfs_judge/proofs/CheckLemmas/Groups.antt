@@ -9,12 +9,12 @@ use Rattle.kfs_model.specs.Sight.{Cell, ClientSight, NameIn}
 use Rattle.kfs_judge.specs.declared.check.check.Reason.{Reason}
 use Rattle.kfs_judge.specs.declared.check.check.Reason.TheVariants.{NoSuchName}
 use Rattle.kfs_judge.specs.declared.check.entry_judge.EntryJudge.{EntryJudge}
-use Rattle.kfs_judge.specs.declared.check.reads.Recorder.{Recorder}
+use Rattle.kfs_judge_reads.specs.declared.reads.Recorder.{Recorder}
 use Rattle.kfs_judge.specs.Check.Checks.{reason_of, entry_context_in, JudgesAll}
-use Rattle.kfs_judge.specs.Check.Recorders.{Known, AnswersLook, ReadsAt}
+use Rattle.kfs_judge_reads.specs.Recorders.{Known, AnswersLook, ReadsAt}
 use Rattle.kfs_judge.proofs.CheckLemmas.Failing.{failing-in_front, failing-in_back, failing-passes, failing-fails, failing-none}
 use Rattle.kfs_judge.proofs.CheckLemmas.Looking.{front_is_looked, back_is_looked, looks_here}
-use Rattle.kfs_judge.proofs.CheckLemmas.Recording.{goes_then, within_then, within_wider}
+use Rattle.kfs_judge_reads.proofs.Recording.{goes_then, within_then, within_wider}
 
 module _ {A : Type 0} (judge : EntryJudge A) where
   -- the checks find this, in the reads from one recorder to another

@@ -9,14 +9,14 @@ use Rattle.kfs_model.specs.Run.{created_by}
 use Rattle.kfs_model.specs.SeenAfter.{seen_after}
 use Rattle.kfs_model.specs.Looked.{looked_from, looked_cells}
 use Rattle.kfs_model.proofs.CleanIsAllowed.{AllPass}
-use Rattle.kfs_judge.specs.declared.draft.draft.Draft.{Draft}
-use Rattle.kfs_judge.specs.declared.check.reads.Read.{Read}
-use Rattle.kfs_judge.specs.declared.check.reads.ReadAnswer.{ReadAnswer}
-use Rattle.kfs_judge.specs.Draft.Overlay.{over, has_created, entry_context_of, ChangesAreAmong, AreCreated}
-use Rattle.kfs_judge.specs.Check.Reads.{Always, Grows, IsPart, Within}
+use Rattle.kfs_judge_reads.specs.declared.draft.draft.Draft.{Draft}
+use Rattle.kfs_judge_reads.specs.declared.reads.Read.{Read}
+use Rattle.kfs_judge_reads.specs.declared.reads.ReadAnswer.{ReadAnswer}
+use Rattle.kfs_judge_reads.specs.Draft.Overlay.{over, has_created, entry_context_of, ChangesAreAmong, AreCreated}
+use Rattle.kfs_judge_reads.specs.Reads.{Always, Grows, IsPart, Within}
 use Rattle.kfs_judge.proofs.CheckLemmas.Entering.{same_context}
 use Rattle.kfs_judge.proofs.CheckLemmas.Failing.{failing-passes, failing-fails}
-use Rattle.kfs_judge.proofs.CheckLemmas.Recording.{within_same, within_then, within_wider, part_of_itself, left_is_part, right_is_part, both_are_part, none_is_part}
+use Rattle.kfs_judge_reads.proofs.Recording.{within_same, within_then, within_wider, part_of_itself, left_is_part, right_is_part, both_are_part, none_is_part}
 
 -- ---- checks
 

@@ -17,9 +17,9 @@ use Rattle.kfs_model.proofs.Exact.{IsExact, options-exact, numbers-exact, header
 use Rattle.kfs_model.proofs.Tables.{left_part, right_part, find_tie, find_below}
 use Rattle.kfs_judge.specs.Step.Rows.{IsRow, keyed_name_row, keyed_node_row}
 use Rattle.kfs_judge.specs.Step.Nets.{AreNamesOf, AreNodesOf}
-use Rattle.kfs_judge.specs.Draft.Overlay.{over}
-use Rattle.kfs_judge.specs.declared.draft.draft.Draft.{Draft}
-use Rattle.kfs_judge.specs.Draft.Few.{entries_of, list_of}
+use Rattle.kfs_judge_reads.specs.Draft.Overlay.{over}
+use Rattle.kfs_judge_reads.specs.declared.draft.draft.Draft.{Draft}
+use Rattle.kfs_judge_reads.specs.Draft.Few.{entries_of, list_of}
 use Rattle.kfs_types.specs.Views.{header_of}
 use Rattle.kfs_types.specs.declared.entry.Header.{Header as CodeHeader}
 use Rattle.kfs_types.specs.declared.plan.NameRow.{NameRow as CodeNameRow}

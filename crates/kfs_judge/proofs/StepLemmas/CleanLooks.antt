@@ -9,8 +9,8 @@ use Rattle.kfs_model.specs.Sight.{HeaderOf, NameIn, kind_shown}
 use Rattle.kfs_model.specs.Check.{EntryContext, Check, cells, checks_of, first_fault, looked, is_some_and, fault, may_go, on_number, arrival_checks, move_checks, rename_checks}
 use Rattle.kfs_model.proofs.CleanIsAllowed.{AllPass, all_pass, passed}
 use Rattle.kfs_judge.proofs.CheckLemmas.Looking.{looks_here, looks_at}
-use Rattle.kfs_judge.specs.Check.Reads.{IsPart}
-use Rattle.kfs_judge.proofs.CheckLemmas.Recording.{first_is_in, both_are_part, none_is_part}
+use Rattle.kfs_judge_reads.specs.Reads.{IsPart}
+use Rattle.kfs_judge_reads.proofs.Recording.{first_is_in, both_are_part, none_is_part}
 use Rattle.kfs_judge.specs.Step.Entered.{headers_renamed, headers_unlinked}
 
 module _ (p : EntryContext) where

@@ -8,17 +8,17 @@ use Rattle.kfs_model.specs.Check.{EntryContext, entry_cells, first_fault}
 use Rattle.kfs_model.specs.Sight.{Cell, ClientSight, HeaderOf}
 use Rattle.kfs_judge.specs.declared.check.check.Reason.{Reason}
 use Rattle.kfs_judge.proofs.CheckLemmas.Looking.{written_wider}
-use Rattle.kfs_judge.specs.Draft.Overlay.{has_header, ChangesAreAmong, KeepsHeaders, ShiftsBy}
-use Rattle.kfs_judge.specs.declared.draft.draft.Draft.{Draft}
-use Rattle.kfs_judge.proofs.DraftLemmas.Overlays.{shifts_wider}
+use Rattle.kfs_judge_reads.specs.Draft.Overlay.{has_header, ChangesAreAmong, KeepsHeaders, ShiftsBy}
+use Rattle.kfs_judge_reads.specs.declared.draft.draft.Draft.{Draft}
+use Rattle.kfs_judge_reads.proofs.DraftLemmas.Overlays.{shifts_wider}
 use Rattle.kfs_judge.specs.declared.step.log_judge.LogJudge.{LogJudge}
 use Rattle.kfs_judge.specs.Step.Entered.{CreatesItsNumber, IsEntered, IsFirstFault, ReadsItsCells, ShowsItsChange, next_context}
 use Rattle.kfs_judge.specs.Step.FileSizes.{HasFileOf}
 use Rattle.kfs_judge.specs.Step.Nets.{LooksOver}
-use Rattle.kfs_judge.specs.declared.check.reads.Recorder.{Recorder}
-use Rattle.kfs_judge.specs.Check.Reads.{IsPart}
-use Rattle.kfs_judge.specs.Check.Recorders.{GoesOn, Known, ReadsAt}
-use Rattle.kfs_judge.proofs.CheckLemmas.Recording.{goes_then, within_then, within_wider, first_is_in, left_is_part, right_is_part}
+use Rattle.kfs_judge_reads.specs.declared.reads.Recorder.{Recorder}
+use Rattle.kfs_judge_reads.specs.Reads.{IsPart}
+use Rattle.kfs_judge_reads.specs.Recorders.{GoesOn, Known, ReadsAt}
+use Rattle.kfs_judge_reads.proofs.Recording.{goes_then, within_then, within_wider, first_is_in, left_is_part, right_is_part}
 
 module _ {A : Type 0} (old new : LogJudge A) (entry : Entry) (goes : GoesOn old.recorder new.recorder) (client : new.client.now ≡ old.client.now) where
   pub is_cut_short : (answer : Result (Option Reason) AllocError) → IsErr answer → IsEntered old new entry answer

@@ -15,9 +15,9 @@ use Rattle.kfs_model.specs.Limits.{size_limit}
 use Rattle.kfs_model.specs.Sight.{Sight}
 use Rattle.kfs_types.specs.Views.{header_of}
 use Rattle.kfs_types.specs.declared.entry.Header.{Header as CodeHeader}
-use Rattle.kfs_judge.specs.declared.draft.draft.Draft.{Draft}
-use Rattle.kfs_judge.specs.Draft.Few.{entries_of, found_in}
-use Rattle.kfs_judge.specs.Draft.Overlay.{over, has_header}
+use Rattle.kfs_judge_reads.specs.declared.draft.draft.Draft.{Draft}
+use Rattle.kfs_judge_reads.specs.Draft.Few.{entries_of, found_in}
+use Rattle.kfs_judge_reads.specs.Draft.Overlay.{over, has_header}
 use Rattle.kfs_judge.specs.Step.FileSizes.{AreSizesOver}
 use Rattle.kfs_pieces.specs.declared.log.FileSize.{FileSize}
 use Rattle.kfs_pieces.specs.Sizes.{SizesAscend, size_in}

@@ -3,8 +3,8 @@ use Rattle.std.specs.Prelude.{◌≡◌, ℕ, ◌||◌, Bool, true, false, List,
 use Rattle.std.specs.List.{list_any}
 use Rattle.std.proofs.lemmas.Bool.{or_left, or_right}
 use Rattle.kfs_model.specs.Entry.{Entry}
-use Rattle.kfs_judge.specs.declared.draft.draft.Draft.{Draft}
-use Rattle.kfs_judge.specs.Draft.Overlay.{has_header, KeepsHeaders}
+use Rattle.kfs_judge_reads.specs.declared.draft.draft.Draft.{Draft}
+use Rattle.kfs_judge_reads.specs.Draft.Overlay.{has_header, KeepsHeaders}
 use Rattle.kfs_judge.specs.Step.FileSizes.{HasFileOf, HasFilesOf}
 use Rattle.kfs_pieces.specs.Sizes.{reaches_file}
 

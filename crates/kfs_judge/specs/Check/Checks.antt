@@ -1,22 +1,22 @@
 -- The code's checks, reasons and points of a log as those of the definitions.
-use Rattle.std.specs.Prelude.{◌≡◌, ℕ, Bool, List, map, Option, None, Some, Result}
+use Rattle.std.specs.Prelude.{◌≡◌, ℕ, Bool, List, Option, None, Some, Result}
 use Rattle.std.specs.Option.{option_map, is_some}
 use Rattle.std.specs.Ordering.{nat_cmp}
 use Rattle.std.specs.BTreeMap.{get}
-use Rattle.kfs_judge.specs.Check.Climbs.{IsWay, Follows}
-use Rattle.kfs_judge.specs.declared.check.climbs.Way.{Way}
-use Rattle.kfs_judge.specs.Check.Recorders.{LooksAlong}
+use Rattle.kfs_judge_reads.specs.Climbs.{IsWay, Follows, climbed_cells}
+use Rattle.kfs_judge_reads.specs.declared.climbs.Way.{Way}
+use Rattle.kfs_judge_reads.specs.Recorders.{LooksAlong}
 use Rattle.kfs_model.specs.Check.{checks_of, first_failing, looked}
 use Rattle.kfs_model.specs.Entry.{Entry}
 use Rattle.kfs_model.specs.Check as checks
-use Rattle.kfs_model.specs.Sight.{Sight, ClientSight, Cell, ParentOf, climb_limit, climb_meets, climbed}
+use Rattle.kfs_model.specs.Sight.{Sight, ClientSight, climb_limit, climb_meets}
 use Rattle.kfs_judge.specs.declared.check.check.Reason.{Reason}
 use Rattle.kfs_judge.specs.declared.check.check.Reason.TheVariants as reasons
 use Rattle.kfs_judge.specs.declared.check.check.Check.{Check}
 use Rattle.kfs_judge.specs.declared.check.check.Check.TheVariants as variants
-use Rattle.kfs_judge.specs.declared.check.reads.Recorder.{Recorder}
+use Rattle.kfs_judge_reads.specs.declared.reads.Recorder.{Recorder}
 use Rattle.kfs_judge.specs.declared.check.entry_judge.EntryJudge.{EntryJudge}
-use Rattle.kfs_judge.specs.Draft.Overlay.{entry_context_of}
+use Rattle.kfs_judge_reads.specs.Draft.Overlay.{entry_context_of}
 use Rattle.kfs_mode.specs.Mode.{want_shown}
 use Rattle.kfs_mode.specs.declared.class.Want.{Want}
 
@@ -56,10 +56,6 @@ check_of (variants.NumberIsGranted n) = checks.NumberIsGranted n
 check_of (variants.NumberIsFree n) = checks.NumberIsFree n
 check_of (variants.EndIsInRange end) = checks.EndIsInRange end
 check_of (variants.IsNotAbove n d) = checks.IsNotAbove n d
-
--- the cells of the nodes that a climb passes
-abbrev pub climbed_cells : (ℕ → Option ℕ) → (fuel from : ℕ) → List Cell
-climbed_cells parent fuel from = map ParentOf (climbed parent fuel from)
 
 -- the check asks what the client may do
 abbrev pub IsOfRight : Check → Type 0

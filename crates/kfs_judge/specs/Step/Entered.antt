@@ -11,9 +11,9 @@ use Rattle.kfs_judge.specs.declared.check.check.Reason.{Reason}
 use Rattle.kfs_judge.specs.declared.step.log_judge.LogJudge.{LogJudge}
 use Rattle.kfs_judge.specs.Step.FileSizes.{HasFileOf}
 use Rattle.kfs_judge.specs.Check.Checks.{reason_of}
-use Rattle.kfs_judge.specs.Draft.Overlay.{over, entry_context_of, AreCreated, ChangesAreAmong, KeepsHeaders, ShiftsFurther}
-use Rattle.kfs_judge.specs.Check.Reads.{IsPart}
-use Rattle.kfs_judge.specs.Check.Recorders.{GoesOn, Known, ReadsAt}
+use Rattle.kfs_judge_reads.specs.Draft.Overlay.{over, entry_context_of, AreCreated, ChangesAreAmong, KeepsHeaders, ShiftsFurther}
+use Rattle.kfs_judge_reads.specs.Reads.{IsPart}
+use Rattle.kfs_judge_reads.specs.Recorders.{GoesOn, Known, ReadsAt}
 
 -- the point at which the next entry is judged, given what the client saw before the log
 abbrev pub next_context : {A : Type 0} → LogJudge A → ClientSight → EntryContext

@@ -4,10 +4,10 @@ use Rattle.kfs_model.specs.Table.{numbers}
 use Rattle.kfs_model.specs.Tree.{name_order}
 use Rattle.kfs_model.specs.Sight.{Cell, ClientSight, Sight}
 use Rattle.kfs_model.specs.Plan.{AreDifferences, number_now, header_now}
-use Rattle.kfs_judge.specs.declared.draft.draft.Draft.{Draft}
-use Rattle.kfs_judge.specs.Draft.Overlay.{ChangesAreAmong, over}
-use Rattle.kfs_judge.specs.declared.check.reads.Recorder.{Recorder}
-use Rattle.kfs_judge.specs.Check.Recorders.{GoesOn, Known, ReadsAt}
+use Rattle.kfs_judge_reads.specs.declared.draft.draft.Draft.{Draft}
+use Rattle.kfs_judge_reads.specs.Draft.Overlay.{ChangesAreAmong, over}
+use Rattle.kfs_judge_reads.specs.declared.reads.Recorder.{Recorder}
+use Rattle.kfs_judge_reads.specs.Recorders.{GoesOn, Known, ReadsAt}
 use Rattle.kfs_judge.specs.Step.Rows.{keyed_name_row, keyed_node_row}
 use Rattle.kfs_types.specs.declared.plan.NameRow.{NameRow as CodeNameRow}
 use Rattle.kfs_types.specs.declared.plan.NodeRow.{NodeRow as CodeNodeRow}

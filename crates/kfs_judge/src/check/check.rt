@@ -1,6 +1,6 @@
 //! The checks of an entry, and the reasons for which they fail.
 
-use crate::draft::NameKey;
+use kfs_judge_reads::NameKey;
 use thiserror::Error;
 
 /// Why an entry is refused: the first of its checks that fails. `checks_of` in

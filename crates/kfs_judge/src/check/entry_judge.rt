@@ -9,14 +9,12 @@ ghost use Rattle.kfs_model.specs.Check as checks;
 ghost use Rattle.kfs_model.specs.Sight as sight;
 ghost use Rattle.kfs_model.specs.Sight.{ClientSight, CountOf, LeaseOn, ParentOf};
 ghost use Rattle.kfs_mode.specs.Mode.{want_shown};
-ghost use Rattle.kfs_judge.specs.Check.Recorders.{AnswersLook, LooksAtHeader, LooksAtHeaders, LooksAtName};
+ghost use Rattle.kfs_judge_reads.specs.Recorders.{AnswersLook, LooksAtHeader, LooksAtHeaders, LooksAtName};
 ghost use Rattle.kfs_judge.specs.Check.Checks.{check_of, reason_of, entry_context_in, AnswersClimb, JudgesAll, JudgesCheck, IsOfHeader, IsOfRight, LeadsOn, StopsAtMoved, is_granted_in, may_remove_in, parent_in, sight_in};
 
 use crate::check::check::{Check, Reason};
-use crate::check::climbs::Way;
-use crate::check::reads::Recorder;
-use crate::draft::{Draft, NameKey};
 use kfs_image_nodes::{Header, Kind};
+use kfs_judge_reads::{Draft, NameKey, Recorder, Way};
 use kfs_mode::{Client, Want, may};
 use kfs_types::{CLIMB_LIMIT, LINK_LIMIT, SIZE_LIMIT};
 use std::alloc::{AllocError, Allocator};

@@ -6,13 +6,14 @@ ghost use Rattle.kfs_model.specs.Check.{checks_of};
 ghost use Rattle.kfs_model.specs.Entry as entry;
 ghost use Rattle.kfs_model.specs.Header.{Header as HeaderShown};
 ghost use Rattle.kfs_judge.specs.Step.Entered.{IsEntered};
-ghost use Rattle.kfs_judge.specs.Draft.Overlay.{has_created, ShiftsBy};
+ghost use Rattle.kfs_judge_reads.specs.Draft.Overlay.{has_created, ShiftsBy};
 ghost use Rattle.kfs_judge.specs.Check.Checks.{AnswersEntry};
 
-use crate::check::{EntryJudge, Reason, Recorder};
+use crate::check::{EntryJudge, Reason};
 use crate::step::check::check;
 use crate::step::log_judge::LogJudge;
 use kfs_image_nodes::Header;
+use kfs_judge_reads::Recorder;
 use std::alloc::{AllocError, Allocator};
 
 /// Why the mode of node `number` can't be changed; none if it can.

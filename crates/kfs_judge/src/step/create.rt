@@ -8,14 +8,14 @@ ghost use Rattle.kfs_model.specs.Entry as entry;
 ghost use Rattle.kfs_model.specs.SeenAfter.{seen_after};
 ghost use Rattle.kfs_model.specs.Sight.{Sight};
 ghost use Rattle.kfs_judge.specs.Step.Entered.{IsEntered};
-ghost use Rattle.kfs_judge.specs.Draft.Overlay.{has_created, over, ShiftsBy, HasRoom};
+ghost use Rattle.kfs_judge_reads.specs.Draft.Overlay.{has_created, over, ShiftsBy, HasRoom};
 ghost use Rattle.kfs_judge.specs.Check.Checks.{AnswersEntry};
 
-use crate::check::{EntryJudge, Reason, Recorder};
-use crate::draft::NameKey;
+use crate::check::{EntryJudge, Reason};
 use crate::step::check::check;
 use crate::step::log_judge::LogJudge;
 use kfs_image_nodes::{Header, Kind};
+use kfs_judge_reads::{NameKey, Recorder};
 use kfs_types::BorrowedName;
 use std::alloc::{AllocError, Allocator};
 

@@ -4,12 +4,12 @@ ghost use Rattle.kfs_model.specs.Check.{checks_of};
 ghost use Rattle.kfs_model.specs.Entry as entry;
 ghost use Rattle.kfs_judge.specs.Check.Checks.{AnswersEntry};
 ghost use Rattle.kfs_judge.specs.Step.Entered.{IsEntered};
-ghost use Rattle.kfs_judge.specs.Draft.Overlay.{has_created, HasRoom, ShiftsBy};
+ghost use Rattle.kfs_judge_reads.specs.Draft.Overlay.{has_created, HasRoom, ShiftsBy};
 
-use crate::check::{EntryJudge, Reason, Recorder};
-use crate::draft::{NameKey, linked};
+use crate::check::{EntryJudge, Reason};
 use crate::step::check::check;
 use crate::step::log_judge::LogJudge;
+use kfs_judge_reads::{NameKey, Recorder, linked};
 use kfs_types::BorrowedName;
 use std::alloc::{AllocError, Allocator};
 

@@ -3,19 +3,19 @@ ghost use Rattle.std.specs.Prelude.{◌≡◌, ℕ, ◌+◌, ◌==◌, List, len
 ghost use Rattle.kfs_types.specs.Views.{entry_of, IsWithin};
 ghost use Rattle.kfs_model.specs.Sight.{Sight};
 ghost use Rattle.kfs_judge.specs.Step.Entered.{IsEntered};
-ghost use Rattle.kfs_judge.specs.Draft.Overlay.{has_created, over, ShiftsBy, ShiftsFurther, HasRoom, ChangesAreAmong};
-ghost use Rattle.kfs_judge.specs.Check.Recorders.{GoesOn, seen_by};
+ghost use Rattle.kfs_judge_reads.specs.Draft.Overlay.{has_created, over, ShiftsBy, ShiftsFurther, HasRoom, ChangesAreAmong};
+ghost use Rattle.kfs_judge_reads.specs.Recorders.{GoesOn, seen_by};
 ghost use Rattle.kfs_judge.specs.Step.Nets.{IsNetOver, LooksOver};
 ghost use Rattle.kfs_judge.specs.Step.FileSizes.{AreSizesOver};
 ghost use Rattle.kfs_pieces.specs.Sizes.{SizesAscend, IsSize};
 ghost use Rattle.std.specs.List.{AllByRecursion};
-ghost use Rattle.kfs_judge.specs.Check.View.{client_sight_in};
+ghost use Rattle.kfs_judge_reads.specs.View.{client_sight_in};
 
-use crate::check::{Reads, Reason, Recorder, View};
-use crate::draft::Draft;
+use crate::check::Reason;
 use crate::step::net::{file_sizes, name_rows, node_rows};
 use kfs_entry::{BorrowedEntry, BorrowedName, Entry, entry_table};
 use kfs_image_nodes::Net;
+use kfs_judge_reads::{Draft, Reads, Recorder, View};
 use kfs_mode::Client;
 use kfs_pieces::FileSize;
 use std::alloc::{AllocError, Allocator};

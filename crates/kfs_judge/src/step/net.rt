@@ -2,8 +2,8 @@
 ghost use Rattle.std.specs.Prelude.{◌≡◌, [], IfOk, None, min, ℕ};
 ghost use Rattle.std.specs.Option.{option_map};
 ghost use Rattle.kfs_types.specs.Views.{header_of};
-ghost use Rattle.kfs_judge.specs.Check.Recorders.{LooksAtHeader, LooksAtName};
-ghost use Rattle.kfs_judge.specs.Draft.Overlay.{over};
+ghost use Rattle.kfs_judge_reads.specs.Recorders.{LooksAtHeader, LooksAtName};
+ghost use Rattle.kfs_judge_reads.specs.Draft.Overlay.{over};
 ghost use Rattle.kfs_judge.specs.Step.Rows.{IsRowOfName, IsRowOfNode};
 ghost use Rattle.kfs_judge.specs.Step.Nets.{AreNamesOf, AreNodesOf, LooksOver};
 ghost use Rattle.std.specs.List.{AllByRecursion};
@@ -11,12 +11,11 @@ ghost use Rattle.kfs_model.specs.Sight.{Sight};
 ghost use Rattle.kfs_judge.specs.Step.FileSizes.{AreSizesOver};
 ghost use Rattle.kfs_pieces.specs.Sizes.{SizesAscend, IsSize, size_in};
 ghost use Rattle.kfs_model.specs.Limits.{size_limit};
-ghost use Rattle.kfs_judge.specs.Draft.Few.{list_of};
+ghost use Rattle.kfs_judge_reads.specs.Draft.Few.{list_of};
 
-use crate::check::Recorder;
-use crate::draft::{Draft, NameKey};
 use kfs_entry::{BorrowedRow, NameRow, NodeRow};
 use kfs_image_nodes::Header;
+use kfs_judge_reads::{Draft, NameKey, Recorder};
 use kfs_pieces::FileSize;
 use kfs_types::SIZE_LIMIT;
 use std::alloc::{AllocError, Allocator};

@@ -4,16 +4,16 @@ ghost use Rattle.kfs_model.specs.Check.{checks_of, arrival_checks, may_go, on_nu
 ghost use Rattle.kfs_model.specs.Entry as entry;
 ghost use Rattle.kfs_judge.specs.Check.Checks.{AnswersEntry, JudgesAll};
 ghost use Rattle.kfs_judge.specs.Step.Entered.{IsEntered, headers_renamed, ShowsRename, WritesRename};
-ghost use Rattle.kfs_judge.specs.Draft.Overlay.{HasRoom, KeepsCreated, KeepsHeaders, ShiftsFurther};
-ghost use Rattle.kfs_judge.specs.Check.Recorders.{GoesOn, ReadsAt};
+ghost use Rattle.kfs_judge_reads.specs.Draft.Overlay.{HasRoom, KeepsCreated, KeepsHeaders, ShiftsFurther};
+ghost use Rattle.kfs_judge_reads.specs.Recorders.{GoesOn, ReadsAt};
 ghost use Rattle.kfs_types.specs.Views.{kind_of};
 
-use crate::check::{EntryJudge, Reason, Recorder};
-use crate::draft::NameKey;
+use crate::check::{EntryJudge, Reason};
 use crate::step::check::check;
 use crate::step::log_judge::LogJudge;
 use crate::step::unlink::going_fault;
 use kfs_image_nodes::Kind;
+use kfs_judge_reads::{NameKey, Recorder};
 use kfs_types::BorrowedName;
 use std::alloc::{AllocError, Allocator};
 

@@ -7,13 +7,14 @@ ghost use Rattle.kfs_model.specs.Entry as entry;
 ghost use Rattle.kfs_model.specs.SeenAfter as seen;
 ghost use Rattle.kfs_judge.specs.Step.Entered.{IsEntered};
 ghost use Rattle.kfs_judge.specs.Step.Written.{IsWrittenAt};
-ghost use Rattle.kfs_judge.specs.Draft.Overlay.{has_created, ShiftsBy};
+ghost use Rattle.kfs_judge_reads.specs.Draft.Overlay.{has_created, ShiftsBy};
 ghost use Rattle.kfs_judge.specs.Check.Checks.{AnswersEntry, JudgesAll};
 
-use crate::check::{EntryJudge, Reason, Recorder};
+use crate::check::{EntryJudge, Reason};
 use crate::step::check::check;
 use crate::step::log_judge::LogJudge;
 use kfs_image_nodes::Header;
+use kfs_judge_reads::Recorder;
 use std::alloc::{AllocError, Allocator};
 
 /// Why `len` bytes can't be put into the file `number` from `offset` on; none if it can.

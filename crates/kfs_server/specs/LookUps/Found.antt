@@ -12,10 +12,10 @@ use Rattle.kfs_model.specs.Table.{get}
 use Rattle.kfs_model.specs.Tree.{NameTable, content_of, headers, target}
 use Rattle.kfs_model.specs.Placement.{tier_size}
 use Rattle.kfs_image.specs.Tier.Unused.{unused_places}
-use Rattle.kfs_judge.specs.Access.{Permission, permitted_by_state}
-use Rattle.kfs_judge.specs.declared.access.Access.TheVariants.{FindName, ListNames, ReadBytes}
-use Rattle.kfs_judge.specs.declared.access.AccessFault.{AccessFault}
-use Rattle.kfs_judge.specs.declared.access.AccessFault.TheVariants as faults
+use Rattle.kfs_mode.specs.Access.{Permission, permitted_by_state}
+use Rattle.kfs_mode.specs.declared.access.Access.TheVariants.{FindName, ListNames, ReadBytes}
+use Rattle.kfs_mode.specs.declared.access.AccessFault.{AccessFault}
+use Rattle.kfs_mode.specs.declared.access.AccessFault.TheVariants as faults
 use Rattle.kfs_desk.specs.Machine.{Desk}
 use Rattle.kfs_call.specs.Call.{lease_kind_bytes}
 use Rattle.kfs_lease.specs.LeaseLists.{Ascend, LeaseRow, listed_leases}

@@ -1,7 +1,7 @@
 //! A name of a directory, and bytes of a file.
 ghost use Rattle.std.specs.Prelude.{◌≡◌, ◌≤◌, IfOk, OnErr, length, take, drop, min};
-ghost use Rattle.kfs_judge.specs.declared.access.Access.TheVariants as accesses;
-ghost use Rattle.kfs_judge.specs.Access.{permitted_by_state};
+ghost use Rattle.kfs_mode.specs.declared.access.Access.TheVariants as accesses;
+ghost use Rattle.kfs_mode.specs.Access.{permitted_by_state};
 ghost use Rattle.kfs_image.specs.Read.{bytes_from};
 ghost use Rattle.kfs_model.specs.Table.{get};
 ghost use Rattle.kfs_model.specs.Tree.{content_of};
@@ -14,7 +14,7 @@ use crate::look_ups::permission::permission_of;
 use crate::replies::Refusal;
 use kfs_desk::Desk;
 use kfs_image::{Image, ReadFault, read_file};
-use kfs_judge::Access;
+use kfs_mode::Access;
 use kfs_types::Name;
 use std::alloc::{AllocError, Allocator};
 

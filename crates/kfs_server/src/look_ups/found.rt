@@ -4,7 +4,7 @@ ghost use Rattle.kfs_server.specs.LookUps.Found.{figures_of, tier_of};
 ghost use Rattle.kfs_server.specs.LookUps.Views.{figures_shown, tier_shown};
 
 use kfs_desk::Desk;
-use kfs_judge::AccessFault;
+use kfs_mode::AccessFault;
 use kfs_types::Header;
 use std::alloc::Allocator;
 

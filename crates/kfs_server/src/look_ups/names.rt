@@ -9,7 +9,7 @@ use crate::look_ups::permission::permission_of;
 use crate::replies::Refusal;
 use kfs_desk::Desk;
 use kfs_image::Image;
-use kfs_judge::Access;
+use kfs_mode::Access;
 use kfs_types::Name;
 use std::alloc::{AllocError, Allocator};
 

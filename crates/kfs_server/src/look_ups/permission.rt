@@ -1,6 +1,6 @@
 //! Whether a client may ask.
 ghost use Rattle.std.specs.Prelude.{◌≡◌, IfErr, IfOk, OnOk};
-ghost use Rattle.kfs_judge.specs.Access.{permitted_by_state};
+ghost use Rattle.kfs_mode.specs.Access.{permitted_by_state};
 ghost use Rattle.kfs_server.specs.LookUps.LookUp as asked;
 ghost use Rattle.kfs_server.specs.LookUps.LookUp.{IsLogOf, MayAsk};
 ghost use Rattle.kfs_server.specs.LookUps.Views.{look_up_shown};
@@ -11,7 +11,7 @@ use crate::replies::Refusal;
 use kfs_call::FRONT;
 use kfs_desk::{Desk, DeskView};
 use kfs_entry::decode_log;
-use kfs_judge::{Access, AccessFault};
+use kfs_mode::{Access, AccessFault};
 use std::alloc::{AllocError, Allocator};
 
 /// Whether the look-up is the sender's to ask. What others may ask is asked where they are answered. `alloc` serves for

@@ -8,8 +8,7 @@ ghost use Rattle.kfs_server.specs.Serving.Looking.{IsSought};
 use crate::look_ups::found::{FOUND_LIMIT, Found};
 use crate::replies::Refusal;
 use kfs_desk::{Desk, DeskView};
-use kfs_judge::AccessFault;
-use kfs_mode::Client;
+use kfs_mode::{AccessFault, Client};
 use kfs_plan_maker::make_plan;
 use std::alloc::{AllocError, Allocator};
 

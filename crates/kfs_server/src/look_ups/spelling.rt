@@ -11,7 +11,7 @@ ghost use Rattle.kfs_server.specs.Replies.Reply.{reply_bytes};
 use crate::look_ups::found::{Figures, Found, TierFigures};
 use crate::put::put;
 use arrayvec::ArrayVec;
-use kfs_judge::AccessFault;
+use kfs_mode::AccessFault;
 use kfs_types::{Header, Kind};
 use std::alloc::Allocator;
 

@@ -3,7 +3,7 @@ use Rattle.std.proofs.Common.{◌≡◌, ℕ, zero, suc, ◌≤◌, ◌<◌, Boo
 use Rattle.std.specs.Prelude.{IfOk, IfErr}
 use Rattle.kfs_model.specs.Machine.{Row}
 use Rattle.kfs_desk.specs.Beginning.{Beginning}
-use Rattle.kfs_judge.specs.declared.check.view.View.{View}
+use Rattle.kfs_judge.specs.Views.{View}
 use Rattle.kfs_plan.specs.Judged as verdicts
 use Rattle.kfs_desk.specs.declared.history.answers.Reply.{Reply}
 use Rattle.kfs_plan.specs.declared.submission.Submission.{Submission}

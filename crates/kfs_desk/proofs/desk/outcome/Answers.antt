@@ -6,7 +6,7 @@ use Rattle.kfs_model.specs.Sight.{client_sight}
 use Rattle.kfs_image_nodes.specs.Contents.{sight_of}
 use Rattle.kfs_model.specs.Device.ShownTree.{shown_tree}
 use Rattle.kfs_image.proofs.ShownTrees.{sight_shown}
-use Rattle.kfs_judge.specs.Check.View.{client_sight_in}
+use Rattle.kfs_judge.specs.Views.{client_sight_in}
 use Rattle.kfs_desk.proofs.desk.outcome.Goals as goal
 
 with_known : {X E : Type 0} {P Q : X → Type 0} (result : Result X E) → IfOk result P → ((x : X) → P x → Q x) → IfOk result Q

@@ -7,13 +7,13 @@ use Rattle.kfs_model.specs.SeenAfter.{seen_after}
 use Rattle.kfs_types.specs.Views.{entry_of, IsWithin}
 use Rattle.kfs_types.specs.declared.entry.Entry.{Entry as CodeEntry}
 use Rattle.kfs_types.specs.declared.entry.Span.{Span}
-use Rattle.kfs_judge.specs.Draft.Overlay.{over, entry_context_of, ChangesAreAmong}
-use Rattle.kfs_judge.specs.Check.Reads.{Within}
+use Rattle.kfs_judge_reads.specs.Draft.Overlay.{over, entry_context_of, ChangesAreAmong}
+use Rattle.kfs_judge_reads.specs.Reads.{Within}
 use Rattle.kfs_judge.specs.Check.Checks.{reason_of}
 use Rattle.kfs_judge.proofs.CheckLemmas.Entering.{RunsOn, runs_first, runs_next, runs_fails, runs_out}
 use Rattle.kfs_judge.proofs.CheckLemmas.Looking.{LooksOn, looks_first, looks_next, looks_fails}
-use Rattle.kfs_judge.proofs.CheckLemmas.Recording.{goes_nowhere, goes_then}
-use Rattle.kfs_judge.proofs.DraftLemmas.Overlays.{shifts_wider}
+use Rattle.kfs_judge_reads.proofs.Recording.{goes_nowhere, goes_then}
+use Rattle.kfs_judge_reads.proofs.DraftLemmas.Overlays.{shifts_wider}
 use Rattle.kfs_judge.proofs.CheckLemmas.Lists.{map-drop-cons, map-drop-past}
 use Rattle.kfs_judge.proofs.StepLemmas.ReachedFiles.{ReachesOn, reaches_first, reaches_next, reaches_out}
 use Rattle.kfs_judge.specs.EntriesEntered.{AreWithin}

@@ -1,8 +1,8 @@
 -- What the entries so far have come to, in every state that agrees.
 use Rattle.std.proofs.Common.{◌≡◌, ℕ, ◌*◌, List, map, drop}
 use Rattle.kfs_types.specs.Views.{entry_of}
-use Rattle.kfs_judge.specs.Draft.Overlay.{ShiftsBy}
-use Rattle.kfs_judge.specs.Check.Recorders.{GoesOn}
+use Rattle.kfs_judge_reads.specs.Draft.Overlay.{ShiftsBy}
+use Rattle.kfs_judge_reads.specs.Recorders.{GoesOn}
 use Rattle.kfs_judge.proofs.CheckLemmas.Entering.{RunsOn}
 use Rattle.kfs_judge.proofs.CheckLemmas.Looking.{LooksOn}
 use Rattle.kfs_judge.proofs.StepLemmas.ReachedFiles.{ReachesOn}

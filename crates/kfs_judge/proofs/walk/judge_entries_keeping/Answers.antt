@@ -5,8 +5,8 @@ use Rattle.kfs_model.specs.Sight.{client_sight}
 use Rattle.kfs_types.specs.Views.{entry_of}
 use Rattle.kfs_pieces.specs.Sizes.{SizesAscend, IsSize}
 use Rattle.std.specs.List.{AllByRecursion}
-use Rattle.kfs_judge.specs.Check.Reads.{Agrees, AreAmong, AreOnce}
-use Rattle.kfs_judge.specs.Check.View.{clients_of, client_sight_in}
+use Rattle.kfs_judge_reads.specs.Reads.{Agrees, AreAmong, AreOnce}
+use Rattle.kfs_judge_reads.specs.View.{clients_of, client_sight_in}
 use Rattle.kfs_judge.specs.Walks.{ComesToTree, IsRowOf, IsWalkOf, ReadsLookedCells}
 use Rattle.kfs_judge.proofs.SameNets.{same_tree, same_kind}
 use Rattle.kfs_judge.proofs.walk.judge_entries_keeping.Goals as goal

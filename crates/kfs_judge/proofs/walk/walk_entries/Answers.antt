@@ -3,15 +3,15 @@ use Rattle.std.proofs.Common.{◌≡◌, map, Some, None, Ok, subst, ap, sym, �
 use Rattle.std.specs.Option.{option_map}
 use Rattle.kfs_types.specs.Views.{entry_of}
 use Rattle.kfs_model.specs.Looked.{looked_cells}
-use Rattle.kfs_judge.specs.Draft.Overlay.{over, ChangesAreAmong}
-use Rattle.kfs_judge.specs.Check.Kept.{ReadsShown}
-use Rattle.kfs_judge.specs.Check.Reads.{Agrees, AreAmong, AreOnce}
-use Rattle.kfs_judge.specs.Check.View.{clients_of, client_sight_in}
+use Rattle.kfs_judge_reads.specs.Draft.Overlay.{over, ChangesAreAmong}
+use Rattle.kfs_judge_reads.specs.Kept.{ReadsShown}
+use Rattle.kfs_judge_reads.specs.Reads.{Agrees, AreAmong, AreOnce}
+use Rattle.kfs_judge_reads.specs.View.{clients_of, client_sight_in}
 use Rattle.kfs_judge.specs.Step.FileSizes.{AreSizesOver, HasFilesOf}
 use Rattle.kfs_judge.specs.EntriesEntered.{AreWithin}
 use Rattle.kfs_judge.specs.Walks.{EndsAt}
 use Rattle.kfs_judge.proofs.CheckLemmas.Lists.{row_has_number, one_row}
-use Rattle.kfs_judge.proofs.CheckLemmas.Recording.{agrees_from_none, among_from_none, once_from_none, goes_then, within_then}
+use Rattle.kfs_judge_reads.proofs.Recording.{agrees_from_none, among_from_none, once_from_none, goes_then, within_then}
 use Rattle.kfs_judge.proofs.walk.walk_entries.Goals as goal
 
 listed : {one other : ReadsShown} → one ≡ other → one.entries ≡ other.entries

@@ -1,7 +1,6 @@
 -- All recorded reads agree where those that are left do.
 use Rattle.std.proofs.Common.{◌↔◌}
-use Rattle.kfs_judge.specs.Check.Reads.{AgreesAlong}
-use Rattle.kfs_judge.specs.Check.View.{client_sight_in}
+use Rattle.kfs_judge.specs.Views.{client_sight_in, AgreesAlong}
 use Rattle.kfs_plan.proofs.judged.agrees.Given as goal
 
 abbrev pub invariant-loop-read : goal.invariant-loop-read

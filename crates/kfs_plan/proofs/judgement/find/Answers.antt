@@ -11,8 +11,7 @@ use Rattle.kfs_types.specs.Views.{entry_of}
 use Rattle.kfs_plan.specs.declared.submission.Fault.TheVariants as faults
 use Rattle.kfs_plan.specs.declared.judgement.Spelled.TheVariants as readings
 use Rattle.kfs_plan.specs.Judging.{submission_with, AreSpelled, IsEarly, IsVerdict, IsReading, RefusesByFault, StopsByFault}
-use Rattle.kfs_judge.specs.Check.Reads.{Agrees, AreAmong}
-use Rattle.kfs_judge.specs.Check.View.{clients_of, client_sight_in}
+use Rattle.kfs_judge.specs.Views.{clients_of, client_sight_in, Agrees, AreAmong}
 use Rattle.kfs_judge.proofs.CheckLemmas.Lists.{row_has_number}
 use Rattle.kfs_entry.proofs.Ranges.{entries_fit}
 use Rattle.kfs_plan.proofs.Verdicts.{unknown_client, walked_verdict, nothing_read, unread_looked, settled_is_fault, settled_looked}

@@ -9,8 +9,7 @@ use Rattle.kfs_model.specs.Device.ShownTree.{IsLawful, shown_tree}
 use Rattle.kfs_image.specs.Net.{after_net}
 use Rattle.kfs_image_nodes.specs.Lent.{IsSameNet}
 use Rattle.kfs_image.proofs.ShownTrees.{sight_shown}
-use Rattle.kfs_judge.specs.Check.Reads.{Agrees}
-use Rattle.kfs_judge.specs.Check.View.{client_sight_in, clients_of, leases_of}
+use Rattle.kfs_judge.specs.Views.{clients_of, leases_of, client_sight_in, Agrees}
 use Rattle.kfs_plan.specs.Judging.{IsVerdict, submission_of}
 use Rattle.kfs_test_image.proofs.LandedNets.{same_is_lawful}
 use Rattle.kfs_test_image.proofs.landed.right_net.Goals as goal

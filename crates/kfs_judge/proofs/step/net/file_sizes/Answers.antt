@@ -3,10 +3,10 @@ use Rattle.std.proofs.Common.{◌≡◌, ◌∙◌, ◌∷◌, [], None, ap, map
 use Rattle.std.specs.List.{AllByRecursion}
 use Rattle.kfs_model.specs.Sight.{HeaderOf}
 use Rattle.kfs_model.specs.Table.{numbers}
-use Rattle.kfs_judge.specs.Draft.Few.{entries_of}
-use Rattle.kfs_judge.specs.Draft.Overlay.{over}
-use Rattle.kfs_judge.proofs.CheckLemmas.Recording.{within_wider, one_is_part}
-use Rattle.kfs_judge.proofs.DraftLemmas.Fews.{found_alone, sorted_alone}
+use Rattle.kfs_judge_reads.specs.Draft.Few.{entries_of}
+use Rattle.kfs_judge_reads.specs.Draft.Overlay.{over}
+use Rattle.kfs_judge_reads.proofs.Recording.{within_wider, one_is_part}
+use Rattle.kfs_judge_reads.proofs.DraftLemmas.Fews.{found_alone, sorted_alone}
 use Rattle.kfs_judge.proofs.StepLemmas.Entered.{is_cut_off}
 use Rattle.kfs_judge.proofs.StepLemmas.FileSizes.{IsOwnSize, keys_left, own_size, shows_header, sizes_are_over, sorted-ascend}
 use Rattle.kfs_pieces.specs.declared.log.FileSize.{FileSize}

@@ -4,10 +4,10 @@ use Rattle.kfs_model.specs.Sight.{NameIn}
 use Rattle.kfs_model.specs.Tree.{name_order}
 use Rattle.kfs_model.specs.Plan.{number_now}
 use Rattle.kfs_model.proofs.Exact.{numbers-exact}
-use Rattle.kfs_judge.specs.Draft.Few.{entries_of}
+use Rattle.kfs_judge_reads.specs.Draft.Few.{entries_of}
 use Rattle.kfs_judge.specs.Step.Rows.{keyed_name_row}
-use Rattle.kfs_judge.proofs.CheckLemmas.Recording.{within_wider, one_is_part}
-use Rattle.kfs_judge.proofs.DraftLemmas.Fews.{found_alone, sorted_alone}
+use Rattle.kfs_judge_reads.proofs.Recording.{within_wider, one_is_part}
+use Rattle.kfs_judge_reads.proofs.DraftLemmas.Fews.{found_alone, sorted_alone}
 use Rattle.kfs_judge.proofs.StepLemmas.Entered.{is_cut_off}
 use Rattle.kfs_judge.proofs.StepLemmas.ChangedRows.{changed_rows, rows_of_one, names-differ}
 use Rattle.kfs_judge.proofs.step.net.name_rows.Goals as goal

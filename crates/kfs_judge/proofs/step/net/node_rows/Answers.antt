@@ -7,10 +7,10 @@ use Rattle.kfs_model.specs.Table.{numbers}
 use Rattle.kfs_model.specs.Plan.{header_now}
 use Rattle.kfs_model.proofs.Exact.{headers-exact}
 use Rattle.kfs_types.specs.Views.{header_of}
-use Rattle.kfs_judge.specs.Draft.Few.{entries_of}
+use Rattle.kfs_judge_reads.specs.Draft.Few.{entries_of}
 use Rattle.kfs_judge.specs.Step.Rows.{keyed_node_row}
-use Rattle.kfs_judge.proofs.CheckLemmas.Recording.{within_wider, one_is_part}
-use Rattle.kfs_judge.proofs.DraftLemmas.Fews.{found_alone, sorted_alone}
+use Rattle.kfs_judge_reads.proofs.Recording.{within_wider, one_is_part}
+use Rattle.kfs_judge_reads.proofs.DraftLemmas.Fews.{found_alone, sorted_alone}
 use Rattle.kfs_judge.proofs.StepLemmas.Entered.{is_cut_off}
 use Rattle.kfs_judge.proofs.StepLemmas.ChangedRows.{changed_rows, shown_heads, rows_of_one, heads-differ}
 use Rattle.kfs_judge.proofs.step.net.node_rows.Goals as goal

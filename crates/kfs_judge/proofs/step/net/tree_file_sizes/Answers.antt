@@ -9,13 +9,13 @@ use Rattle.std.specs.Map.Iter.{deref_pair}
 use Rattle.kfs_model.specs.Sight.{HeaderOf}
 use Rattle.kfs_model.specs.Table.{numbers}
 use Rattle.kfs_entry.proofs.CodecLemmas.RowPush.{AllByRecursion-push}
-use Rattle.kfs_judge.proofs.CheckLemmas.Recording.{goes_then, within_then, within_wider, one_is_part}
-use Rattle.kfs_judge.specs.Draft.Overlay.{over}
+use Rattle.kfs_judge_reads.proofs.Recording.{goes_then, within_then, within_wider, one_is_part}
+use Rattle.kfs_judge_reads.specs.Draft.Overlay.{over}
 use Rattle.kfs_judge.proofs.StepLemmas.Entered.{is_cut_off}
 use Rattle.kfs_judge.proofs.StepLemmas.FileSizes.{IsOwnSize, own_size, numbers_all, numbers_more, shows_header, sizes_are_over, sorted-ascend}
 use Rattle.kfs_pieces.specs.Sizes.{IsSize}
-use Rattle.kfs_judge.specs.Draft.Few.{at_key}
-use Rattle.kfs_judge.proofs.DraftLemmas.Fews.{tree_is}
+use Rattle.kfs_judge_reads.specs.Draft.Few.{at_key}
+use Rattle.kfs_judge_reads.proofs.DraftLemmas.Fews.{tree_is}
 use Rattle.kfs_judge.proofs.step.net.tree_file_sizes.Goals as goal
 
 pub returns-in_err-before-clause-looks : goal.returns-in_err-before-clause-looks

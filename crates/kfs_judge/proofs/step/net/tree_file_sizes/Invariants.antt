@@ -2,10 +2,10 @@
 use Rattle.std.proofs.Common.{◌≡◌, ◌++◌, List, map}
 use Rattle.std.specs.List.{AllByRecursion}
 use Rattle.kfs_model.specs.Sight.{Cell}
-use Rattle.kfs_judge.specs.Draft.Few.{entries_of}
-use Rattle.kfs_judge.specs.Draft.Overlay.{ChangesAreAmong}
-use Rattle.kfs_judge.specs.Check.Reads.{Always, Within}
-use Rattle.kfs_judge.specs.Check.Recorders.{GoesOn}
+use Rattle.kfs_judge_reads.specs.Draft.Few.{entries_of}
+use Rattle.kfs_judge_reads.specs.Draft.Overlay.{ChangesAreAmong}
+use Rattle.kfs_judge_reads.specs.Reads.{Always, Within}
+use Rattle.kfs_judge_reads.specs.Recorders.{GoesOn}
 use Rattle.kfs_judge.proofs.StepLemmas.FileSizes.{IsOwnSize, keys_left}
 use Rattle.kfs_pieces.specs.declared.log.FileSize.{FileSize}
 use Rattle.kfs_pieces.specs.Sizes.{IsSize}

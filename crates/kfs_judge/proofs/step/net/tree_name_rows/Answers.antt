@@ -10,11 +10,11 @@ use Rattle.kfs_model.specs.Tree.{name_order}
 use Rattle.kfs_model.specs.Plan.{number_now}
 use Rattle.kfs_model.proofs.Exact.{numbers-exact}
 use Rattle.kfs_judge.specs.Step.Rows.{IsRow, keyed_name_row}
-use Rattle.kfs_judge.proofs.CheckLemmas.Recording.{goes_then, within_then, within_wider, one_is_part}
+use Rattle.kfs_judge_reads.proofs.Recording.{goes_then, within_then, within_wider, one_is_part}
 use Rattle.kfs_judge.proofs.StepLemmas.Entered.{is_cut_off}
 use Rattle.kfs_judge.proofs.StepLemmas.ChangedRows.{rows_same, rows_more, rows_all, names-differ}
-use Rattle.kfs_judge.specs.Draft.Few.{at_key}
-use Rattle.kfs_judge.proofs.DraftLemmas.Fews.{tree_is}
+use Rattle.kfs_judge_reads.specs.Draft.Few.{at_key}
+use Rattle.kfs_judge_reads.proofs.DraftLemmas.Fews.{tree_is}
 use Rattle.kfs_judge.proofs.step.net.tree_name_rows.Goals as goal
 
 pub returns-in_err-row : goal.returns-in_err-row

@@ -2,10 +2,10 @@
 use Rattle.std.proofs.Common.{◌≡◌, ◌++◌, List, nat_eq, map}
 use Rattle.kfs_model.specs.Plan.{number_now}
 use Rattle.kfs_model.specs.Sight.{Cell}
-use Rattle.kfs_judge.specs.Draft.Few.{entries_of}
-use Rattle.kfs_judge.specs.Draft.Overlay.{ChangesAreAmong}
-use Rattle.kfs_judge.specs.Check.Reads.{Always, Within}
-use Rattle.kfs_judge.specs.Check.Recorders.{GoesOn}
+use Rattle.kfs_judge_reads.specs.Draft.Few.{entries_of}
+use Rattle.kfs_judge_reads.specs.Draft.Overlay.{ChangesAreAmong}
+use Rattle.kfs_judge_reads.specs.Reads.{Always, Within}
+use Rattle.kfs_judge_reads.specs.Recorders.{GoesOn}
 use Rattle.kfs_judge.specs.Step.Rows.{keyed_name_row}
 use Rattle.kfs_judge.proofs.StepLemmas.ChangedRows.{changed_rows}
 use Rattle.kfs_judge.proofs.step.net.tree_name_rows.Given as goal

@@ -13,11 +13,11 @@ use Rattle.std.specs.Option.{option_map}
 use Rattle.kfs_types.specs.Views.{header_of}
 use Rattle.kfs_model.proofs.Exact.{headers-exact}
 use Rattle.kfs_judge.specs.Step.Rows.{IsRow, keyed_node_row}
-use Rattle.kfs_judge.proofs.CheckLemmas.Recording.{goes_then, within_then, within_wider, one_is_part}
+use Rattle.kfs_judge_reads.proofs.Recording.{goes_then, within_then, within_wider, one_is_part}
 use Rattle.kfs_judge.proofs.StepLemmas.Entered.{is_cut_off}
 use Rattle.kfs_judge.proofs.StepLemmas.ChangedRows.{shown_heads, rows_same, rows_more, rows_all, heads-differ}
-use Rattle.kfs_judge.specs.Draft.Few.{at_key}
-use Rattle.kfs_judge.proofs.DraftLemmas.Fews.{tree_is}
+use Rattle.kfs_judge_reads.specs.Draft.Few.{at_key}
+use Rattle.kfs_judge_reads.proofs.DraftLemmas.Fews.{tree_is}
 use Rattle.kfs_judge.proofs.step.net.tree_node_rows.Goals as goal
 
 pub returns-in_err-row : goal.returns-in_err-row

@@ -3,10 +3,10 @@ use Rattle.std.proofs.Common.{◌≡◌, ◌++◌, List, map}
 use Rattle.kfs_model.specs.FirstWrong.{same_header}
 use Rattle.kfs_model.specs.Plan.{header_now}
 use Rattle.kfs_model.specs.Sight.{Cell}
-use Rattle.kfs_judge.specs.Draft.Few.{entries_of}
-use Rattle.kfs_judge.specs.Draft.Overlay.{ChangesAreAmong}
-use Rattle.kfs_judge.specs.Check.Reads.{Always, Within}
-use Rattle.kfs_judge.specs.Check.Recorders.{GoesOn}
+use Rattle.kfs_judge_reads.specs.Draft.Few.{entries_of}
+use Rattle.kfs_judge_reads.specs.Draft.Overlay.{ChangesAreAmong}
+use Rattle.kfs_judge_reads.specs.Reads.{Always, Within}
+use Rattle.kfs_judge_reads.specs.Recorders.{GoesOn}
 use Rattle.kfs_judge.specs.Step.Rows.{keyed_node_row}
 use Rattle.kfs_judge.proofs.StepLemmas.ChangedRows.{changed_rows, shown_heads}
 use Rattle.kfs_judge.proofs.step.net.tree_node_rows.Given as goal

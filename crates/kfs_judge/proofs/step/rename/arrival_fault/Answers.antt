@@ -4,7 +4,7 @@ use Rattle.kfs_model.specs.Check.{EntryContext, Check, arrival_checks, may_go, o
 use Rattle.kfs_model.specs.Header.{Kind, File, Directory}
 use Rattle.kfs_types.specs.Views.{kind_of}
 use Rattle.kfs_judge.proofs.CheckLemmas.Groups.{front_fails, then_back, found_is, said_otherwise}
-use Rattle.kfs_judge.proofs.CheckLemmas.Recording.{cut_short, goes_then}
+use Rattle.kfs_judge_reads.proofs.Recording.{cut_short, goes_then}
 use Rattle.kfs_judge.proofs.step.rename.arrival_fault.Goals as goal
 
 abbrev by_place : Kind → (s e : ℕ) → EntryContext → List Check

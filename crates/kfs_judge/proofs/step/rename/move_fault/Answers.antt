@@ -8,7 +8,7 @@ use Rattle.kfs_types.specs.Views.{kind_of}
 use Rattle.kfs_judge.specs.Check.Checks.{entry_context_in}
 use Rattle.kfs_judge.proofs.CheckLemmas.Failing.{failing-none}
 use Rattle.kfs_judge.proofs.CheckLemmas.Groups.{front_fails, then_back, found_is, said_otherwise, behind_cell}
-use Rattle.kfs_judge.proofs.CheckLemmas.Recording.{cut_short, goes_nowhere, goes_then, within_same}
+use Rattle.kfs_judge_reads.proofs.Recording.{cut_short, goes_nowhere, goes_then, within_same}
 use Rattle.kfs_judge.proofs.step.rename.move_fault.Goals as goal
 
 abbrev by_directories : (d e s : ℕ) → EntryContext → List Check

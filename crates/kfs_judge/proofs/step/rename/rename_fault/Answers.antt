@@ -6,7 +6,7 @@ use Rattle.kfs_model.specs.Sight.{NameIn}
 use Rattle.kfs_judge.specs.Check.Checks.{entry_context_in}
 use Rattle.kfs_judge.specs.declared.check.check.Reason.TheVariants.{NoSuchName}
 use Rattle.kfs_judge.proofs.CheckLemmas.Groups.{front_fails, then_back, found_is, said_otherwise, behind_cell, no_name, behind_name}
-use Rattle.kfs_judge.proofs.CheckLemmas.Recording.{cut_short, goes_then}
+use Rattle.kfs_judge_reads.proofs.Recording.{cut_short, goes_then}
 use Rattle.kfs_judge.proofs.step.rename.rename_fault.Goals as goal
 
 abbrev by_directories : (d e : ℕ) → EntryContext → List Check

@@ -5,7 +5,7 @@ use Rattle.kfs_model.specs.Header.{Kind}
 use Rattle.kfs_types.specs.Views.{kind_of}
 use Rattle.kfs_judge.specs.declared.check.check.Reason.TheVariants.{NoSuchName}
 use Rattle.kfs_judge.proofs.CheckLemmas.Groups.{front_fails, then_back, found_is, no_name, behind_name}
-use Rattle.kfs_judge.proofs.CheckLemmas.Recording.{cut_short, goes_then}
+use Rattle.kfs_judge_reads.proofs.Recording.{cut_short, goes_then}
 use Rattle.kfs_judge.proofs.step.unlink.unlink_fault.Goals as goal
 
 abbrev by_directory : ℕ → EntryContext → List Check

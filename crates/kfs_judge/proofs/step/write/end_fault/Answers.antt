@@ -4,7 +4,7 @@ use Rattle.std.proofs.Common.{ap, ◌∙◌, arith}
 use Rattle.kfs_model.specs.Check.{first_failing, payload_fits}
 use Rattle.kfs_judge.specs.Check.Checks.{entry_context_in}
 use Rattle.kfs_judge.proofs.CheckLemmas.Failing.{failing-none}
-use Rattle.kfs_judge.proofs.CheckLemmas.Recording.{goes_nowhere, within_same}
+use Rattle.kfs_judge_reads.proofs.Recording.{goes_nowhere, within_same}
 use Rattle.kfs_judge.proofs.step.write.end_fault.Goals as goal
 
 nothing_is_asked : (offset : ℕ) (payload : List ℕ) → length payload ≡ 0 → payload_fits offset payload ≡ []

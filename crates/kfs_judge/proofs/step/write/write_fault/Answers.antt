@@ -2,7 +2,7 @@
 use Rattle.std.specs.Prelude.{ℕ, List, [], ◌∷◌, Some, None}
 use Rattle.kfs_model.specs.Check.{EntryContext, Check, checks_of, payload_fits}
 use Rattle.kfs_judge.proofs.CheckLemmas.Groups.{front_fails, then_back, found_is}
-use Rattle.kfs_judge.proofs.CheckLemmas.Recording.{cut_short, goes_then}
+use Rattle.kfs_judge_reads.proofs.Recording.{cut_short, goes_then}
 use Rattle.kfs_judge.proofs.step.write.write_fault.Goals as goal
 
 abbrev by_file : ℕ → EntryContext → List Check

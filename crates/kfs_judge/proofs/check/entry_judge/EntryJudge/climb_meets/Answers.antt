@@ -2,12 +2,13 @@
 use Rattle.std.proofs.Common.{◌≡◌, ◌+◌, ◌-◌, ◌<◌, ◌≤◌, suc, arith, ◌∙◌, sym, subst, refl}
 use Rattle.std.specs.Prelude.{IfSome}
 use Rattle.kfs_model.specs.Sight.{climb_limit}
-use Rattle.kfs_judge.specs.declared.check.climbs.Way.{Way}
-use Rattle.kfs_judge.specs.Check.Reads.{Within}
-use Rattle.kfs_judge.specs.Check.Checks.{climbed_cells, parent_in, LeadsOn}
-use Rattle.kfs_judge.proofs.CheckLemmas.Climbing.{climb-meets_here, climb-ends, climb-at_top, climbed_here}
-use Rattle.kfs_judge.proofs.CheckLemmas.Ways.{climb_meets_behind, climbed_behind_way}
-use Rattle.kfs_judge.proofs.CheckLemmas.Recording.{cut_short, goes_then, within_same, within_then, within_wider}
+use Rattle.kfs_judge_reads.specs.declared.climbs.Way.{Way}
+use Rattle.kfs_judge_reads.specs.Reads.{Within}
+use Rattle.kfs_judge_reads.specs.Climbs.{climbed_cells}
+use Rattle.kfs_judge.specs.Check.Checks.{parent_in, LeadsOn}
+use Rattle.kfs_judge_reads.proofs.Climbing.{climb-meets_here, climb-ends, climb-at_top, climbed_here}
+use Rattle.kfs_judge_reads.proofs.Ways.{climb_meets_behind, climbed_behind_way}
+use Rattle.kfs_judge_reads.proofs.Recording.{cut_short, goes_then, within_same, within_then, within_wider}
 use Rattle.kfs_judge.proofs.check.entry_judge.EntryJudge.climb_meets.Goals as goal
 
 pub returns-in_err-follow : goal.returns-in_err-follow

@@ -1,9 +1,10 @@
 -- So far the climb has not met the node, in any state that agrees, and the reads are of what it has passed.
 use Rattle.std.proofs.Common.{◌≡◌}
 use Rattle.kfs_model.specs.Sight.{climb_limit, climb_meets}
-use Rattle.kfs_judge.specs.Check.Reads.{Always, IsPart, Within}
-use Rattle.kfs_judge.specs.Check.Recorders.{GoesOn}
-use Rattle.kfs_judge.specs.Check.Checks.{climbed_cells, parent_in, StopsAtMoved}
+use Rattle.kfs_judge_reads.specs.Reads.{Always, IsPart, Within}
+use Rattle.kfs_judge_reads.specs.Recorders.{GoesOn}
+use Rattle.kfs_judge_reads.specs.Climbs.{climbed_cells}
+use Rattle.kfs_judge.specs.Check.Checks.{parent_in, StopsAtMoved}
 use Rattle.kfs_judge.proofs.check.entry_judge.EntryJudge.climb_meets.Given as goal
 
 abbrev pub invariant-loop-left : goal.invariant-loop-left

@@ -4,8 +4,8 @@ use Rattle.std.specs.Ordering.{nat_cmp}
 use Rattle.std.specs.BTreeMap.{get}
 use Rattle.kfs_model.specs.Sight.{ParentOf}
 use Rattle.kfs_judge.specs.Check.Checks.{is_moved_in, parent_in}
-use Rattle.kfs_judge.proofs.CheckLemmas.Recording.{goes_nowhere, within_same}
-use Rattle.kfs_judge.proofs.CheckLemmas.Ways.{one_step, unwritten}
+use Rattle.kfs_judge_reads.proofs.Recording.{goes_nowhere, within_same}
+use Rattle.kfs_judge_reads.proofs.Ways.{one_step, unwritten}
 use Rattle.kfs_judge.proofs.check.entry_judge.EntryJudge.climb_on.Goals as goal
 
 pub returns-then-way-left-clause-looks : goal.returns-then-way-left-clause-looks

@@ -7,8 +7,8 @@ use Rattle.kfs_judge.specs.Check.Checks.{check_of, reason_of, entry_context_in}
 use Rattle.kfs_judge.proofs.CheckLemmas.Failing.{failing-passes, failing-fails, failing-none}
 use Rattle.kfs_judge.proofs.CheckLemmas.Lists.{map-drop-cons, map-drop-past}
 use Rattle.kfs_judge.proofs.CheckLemmas.Looking.{looks_here, looks_behind}
-use Rattle.kfs_judge.specs.Check.Reads.{IsPart}
-use Rattle.kfs_judge.proofs.CheckLemmas.Recording.{cut_short, goes_nowhere, goes_then, within_same, within_then, within_wider, part_of_itself}
+use Rattle.kfs_judge_reads.specs.Reads.{IsPart}
+use Rattle.kfs_judge_reads.proofs.Recording.{cut_short, goes_nowhere, goes_then, within_same, within_then, within_wider, part_of_itself}
 use Rattle.kfs_judge.proofs.check.entry_judge.EntryJudge.first_fault.Goals as goal
 
 -- the checks that are left begin with this one

@@ -1,8 +1,8 @@
 -- So far no check fails, in any state that agrees, and the reads are of the cells of the checks.
 use Rattle.std.proofs.Common.{◌≡◌, map, drop}
 use Rattle.kfs_model.specs.Check.{first_failing, looked}
-use Rattle.kfs_judge.specs.Check.Reads.{Always, IsPart, Within}
-use Rattle.kfs_judge.specs.Check.Recorders.{GoesOn}
+use Rattle.kfs_judge_reads.specs.Reads.{Always, IsPart, Within}
+use Rattle.kfs_judge_reads.specs.Recorders.{GoesOn}
 use Rattle.kfs_judge.specs.Check.Checks.{check_of, entry_context_in}
 use Rattle.kfs_judge.proofs.check.entry_judge.EntryJudge.first_fault.Given as goal
 

@@ -3,7 +3,7 @@ use Rattle.std.specs.Prelude.{[], ◌∷◌}
 use Rattle.std.proofs.Common.{ap₂, sym, ◌∙◌}
 use Rattle.kfs_model.specs.Check as checks
 use Rattle.kfs_model.specs.Sight.{HeaderOf}
-use Rattle.kfs_judge.proofs.CheckLemmas.Recording.{look_cut_short, goes_then, within_then, within_wider, left_is_part, right_is_part}
+use Rattle.kfs_judge_reads.proofs.Recording.{look_cut_short, goes_then, within_then, within_wider, left_is_part, right_is_part}
 use Rattle.kfs_judge.proofs.check.entry_judge.EntryJudge.may_remove.Goals as goal
 
 pub returns-in_err-node : goal.returns-in_err-node

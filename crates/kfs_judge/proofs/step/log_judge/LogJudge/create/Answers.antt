@@ -7,12 +7,12 @@ use Rattle.kfs_model.specs.Entry.{Create}
 use Rattle.kfs_model.specs.Sight.{NameIn, HeaderOf}
 use Rattle.kfs_types.specs.Views.{kind_of}
 use Rattle.kfs_model.specs.SeenAfter.{seen_after}
-use Rattle.kfs_judge.specs.Draft.Overlay.{over, entry_context_of, with_node}
+use Rattle.kfs_judge_reads.specs.Draft.Overlay.{over, entry_context_of, with_node}
 use Rattle.kfs_judge.specs.Check.Checks.{reason_of}
 use Rattle.kfs_judge.proofs.StepLemmas.CleanLooks.{create_looks}
 use Rattle.kfs_judge.proofs.CheckLemmas.Looking.{written_wider}
-use Rattle.kfs_judge.proofs.DraftLemmas.Overlays.{shifts_wider}
-use Rattle.kfs_judge.proofs.CheckLemmas.Recording.{left_is_part, right_is_part}
+use Rattle.kfs_judge_reads.proofs.DraftLemmas.Overlays.{shifts_wider}
+use Rattle.kfs_judge_reads.proofs.Recording.{left_is_part, right_is_part}
 use Rattle.kfs_judge.proofs.StepLemmas.Entered.{is_cut_short, has_fault}
 use Rattle.kfs_judge.proofs.step.log_judge.LogJudge.create.Goals as goal
 

@@ -8,12 +8,12 @@ use Rattle.kfs_model.specs.Check.{checks_of, looked, is_some_and}
 use Rattle.kfs_model.specs.Entry.{Link}
 use Rattle.kfs_model.specs.Sight.{NameIn, HeaderOf}
 use Rattle.kfs_model.specs.SeenAfter.{seen_after}
-use Rattle.kfs_judge.specs.Draft.Overlay.{over, entry_context_of, with_name}
+use Rattle.kfs_judge_reads.specs.Draft.Overlay.{over, entry_context_of, with_name}
 use Rattle.kfs_judge.specs.Check.Checks.{reason_of}
 use Rattle.kfs_judge.proofs.StepLemmas.CleanLooks.{link_looks, link_has_room}
 use Rattle.kfs_judge.proofs.CheckLemmas.Looking.{written_wider}
-use Rattle.kfs_judge.proofs.DraftLemmas.Overlays.{shifts_wider}
-use Rattle.kfs_judge.proofs.CheckLemmas.Recording.{goes_then, within_then, within_wider, first_is_in, left_is_part, right_is_part}
+use Rattle.kfs_judge_reads.proofs.DraftLemmas.Overlays.{shifts_wider}
+use Rattle.kfs_judge_reads.proofs.Recording.{goes_then, within_then, within_wider, first_is_in, left_is_part, right_is_part}
 use Rattle.kfs_judge.proofs.StepLemmas.Entered.{is_cut_short, has_fault}
 use Rattle.kfs_judge.proofs.step.log_judge.LogJudge.link.Goals as goal
 

@@ -5,10 +5,10 @@ use Rattle.std.proofs.lemmas.Bool.{ne_eqb}
 use Rattle.kfs_model.specs.Sight.{Sight, Cell, HeaderOf, kind_shown}
 use Rattle.kfs_model.specs.SeenAfter.{seen_moved, seen_renamed, seen_unlinked, unlinked}
 use Rattle.kfs_judge.specs.Step.Entered.{headers_renamed, headers_unlinked}
-use Rattle.kfs_judge.specs.Draft.Overlay.{over, with_name_moved}
-use Rattle.kfs_judge.specs.Check.Reads.{IsPart, Within}
-use Rattle.kfs_judge.proofs.DraftLemmas.Overlays.{shifts_wider}
-use Rattle.kfs_judge.proofs.CheckLemmas.Recording.{goes_then, within_then, within_wider, left_is_part, right_is_part}
+use Rattle.kfs_judge_reads.specs.Draft.Overlay.{over, with_name_moved}
+use Rattle.kfs_judge_reads.specs.Reads.{IsPart, Within}
+use Rattle.kfs_judge_reads.proofs.DraftLemmas.Overlays.{shifts_wider}
+use Rattle.kfs_judge_reads.proofs.Recording.{goes_then, within_then, within_wider, left_is_part, right_is_part}
 use Rattle.kfs_judge.proofs.step.log_judge.LogJudge.move_name.Goals as goal
 
 -- ---- where the second name leads to another node, or to none

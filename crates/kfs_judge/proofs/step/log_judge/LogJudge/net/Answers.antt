@@ -1,5 +1,5 @@
 -- What the first rows tell still holds after the second.
-use Rattle.kfs_judge.proofs.CheckLemmas.Recording.{goes_then, within_then}
+use Rattle.kfs_judge_reads.proofs.Recording.{goes_then, within_then}
 use Rattle.kfs_judge.proofs.StepLemmas.Entered.{is_cut_off}
 use Rattle.kfs_judge.proofs.step.log_judge.LogJudge.net.Goals as goal
 

@@ -4,9 +4,9 @@ use Rattle.std.proofs.Common.{ap, sym, subst, ◌∙◌}
 use Rattle.kfs_model.specs.Sight.{HeaderOf}
 use Rattle.kfs_model.specs.SeenAfter.{unlinked, seen_unlinked}
 use Rattle.kfs_judge.specs.Step.Entered.{headers_unlinked}
-use Rattle.kfs_judge.specs.Draft.Overlay.{over, without_name}
-use Rattle.kfs_judge.specs.Check.Reads.{Within}
-use Rattle.kfs_judge.proofs.CheckLemmas.Recording.{first_is_in}
+use Rattle.kfs_judge_reads.specs.Draft.Overlay.{over, without_name}
+use Rattle.kfs_judge_reads.specs.Reads.{Within}
+use Rattle.kfs_judge_reads.proofs.Recording.{first_is_in}
 use Rattle.kfs_judge.proofs.step.log_judge.LogJudge.remove_name.Goals as goal
 
 pub returns-clause-among : goal.returns-clause-among

@@ -7,12 +7,12 @@ use Rattle.kfs_model.specs.Entry.{Rename}
 use Rattle.kfs_model.specs.Sight.{NameIn}
 use Rattle.kfs_model.specs.SeenAfter.{seen_after, seen_renamed}
 use Rattle.kfs_judge.specs.Step.Entered.{headers_renamed}
-use Rattle.kfs_judge.specs.Draft.Overlay.{over, entry_context_of}
+use Rattle.kfs_judge_reads.specs.Draft.Overlay.{over, entry_context_of}
 use Rattle.kfs_judge.specs.Check.Checks.{reason_of}
-use Rattle.kfs_judge.specs.Check.Reads.{IsPart}
+use Rattle.kfs_judge_reads.specs.Reads.{IsPart}
 use Rattle.kfs_judge.proofs.StepLemmas.CleanLooks.{rename_looks_at_names, rename_looks_at_headers}
 use Rattle.kfs_judge.proofs.CheckLemmas.Looking.{written_wider}
-use Rattle.kfs_judge.proofs.CheckLemmas.Recording.{goes_then, within_then, within_wider, first_is_in, left_is_part, right_is_part}
+use Rattle.kfs_judge_reads.proofs.Recording.{goes_then, within_then, within_wider, first_is_in, left_is_part, right_is_part}
 use Rattle.kfs_judge.proofs.StepLemmas.Entered.{is_cut_short, has_fault}
 use Rattle.kfs_judge.proofs.step.log_judge.LogJudge.rename.Goals as goal
 

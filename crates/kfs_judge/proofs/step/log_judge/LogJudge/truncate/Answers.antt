@@ -5,10 +5,10 @@ use Rattle.std.proofs.Common.{ap, sym, ◌∙◌}
 use Rattle.kfs_model.specs.Header.{Header}
 use Rattle.kfs_model.specs.Entry.{Truncate}
 use Rattle.kfs_model.specs.SeenAfter.{put_at, seen_after}
-use Rattle.kfs_judge.specs.Draft.Overlay.{over}
+use Rattle.kfs_judge_reads.specs.Draft.Overlay.{over}
 use Rattle.kfs_judge.specs.Check.Checks.{reason_of}
 use Rattle.kfs_judge.proofs.StepLemmas.CleanLooks.{truncate_looks}
-use Rattle.kfs_judge.proofs.CheckLemmas.Recording.{goes_then}
+use Rattle.kfs_judge_reads.proofs.Recording.{goes_then}
 use Rattle.kfs_judge.proofs.StepLemmas.Entered.{is_cut_short, has_fault, header_is_set, own_file}
 use Rattle.kfs_judge.proofs.step.log_judge.LogJudge.truncate.Goals as goal
 

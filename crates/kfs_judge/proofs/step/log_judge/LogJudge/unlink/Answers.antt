@@ -8,13 +8,13 @@ use Rattle.kfs_model.specs.Sight.{NameIn}
 use Rattle.kfs_model.specs.SeenAfter.{seen_after, seen_unlinked}
 use Rattle.kfs_types.specs.Views.{kind_of}
 use Rattle.kfs_judge.specs.Step.Entered.{headers_unlinked}
-use Rattle.kfs_judge.specs.Draft.Overlay.{over, entry_context_of}
+use Rattle.kfs_judge_reads.specs.Draft.Overlay.{over, entry_context_of}
 use Rattle.kfs_judge.specs.Check.Checks.{reason_of}
-use Rattle.kfs_judge.specs.Check.Reads.{IsPart}
+use Rattle.kfs_judge_reads.specs.Reads.{IsPart}
 use Rattle.kfs_judge.proofs.StepLemmas.CleanLooks.{unlink_looks_at_name, unlink_looks_at_header}
 use Rattle.kfs_judge.proofs.CheckLemmas.Looking.{written_wider}
-use Rattle.kfs_judge.proofs.DraftLemmas.Overlays.{shifts_wider}
-use Rattle.kfs_judge.proofs.CheckLemmas.Recording.{goes_then, within_then, within_wider, first_is_in, left_is_part, right_is_part}
+use Rattle.kfs_judge_reads.proofs.DraftLemmas.Overlays.{shifts_wider}
+use Rattle.kfs_judge_reads.proofs.Recording.{goes_then, within_then, within_wider, first_is_in, left_is_part, right_is_part}
 use Rattle.kfs_judge.proofs.StepLemmas.Entered.{is_cut_short, has_fault}
 use Rattle.kfs_judge.proofs.step.log_judge.LogJudge.unlink.Goals as goal
 

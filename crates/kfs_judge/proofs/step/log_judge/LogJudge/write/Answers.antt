@@ -6,12 +6,12 @@ use Rattle.kfs_model.specs.Header.{Header}
 use Rattle.kfs_model.specs.Check.{first_fault}
 use Rattle.kfs_model.specs.Entry.{Write}
 use Rattle.kfs_model.specs.SeenAfter.{put_at, seen_after, written_size}
-use Rattle.kfs_judge.specs.Draft.Overlay.{over}
+use Rattle.kfs_judge_reads.specs.Draft.Overlay.{over}
 use Rattle.kfs_judge.specs.Check.Checks.{reason_of}
 use Rattle.kfs_judge.specs.Step.Entered.{next_context}
 use Rattle.kfs_judge.proofs.StepLemmas.CleanLooks.{write_fits, write_looks}
-use Rattle.kfs_judge.specs.Check.Recorders.{Known}
-use Rattle.kfs_judge.proofs.CheckLemmas.Recording.{goes_then}
+use Rattle.kfs_judge_reads.specs.Recorders.{Known}
+use Rattle.kfs_judge_reads.proofs.Recording.{goes_then}
 use Rattle.kfs_judge.proofs.StepLemmas.Entered.{is_cut_short, has_fault, header_is_set, own_file}
 use Rattle.kfs_judge.proofs.step.log_judge.LogJudge.write.Goals as goal
 

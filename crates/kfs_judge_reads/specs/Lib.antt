@@ -1,0 +1,13 @@
+pub mod View
+pub mod Permissions
+pub mod Reads
+pub mod Kept
+pub mod KeptReads
+pub mod ReadKeys
+pub mod SameReads
+pub mod SeenReads
+pub mod Recall
+pub mod Looks
+pub mod Recorders
+pub mod Climbs
+pub mod Draft
