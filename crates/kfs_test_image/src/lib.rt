@@ -1,10 +1,10 @@
 //! Tests of what is below the desk: logs, plans and images as bytes, permission bits, the check of raw images, and edits of an
 //! image. The expected values come from docs/FORMATS.md, docs/DEFINITIONS.md, docs/DECISIONS.md and the examples of
 //! `kfs_model`, never from the program's own output. The scripts of `kfs_rows` show what a landing does to blocks.
-//! `fsck` has the checker that lets images in, and images made of raw ones.
+//! `fsck` has the checker that lets images in, and images made of raw ones. `shared` has desks that threads share.
 //!
-//! It stands on `kfs_entry`, `kfs_mode`, `kfs_image`, `kfs_shape`, `kfs_fsck`, `kfs_plan` and `kfs_test_support`. Begin with
-//! `codec.rt`, and of edits with `edits.rt`.
+//! It stands on `kfs_fsck`, `kfs_shared` and `kfs_test_support`. Begin with `codec.rt`, of edits with `edits.rt`, and of threads
+//! with `shared.rt`.
 //!
 //! A test is proved too, and would have to carry the clauses of each call that it makes. So each call
 //! is in a small function without clauses, which a test then makes for each row of a table. Whether an edit can be made is
@@ -37,5 +37,7 @@ mod modes;
 mod refused;
 #[cfg(test)]
 mod rules;
+#[cfg(test)]
+mod shared;
 #[cfg(test)]
 mod spares;

@@ -1,7 +1,7 @@
 //! Batches of creations by client 7.
 
-use crate::files::File;
-use crate::setting::submission;
+use crate::shared::files::File;
+use crate::shared::setting::submission;
 use kfs_desk::Desk;
 use kfs_plan::Submission;
 use kfs_shared::{BatchBack, BatchEnd, Gate, run_batch};

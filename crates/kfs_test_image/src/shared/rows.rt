@@ -3,11 +3,11 @@
 ghost use Rattle.std.specs.Prelude.{IfSome};
 ghost use Rattle.kfs_shared.specs.Passes.{IsPassOf};
 
-use crate::callers::{Asking, Creating};
-use crate::calls::{Sharing, closed, judged, land, meet, shared, shared_from, split, view};
-use crate::files::{FILE_A, FILES_P, FILES_Q, File, WRITE_LOG, WRITE_PLAN};
-use crate::setting::{opened, with_file};
-use crate::side::both;
+use crate::shared::callers::{Asking, Creating};
+use crate::shared::calls::{Sharing, closed, judged, land, meet, shared, shared_from, split, view};
+use crate::shared::files::{FILE_A, FILES_P, FILES_Q, File, WRITE_LOG, WRITE_PLAN};
+use crate::shared::setting::{opened, with_file};
+use crate::shared::side::both;
 use kfs_desk::{Act, ActReply, Desk, Done, Reply};
 use kfs_judge::{EntryFault, Reason};
 use kfs_lease::LeaseKind;

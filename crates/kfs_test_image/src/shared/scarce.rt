@@ -1,10 +1,10 @@
 //! Batches of one worker with each allocation failing in turn: four creations by client 7, and a
 //! Write by client 8, which is answered No. The last creation and the Write go together.
 
-use crate::batch::{Ending, are_creates, batch, creates, is_create};
-use crate::files::{FILES_P, WRITE_LOG_OF_8, WRITE_PLAN};
-use crate::gates::Open;
-use crate::setting::{opened_with, submission_of};
+use crate::shared::batch::{Ending, are_creates, batch, creates, is_create};
+use crate::shared::files::{FILES_P, WRITE_LOG_OF_8, WRITE_PLAN};
+use crate::shared::gates::Open;
+use crate::shared::setting::{opened_with, submission_of};
 use kfs_desk::{Desk, Reply};
 use kfs_plan::Submission;
 use kfs_shared::{BatchBack, BatchEnd, Left, SharedWant};

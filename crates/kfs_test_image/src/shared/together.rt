@@ -4,10 +4,10 @@
 //! The second submission writes to the file that the first one creates. Judged before that lands, it is
 //! judged again at its landing.
 
-use crate::batch::{Ending, batch};
-use crate::files::{FILE_A, WRITE_LOG, WRITE_LOG_OF_8, WRITE_PLAN};
-use crate::gates::Noting;
-use crate::setting::{opened, submission, submission_of};
+use crate::shared::batch::{Ending, batch};
+use crate::shared::files::{FILE_A, WRITE_LOG, WRITE_LOG_OF_8, WRITE_PLAN};
+use crate::shared::gates::Noting;
+use crate::shared::setting::{opened, submission, submission_of};
 use kfs_desk::Reply;
 use kfs_judge::{EntryFault, Reason};
 use kfs_plan::{Fault, Submission};

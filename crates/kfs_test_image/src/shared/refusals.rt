@@ -2,10 +2,12 @@
 ghost use Rattle.std.specs.Prelude.{IfSome};
 ghost use Rattle.kfs_shared.specs.Passes.{IsPassOf};
 
-use crate::batch::is_create;
-use crate::calls::{Sharing, act, closed, has_node, judged, land, shared, shared_from, view};
-use crate::files::FILE_A;
-use crate::setting::opened;
+use crate::shared::batch::is_create;
+use crate::shared::calls::{
+    Sharing, act, closed, has_node, judged, land, shared, shared_from, view,
+};
+use crate::shared::files::FILE_A;
+use crate::shared::setting::opened;
 use kfs_desk::{Act, ActReply, Desk, Done, Reply};
 use kfs_lease::LeaseKind;
 use kfs_plan::Judged;

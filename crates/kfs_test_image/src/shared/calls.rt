@@ -2,7 +2,7 @@
 ghost use Rattle.std.specs.Prelude.{IfOk, IfSome};
 ghost use Rattle.kfs_shared.specs.Passes.{IsPassOf};
 
-use crate::setting::submission;
+use crate::shared::setting::submission;
 use kfs_desk::{Act, ActReply, Desk, Reply};
 use kfs_image::{Answer, Cell};
 use kfs_judge::View;

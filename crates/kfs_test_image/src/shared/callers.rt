@@ -1,9 +1,9 @@
 //! What the threads of the tests do.
 ghost use Rattle.kfs_shared.specs.Passes.{IsPassOf};
 
-use crate::calls::{act, has_node, judged, land, view};
-use crate::files::File;
-use crate::side::Caller;
+use crate::shared::calls::{act, has_node, judged, land, view};
+use crate::shared::files::File;
+use crate::shared::side::Caller;
 use kfs_desk::{Act, ActReply, Desk, Reply};
 use kfs_shared::{Pass, Shared, SharedWant};
 use std::alloc::Global;

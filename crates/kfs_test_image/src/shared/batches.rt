@@ -1,10 +1,10 @@
 //! Batches of submissions: what each comes to, in whatever order the workers make their calls. Positions
 //! count the row of the setting, too, where client 7 was given the root.
 
-use crate::batch::{Ending, are_creates, batch, creates, is_create};
-use crate::files::{FILES_P, File};
-use crate::gates::{Meeting, Open};
-use crate::setting::opened_with;
+use crate::shared::batch::{Ending, are_creates, batch, creates, is_create};
+use crate::shared::files::{FILES_P, File};
+use crate::shared::gates::{Meeting, Open};
+use crate::shared::setting::opened_with;
 use kfs_desk::Reply;
 use kfs_shared::{BatchBack, BatchEnd, Gate, Left, SharedWant};
 use std::alloc::Global;
