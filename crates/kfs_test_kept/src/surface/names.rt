@@ -11,7 +11,10 @@ pub mod entry {
 
 /// Clients.
 pub mod mode {
-    pub use kfs_mode::{Class, Client, ClientFault, GROUP_LIMIT, Want, class_of, find_client, may};
+    pub use kfs_mode::{
+        Access, AccessFault, Class, Client, ClientFault, GROUP_LIMIT, Want, class_of, find_client,
+        may, permission,
+    };
 }
 
 /// Images.
