@@ -1,7 +1,6 @@
 //! Calls of a desk and their answers as bytes (docs/FORMATS.md), as far as kfsd follows what the desk does.
 
 use crate::bytes::Bytes;
-use std::borrow::Cow;
 
 const SUBMIT: u8 = 1;
 const LEASE: u8 = 2;
@@ -13,21 +12,15 @@ const LEASE_BY_NUMBER: u8 = 6;
 /// No block has this tier: it says that a call of moves sets a time.
 const TIME_TIER: u8 = 0xfe;
 
-/// What a lease is asked on.
-#[derive(Clone, Debug, PartialEq, Eq, Hash)]
-pub enum On {
-    Path(Vec<u8>),
-    Node(u32),
-}
-
 /// A call for a lease.
-#[derive(Clone, Debug, PartialEq, Eq)]
+#[derive(Clone, Copy, Debug, PartialEq, Eq)]
 pub struct Wish {
     pub client: u32,
     pub writes: bool,
     /// The moment at which the lease ends.
     pub end: u64,
-    pub on: On,
+    /// None where it is asked for by a path, and nobody has said to which node that leads.
+    pub node: Option<u32>,
 }
 
 /// What a log does to a node, as its plan says.
@@ -59,8 +52,9 @@ pub enum Note {
     Drop {
         client: u32,
     },
-    /// A log and its plan. A plan that is right names all that the log changes.
-    Submit(Vec<(u32, Change)>),
+    /// A log, by the bytes of its plan. A plan that is right names all that the log changes. It is read once the log has landed:
+    /// until then its rows would take several times the memory of its bytes.
+    Submit(Vec<u8>),
     /// kfsd's own call that keeps the time which an owner sets on a node.
     Time(u32, Setting),
     /// Nothing is followed, or it is told by the answer.
@@ -73,12 +67,23 @@ impl Note {
         Note::read(body).unwrap_or(Note::Nothing)
     }
 
+    /// The wish in a call for a lease; none in another call.
+    pub fn of_lease(body: &[u8]) -> Option<Wish> {
+        match body.first() {
+            Some(&(LEASE | LEASE_BY_NUMBER)) => match Note::of(body) {
+                Note::Lease(wish) => Some(wish),
+                _ => None,
+            },
+            _ => None,
+        }
+    }
+
     /// What it changes where it is done.
-    pub fn changes(&self) -> Cow<'_, [(u32, Change)]> {
+    pub fn changes(&self) -> Vec<(u32, Change)> {
         match self {
-            Note::Submit(changes) => Cow::Borrowed(changes),
-            Note::Time(node, set) => Cow::Owned(vec![(*node, Change::Time(*set))]),
-            _ => Cow::Borrowed(&[]),
+            Note::Submit(plan) => changes_in(plan).unwrap_or_default(),
+            Note::Time(node, set) => vec![(*node, Change::Time(*set))],
+            _ => Vec::new(),
         }
     }
 
@@ -92,17 +97,15 @@ impl Note {
         match tag {
             SUBMIT => {
                 let _log = bytes.counted()?;
-                Some(Note::Submit(changes_in(bytes.counted()?)?))
+                Some(Note::Submit(bytes.counted()?.to_vec()))
             }
             LEASE | LEASE_BY_NUMBER => {
                 let (writes, end) = (bytes.byte()? == 1, bytes.long()?);
-                let on = if tag == LEASE {
-                    let length = bytes.half()?;
-                    On::Path(bytes.take(length.into())?.to_vec())
-                } else {
-                    On::Node(bytes.word()?)
+                let node = match tag {
+                    LEASE => None,
+                    _ => Some(bytes.word()?),
                 };
-                Some(Note::Lease(Wish { client, writes, end, on }))
+                Some(Note::Lease(Wish { client, writes, end, node }))
             }
             DROP => Some(Note::Drop { client }),
             _ => None,
@@ -174,11 +177,58 @@ pub fn tick(moment: u64) -> Vec<u8> {
     body
 }
 
+/// The path in a call for a lease by path; none in another call.
+pub fn path_in(body: &[u8]) -> Option<&[u8]> {
+    let mut bytes = Bytes(body);
+    let is_by_path = bytes.byte()? == LEASE;
+    let _client_kind_and_end = bytes.take(13)?;
+    let length = bytes.half()?;
+    let path = bytes.take(length.into())?;
+    (is_by_path && bytes.0.is_empty()).then_some(path)
+}
+
+/// The call for a lease by path that is like a wish.
+pub fn lease_by_path(wish: &Wish, path: &[u8]) -> Vec<u8> {
+    let mut body = lease_head(LEASE, wish);
+    // It came with a length of two bytes.
+    body.extend_from_slice(&(path.len() as u16).to_be_bytes());
+    body.extend_from_slice(path);
+    body
+}
+
+/// The call for a lease by number that is like a wish.
+pub fn lease_by_number(wish: &Wish, node: u32) -> Vec<u8> {
+    let mut body = lease_head(LEASE_BY_NUMBER, wish);
+    body.extend_from_slice(&node.to_be_bytes());
+    body
+}
+
+fn lease_head(tag: u8, wish: &Wish) -> Vec<u8> {
+    let mut body = vec![tag];
+    body.extend_from_slice(&wish.client.to_be_bytes());
+    body.push(u8::from(wish.writes));
+    body.extend_from_slice(&wish.end.to_be_bytes());
+    body
+}
+
+/// The call by which a client gives a lease up.
+pub fn drop_of(client: u32, node: u32) -> Vec<u8> {
+    let mut body = vec![DROP];
+    body.extend_from_slice(&client.to_be_bytes());
+    body.extend_from_slice(&node.to_be_bytes());
+    body
+}
+
 /// Why the desk refuses a call for a lease, as far as kfsd looks at it.
 #[derive(Clone, Copy, Debug, PartialEq, Eq)]
 pub enum Why {
+    /// The end isn't above the moment. All that is asked of the client and the node before holds.
+    Past,
     /// This client has a lease that doesn't go with it.
     Held(u32),
+    NoSuchNode,
+    /// The client has no permission on the node for such a lease.
+    NotAllowed,
     Else,
 }
 
@@ -214,7 +264,13 @@ impl Told {
                 let code = bytes.half()?.to_be_bytes()[0];
                 let _index = bytes.long()?;
                 let client = bytes.word()?;
-                Some(Told::NoLease(if code == 7 { Why::Held(client) } else { Why::Else }))
+                Some(Told::NoLease(match code {
+                    6 => Why::Past,
+                    7 => Why::Held(client),
+                    10 => Why::NoSuchNode,
+                    11 => Why::NotAllowed,
+                    _ => Why::Else,
+                }))
             }
             _ => None,
         }
@@ -228,12 +284,17 @@ mod tests {
     #[test]
     fn calls_for_leases_are_read() {
         let by_path = [2, 0, 0, 0, 7, 1, 0, 0, 0, 0, 0, 0, 0, 100, 0, 1, b'/'];
-        let wish = Wish { client: 7, writes: true, end: 100, on: On::Path(b"/".to_vec()) };
-        assert_eq!(Note::of(&by_path), Note::Lease(wish.clone()));
+        let wish = Wish { client: 7, writes: true, end: 100, node: None };
+        assert_eq!(Note::of(&by_path), Note::Lease(wish));
+        assert_eq!((lease_by_path(&wish, b"/"), path_in(&by_path)), (by_path.to_vec(), Some(&b"/"[..])));
         let by_number = [6, 0, 0, 0, 7, 1, 0, 0, 0, 0, 0, 0, 0, 100, 0, 0, 1, 2];
-        assert_eq!(Note::of(&by_number), Note::Lease(Wish { on: On::Node(258), ..wish }));
-        assert_eq!(Note::of(&[3, 0, 0, 0, 7, 0, 0, 0, 1]), Note::Drop { client: 7 });
-        assert_eq!(Note::of(&by_path[..16]), Note::Nothing);
+        assert_eq!(Note::of(&by_number), Note::Lease(Wish { node: Some(258), ..wish }));
+        assert_eq!((lease_by_number(&wish, 258), path_in(&by_number)), (by_number.to_vec(), None));
+        assert_eq!(Note::of(&drop_of(7, 1)), Note::Drop { client: 7 });
+        for cut in 0..by_path.len() {
+            assert_eq!(path_in(&by_path[..cut]), None);
+        }
+        assert_eq!(path_in(&[&by_path[..], &[0]].concat()), None);
         assert_eq!(Note::of(&[]), Note::Nothing);
         assert_eq!(tick(258), [4, 0, 0, 0, 0, 0, 0, 1, 2]);
     }
@@ -270,7 +331,8 @@ mod tests {
         call.extend_from_slice(&(plan.len() as u32).to_be_bytes());
         call.extend_from_slice(&plan);
         let changes = vec![(1, Change::Bytes), (5, Change::Header), (5, Change::Bytes), (4, Change::Gone)];
-        assert_eq!(Note::of(&call), Note::Submit(changes));
+        assert_eq!(Note::of(&call), Note::Submit(plan.clone()));
+        assert_eq!(Note::of(&call).changes(), changes);
         for cut in 1..plan.len() {
             assert_eq!(changes_in(&plan[..cut]), None);
         }
@@ -281,7 +343,9 @@ mod tests {
         assert_eq!(Told::of(&[4, 0, 0, 0, 1]), Told::Leased(1));
         assert_eq!(Told::of(&[6, 0, 0, 0, 0, 0, 0, 1, 0]), Told::Ticked(256));
         assert_eq!(Told::of(&[8, 7, 0, 0, 0, 0, 0, 0, 0, 0, 0, 0, 0, 0, 9]), Told::NoLease(Why::Held(9)));
-        assert_eq!(Told::of(&[8, 6, 0, 0, 0, 0, 0, 0, 0, 0, 0, 0, 0, 0, 0]), Told::NoLease(Why::Else));
+        for (code, why) in [(1, Why::Else), (6, Why::Past), (10, Why::NoSuchNode), (11, Why::NotAllowed)] {
+            assert_eq!(Told::of(&[&[8, code][..], &[0; 13]].concat()), Told::NoLease(why));
+        }
         assert_eq!(Told::of(&[1, 0]), Told::Landed);
         assert_eq!(Told::of(&[2, 0]), Told::Else);
         assert_eq!(Told::of(&[3, 0]), Told::NoRoom);

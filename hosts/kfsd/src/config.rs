@@ -76,6 +76,8 @@ pub struct Limits {
     /// Bytes of a connection, and of a user, in frames that come or wait for `kfs_serve`.
     pub bytes_a_connection: u32,
     pub bytes_a_user: u32,
+    /// Calls of a user a second. More of them wait.
+    pub calls_a_second: u32,
     /// How long a frame may take from its first byte to its last.
     pub frame_seconds: u64,
     /// How long a reply may wait for its reader.
@@ -127,6 +129,7 @@ impl Default for Limits {
             frames_a_user: 1024,
             bytes_a_connection: 8 << 20,
             bytes_a_user: 32 << 20,
+            calls_a_second: 20_000,
             frame_seconds: 30,
             reply_seconds: 30,
             stop_seconds: 20,
@@ -155,6 +158,7 @@ impl Limits {
         let wrong = [
             (self.connections_a_user == 0, "no connection is allowed"),
             (self.frames_a_connection == 0 || self.frames_a_user == 0, "no frame is allowed"),
+            (self.calls_a_second == 0, "no call is allowed"),
             (self.frame_bytes > BODY_LIMIT, "frame_bytes is over 16,777,216"),
             (self.bytes_a_connection < longest, "bytes_a_connection is less than a longest frame and 256, or than 66,560"),
             (self.bytes_a_user < longest, "bytes_a_user is less than a longest frame and 256, or than 66,560"),

@@ -3,16 +3,17 @@
 //! What it waits for is its own: its reader's bytes, its writer's room, and places of its own user. So it holds up no other user.
 
 use crate::allowance::Allowance;
-use crate::calls::{time_call, Note, Setting, Wish};
+use crate::asking::{leasing_of, set_time, Instead, Leasing};
+use crate::calls::{path_in, Note, Wish};
 use crate::cluster::term::Term;
 use crate::config::{Duties, Limits, FRAME_COST};
 use crate::figures::Figures;
 use crate::following::Following;
 use crate::frames::{
-    asked, found_in, moment, node_look_up, owner_in, reply, times, told_again, wanted, welcome, Asked, Head, Refusal, Reply,
-    TimeSet, HEAD, NUMBERED_HEAD,
+    answer_in, asked, found_in, moment, reply, shorten, times, told_again, wanted, welcome, Asked, Head, Refusal, HEAD,
+    NUMBERED_HEAD,
 };
-use crate::outcomes::Stands;
+use crate::outcomes::{Outcomes, Stands};
 use crate::queue::{Answer, Asker, Call, Permits, Queue};
 use crate::rules::Rules;
 use crate::users::{Account, Place};
@@ -125,6 +126,38 @@ impl Slot {
                 Err(oneshot::error::TryRecvError::Empty) => None,
                 Err(oneshot::error::TryRecvError::Closed) => Some(reply_of(self.number, None)),
             },
+        }
+    }
+}
+
+/// A numbered call that is under way here. Where it isn't handed in, its number is free again.
+struct Begun<'a> {
+    outcomes: &'a Outcomes,
+    client: u32,
+    number: u64,
+    is_under_way: bool,
+}
+
+impl Begun<'_> {
+    /// The number of a call that is handed in now.
+    fn hand_in(mut self) -> u64 {
+        self.is_under_way = false;
+        self.number
+    }
+
+    /// It was answered so, where this is an answer.
+    fn end(&mut self, said: &[u8]) {
+        if let Some(answer) = answer_in(said) {
+            self.outcomes.end(self.client, self.number, Some(answer));
+            self.is_under_way = false;
+        }
+    }
+}
+
+impl Drop for Begun<'_> {
+    fn drop(&mut self) {
+        if self.is_under_way {
+            self.outcomes.end(self.client, self.number, None);
         }
     }
 }
@@ -318,27 +351,69 @@ impl<R: AsyncRead + Unpin> Reader<'_, R> {
         if let Some(said) = self.said_later(head.number, what) {
             return self.put(head, frame, said).await;
         }
-        let mut number = None;
+        let mut begun = None;
         if let Asked::Numbered(_, own) = what {
-            body.drain(..NUMBERED_HEAD);
-            number = Some(own);
-        }
-        let note = Note::of(&body);
-        if let Note::Lease(wish) = &note {
-            if let Some(refusal) = self.refusal_of(wish) {
-                return self.refuse(head, frame, refusal).await;
+            match self.begin(head.number, own) {
+                Ok(new) => begun = Some(new),
+                Err(said) => return self.put(head, frame, Said::Here(said)).await,
             }
+            body.drain(..NUMBERED_HEAD);
         }
-        if let Some(said) = number.and_then(|own| self.said_before(head.number, own)) {
-            return self.put(head, frame, Said::Here(said)).await;
+        if matches!(what, Asked::Of(_) | Asked::Numbered(..)) {
+            self.account.calls.pause().await;
         }
+        let (mut body, note) = match self.leased(body).await {
+            Ok(found) => found,
+            Err(instead) => {
+                if let (Instead::Said(said), Some(begun)) = (&instead, &mut begun) {
+                    begun.end(said);
+                }
+                return self.put(head, frame, Said::Here(instead.reply(head.number))).await;
+            }
+        };
+        shorten(&mut body);
         let (bytes, found) = self.with_found(&body, bytes).await;
         let (to, answer) = oneshot::channel();
         let asker = Asker { to, frame: Some(Arc::clone(&frame)) };
-        self.shared.queue.push(Call { client, body, note, came: Instant::now(), number, bytes, asker });
+        let number = begun.map(Begun::hand_in);
+        self.shared.queue.push(Call { client, line: client, body, note, came: Instant::now(), number, bytes, asker });
         let said = Said::Waits(answer);
         self.owed.put(Slot { number: head.number, said, _frame: frame, _found: found });
         Ok(())
+    }
+
+    /// Begins a numbered call that is new. The reply to another one says how that stands: before all else, since what was answered
+    /// stays answered.
+    fn begin(&self, number: u32, own: u64) -> Result<Begun<'_>, Vec<u8>> {
+        let (outcomes, client) = (&self.shared.following.outcomes, self.account.user.client);
+        match outcomes.begin(client, own) {
+            Stands::Done(answer) => Err(told_again(number, &answer)),
+            Stands::UnderWay => Err(Refusal::UnderWay.reply(number)),
+            Stands::New => Ok(Begun { outcomes, client, number: own, is_under_way: true }),
+        }
+    }
+
+    /// The call that is handed to the desk, and what kfsd follows of it where that isn't in its bytes. For a lease by path it is
+    /// mostly one by number; where kfsd refuses a lease, or its path leads nowhere, it is what the client is told.
+    async fn leased(&self, body: Vec<u8>) -> Result<(Vec<u8>, Option<Note>), Instead> {
+        let wish = match Note::of_lease(&body) {
+            Some(wish) => wish,
+            None => return Ok((body, None)),
+        };
+        let (following, longest) = (&self.shared.following, self.shared.duties().lease_seconds);
+        if longest != 0 && wish.end > following.clock.now().saturating_add(longest) {
+            return Err(Instead::Refused(Refusal::TooFar));
+        }
+        let leasing = match (path_in(&body), wish.node) {
+            (Some(path), _) => leasing_of(self.shared, &self.account.user, &wish, path).await?,
+            (None, Some(node)) => Leasing { body, node },
+            // It is no call, and the desk says so.
+            (None, None) => return Ok((body, None)),
+        };
+        if following.forbids(wish.client, leasing.node) {
+            return Err(Instead::Refused(Refusal::Wanted));
+        }
+        Ok((leasing.body, Some(Note::Lease(Wish { node: Some(leasing.node), ..wish }))))
     }
 
     /// The bytes that a frame takes until it is sent; or those that it takes with its reply until that is written, where it
@@ -348,7 +423,7 @@ impl<R: AsyncRead + Unpin> Reader<'_, R> {
             0 => (Some(bytes), None),
             count => {
                 drop(bytes);
-                // Such a body has at most 264 bytes.
+                // Such a body has at most 16,777,216 bytes.
                 let all = count + FRAME_COST + body.len() as u32;
                 (None, Some(take(&self.bytes, &self.account.bytes, all).await))
             }
@@ -378,28 +453,12 @@ impl<R: AsyncRead + Unpin> Reader<'_, R> {
             Asked::Wants(behind) => Some(Said::Later(Box::pin(wants_of(shared, number, client, behind)))),
             Asked::SetTime(node, time) => {
                 let setting = set_time(shared, Arc::clone(&self.account), node, time);
-                Some(Said::Later(Box::pin(async move { setting.await.reply(number) })))
+                let reply =
+                    async move { setting.await.map_or_else(|instead| instead.reply(number), |told| told.reply(number)) };
+                Some(Said::Later(Box::pin(reply)))
             }
             _ => None,
         }
-    }
-
-    /// The reply to a numbered call that isn't new. A new one is under way from now on.
-    fn said_before(&self, number: u32, own: u64) -> Option<Vec<u8>> {
-        match self.shared.following.outcomes.begin(self.account.user.client, own) {
-            Stands::Done(answer) => Some(told_again(number, &answer)),
-            Stands::UnderWay => Some(Refusal::UnderWay.reply(number)),
-            Stands::New => None,
-        }
-    }
-
-    /// Why kfsd refuses a lease: it would live for longer than any may, or isn't renewed, since another client wants it.
-    fn refusal_of(&self, wish: &Wish) -> Option<Refusal> {
-        let (following, longest) = (&self.shared.following, self.shared.duties().lease_seconds);
-        if longest != 0 && wish.end > following.clock.now().saturating_add(longest) {
-            return Some(Refusal::TooFar);
-        }
-        following.forbids(wish).then_some(Refusal::Wanted)
     }
 
     async fn refuse(&self, head: Head, frame: Arc<Permits>, refusal: Refusal) -> Result<(), End> {
@@ -442,51 +501,6 @@ async fn wants_of(shared: Arc<Shared>, number: u32, client: u32, behind: u64) ->
     let _ = timeout(WAITING, waiting).await;
     let wants = shared.following.wants();
     wanted(number, behind, &wants.told(client, behind, now()))
-}
-
-/// How a client was answered that sets a time.
-enum Ended {
-    Told(TimeSet),
-    Refused(Refusal),
-    /// `kfs_serve` knows no look-ups, and says this.
-    Else(Vec<u8>),
-}
-
-impl Ended {
-    fn reply(self, number: u32) -> Vec<u8> {
-        match self {
-            Ended::Told(told) => told.reply(number),
-            Ended::Refused(refusal) => refusal.reply(number),
-            Ended::Else(said) => reply(number, &said),
-        }
-    }
-}
-
-/// The reply of the desk to a call of kfsd's own, or what is told where there is none.
-async fn said_by(answer: oneshot::Receiver<Answer>) -> Result<Reply, Ended> {
-    match answer.await {
-        Ok(Answer::Said(said)) => Ok(said),
-        Ok(Answer::NeverSent) => Err(Ended::Refused(Refusal::Stopping)),
-        Err(_) => Err(Ended::Refused(Refusal::Unknown)),
-    }
-}
-
-/// Sets when a node was modified, where the client may. The desk tells who owns it, and keeps the time among its calls.
-async fn set_time(shared: Arc<Shared>, account: Arc<Account>, node: u32, time: i64) -> Ended {
-    let setting = async {
-        let user = &account.user;
-        let found = said_by(shared.queue.push_as(user.client, node_look_up(node))).await?;
-        match found.found().and_then(owner_in) {
-            None => return Err(Ended::Else(found.said)),
-            Some(None) => return Ok(TimeSet::NoNode),
-            Some(Some(owner)) if owner != user.uid && !user.privileged => return Ok(TimeSet::NotOwner),
-            Some(Some(_)) => {}
-        }
-        let is_first = shared.following.times().of(node).is_none();
-        let kept = said_by(shared.queue.push_own(time_call(node, Setting { time, is_first }))).await?;
-        kept.answer().map_or(Err(Ended::Else(kept.said.clone())), |_| Ok(TimeSet::Set))
-    };
-    setting.await.map_or_else(|ended| ended, Ended::Told)
 }
 
 /// Writes replies in the order of their frames, each as soon as it is there. Those that are there together are written at once.

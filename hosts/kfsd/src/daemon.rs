@@ -248,6 +248,7 @@ impl Daemon {
         let accepting = tokio::spawn(accept(sockets, Arc::clone(&self.shared)));
         let ticking = tokio::spawn(duties::tick_on(Arc::clone(&self.shared)));
         let moving = tokio::spawn(moves::move_on(Arc::clone(&self.shared), self.config.tiers));
+        let looking = tokio::spawn(duties::look_on(Arc::clone(&self.shared)));
         let lost = loop {
             tokio::select! {
                 asked = signals.next() => match asked {
@@ -265,6 +266,7 @@ impl Daemon {
         }
         // One that is at the desk is made, and no other one.
         moving.abort();
+        looking.abort();
         if timeout(LAST_TICK, ticking).await.is_err() {
             warn!("the desk isn't told the last moment in time");
         }

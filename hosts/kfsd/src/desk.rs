@@ -8,6 +8,7 @@ use crate::flight::Flight;
 use crate::folder::{Folder, Found};
 use crate::following::Following;
 use crate::frames::{read_reply, said_again, Head, Reply};
+use crate::meter::Meter;
 use crate::queue::{Answer, Batch, Sent};
 use crate::store::{Changes, Store};
 use crate::times;
@@ -205,7 +206,7 @@ impl Desk {
         figures.starts.add(1);
         figures.process.set(child.id().map_or(0, u64::from));
         let mut from = BufReader::new(from);
-        let flight = Flight::default();
+        let (flight, mut meter) = (Flight::default(), Meter::of(child.id()));
         shared.queue.begin_anew();
         let has_begun = is_open(&mut to, &mut from).await;
         let mut done = None;
@@ -216,7 +217,7 @@ impl Desk {
                 self.clients.admitted(lines);
             }
             ready.send_replace(true);
-            done = self.talk(to, &mut from, shared, &flight).await?;
+            done = self.talk(to, &mut from, shared, &flight, &mut meter).await?;
         } else {
             drop(to);
         }
@@ -230,12 +231,13 @@ impl Desk {
     async fn talk(
         &self,
         to: ChildStdin,
-        from: &mut (impl AsyncRead + Unpin),
+        from: &mut BufReader<ChildStdout>,
         shared: &Shared,
         flight: &Flight,
+        meter: &mut Meter,
     ) -> Result<Option<Why>, DeskFault> {
         let writing = write_calls(to, shared, flight, &self.clients);
-        let reading = read_replies(from, shared, flight);
+        let reading = read_replies(from, shared, flight, meter);
         let keeping = self.keep_on(shared, flight);
         tokio::pin!(writing, reading, keeping);
         let why = tokio::select! {
@@ -380,7 +382,14 @@ async fn write_calls(mut to: ChildStdin, shared: &Shared, flight: &Flight, clien
 }
 
 /// Hands answers out until the output of `kfs_serve` ends.
-async fn read_replies(from: &mut (impl AsyncRead + Unpin), shared: &Shared, flight: &Flight) -> io::Result<()> {
+async fn read_replies(
+    from: &mut BufReader<ChildStdout>,
+    shared: &Shared,
+    flight: &Flight,
+    meter: &mut Meter,
+) -> io::Result<()> {
+    // Those that have come together.
+    let mut parts = Vec::new();
     while let Some(reply) = read_reply(from).await? {
         let wrong = || io::Error::new(io::ErrorKind::InvalidData, format!("a reply to frame {}", reply.number));
         let sent = flight.take(reply.number).ok_or_else(wrong)?;
@@ -388,9 +397,15 @@ async fn read_replies(from: &mut (impl AsyncRead + Unpin), shared: &Shared, flig
         if sent.is_kept() {
             flight.ended();
         }
+        parts.push(sent.part);
         if let Some(asker) = sent.asker {
             // Where the connection is gone nobody hears it.
             let _ = asker.to.send(Answer::Said(reply));
+        }
+        if from.buffer().is_empty() {
+            let (worked, waited) = meter.lap(flight.busy_since());
+            shared.queue.measured(&parts, worked, waited);
+            parts.clear();
         }
     }
     Ok(())
@@ -417,6 +432,7 @@ pub fn take_over(sent: &Sent, reply: &Reply, time: i64, shared: &Shared) {
     if let Some(own) = sent.numbered {
         shared.following.outcomes.end(sent.client, own, reply.answer());
     }
+    shared.queue.answered(sent);
     if sent.is_long() {
         let is_done = matches!(reply.answer().map(Told::of), Some(Told::Landed | Told::Leased(_)));
         shared.queue.long_answered(sent.client, sent.length, is_done);

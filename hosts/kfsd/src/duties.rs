@@ -1,5 +1,6 @@
 //! What kfsd does by itself: it tells the desk the moment, and asks it how it stands.
 
+use crate::asking::settle;
 use crate::bytes::Bytes;
 use crate::calls::tick;
 use crate::connection::Shared;
@@ -33,6 +34,14 @@ pub async fn tick_on(shared: Arc<Shared>) {
     let last = shared.following.leases().tick_due(shared.following.clock.now(), 0);
     if let Some(moment) = last {
         let _ = shared.queue.push_own(tick(moment)).await;
+    }
+}
+
+/// Looks at leases that another client wants and whose own may not have them any more, without end.
+pub async fn look_on(shared: Arc<Shared>) {
+    loop {
+        let doubt = shared.following.next_doubt().await;
+        settle(&shared, doubt).await;
     }
 }
 

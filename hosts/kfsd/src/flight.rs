@@ -3,6 +3,7 @@
 use crate::queue::Sent;
 use std::collections::VecDeque;
 use std::sync::{Mutex, MutexGuard, PoisonError};
+use std::time::Instant;
 use tokio::sync::Notify;
 
 /// How many bytes of frames may be sent and not answered, or one frame more. `kfs_serve` reads as many at once. What is
@@ -20,6 +21,8 @@ const ANSWER: u64 = 14;
 #[derive(Debug, Default)]
 struct Under {
     sent: VecDeque<Sent>,
+    /// Since when there is always one; none where there never was.
+    since: Option<Instant>,
     bytes: usize,
     /// How many bytes the journal takes at most for all that was sent.
     total: u64,
@@ -60,6 +63,11 @@ impl Flight {
         self.under().sent.is_empty()
     }
 
+    /// Since when there is always a frame without an answer; none where there never was one.
+    pub fn busy_since(&self) -> Option<Instant> {
+        self.under().since
+    }
+
     /// Takes those that aren't answered.
     pub fn take_all(&self) -> VecDeque<Sent> {
         std::mem::take(&mut self.under().sent)
@@ -86,6 +94,9 @@ impl Flight {
         {
             let mut under = self.under();
             under.bytes += bytes;
+            if under.sent.is_empty() {
+                under.since = Some(Instant::now());
+            }
             under.sent.extend(sent);
         }
         loop {
@@ -167,6 +178,8 @@ mod tests {
             numbered,
             is_checkpoint: false,
             length,
+            part: crate::cost::Part { client: 7, expected: 1 },
+            cost: 1,
             asker: None,
         }
     }

@@ -1,6 +1,6 @@
 //! What kfsd knows of the desk: it follows each call and its answer, and reads the files before `kfs_serve` opens them.
 
-use crate::calls::{Change, Note, Told, Wish};
+use crate::calls::{Change, Note, Told};
 use crate::clock::Clock;
 use crate::journal::{self, Part};
 use crate::leases::Leases;
@@ -8,7 +8,6 @@ use crate::outcomes::{Finder, Outcomes, KEPT};
 use crate::store::{Changes, Outcome};
 use crate::times::Times;
 use crate::wants::Wants;
-use std::borrow::Cow;
 use std::collections::{HashMap, VecDeque};
 use std::io;
 use std::path::Path;
@@ -18,6 +17,9 @@ use tokio::sync::{watch, Notify};
 
 /// How many bytes of the journal may have landings in them that aren't kept here yet, and some more.
 const RECENT: usize = 1 << 20;
+
+/// How many leases may wait for a look whether their clients may have them. More are looked at when they are wanted again.
+const DOUBTS: usize = 4096;
 
 /// What the files tell of calls whose answers may be lost.
 #[derive(Debug, Default)]
@@ -40,11 +42,18 @@ impl Found {
 }
 
 /// What a call has changed, by its answer. kfsd's own call for a time has to be kept, and is always refused.
-fn changes_of(note: &Note, told: Told) -> Cow<'_, [(u32, Change)]> {
+fn changes_of(note: &Note, told: Told) -> Vec<(u32, Change)> {
     match note {
-        Note::Submit(_) if told != Told::Landed => Cow::Borrowed(&[]),
+        Note::Submit(_) if told != Told::Landed => Vec::new(),
         _ => note.changes(),
     }
+}
+
+/// A lease of which it is to be looked whether its client may have it.
+#[derive(Clone, Copy, Debug, PartialEq, Eq)]
+pub struct Doubt {
+    pub node: u32,
+    pub holder: u32,
 }
 
 /// How the desk stands by the answers so far.
@@ -57,6 +66,9 @@ pub struct Following {
     times: Mutex<Times>,
     /// Changes with each new want.
     is_wanted: watch::Sender<()>,
+    /// Leases whose clients may not be allowed them. Each want puts one here once a second at most.
+    doubts: Mutex<VecDeque<Doubt>>,
+    is_doubtful: Notify,
     /// Tells of a log that had too few free places.
     short: Notify,
 }
@@ -70,6 +82,8 @@ impl Default for Following {
             wants: Mutex::default(),
             times: Mutex::default(),
             is_wanted: watch::channel(()).0,
+            doubts: Mutex::default(),
+            is_doubtful: Notify::new(),
             short: Notify::new(),
         }
     }
@@ -107,10 +121,32 @@ impl Following {
         self.is_wanted.subscribe()
     }
 
-    /// Whether a lease isn't renewed, since another client has wanted it for long.
-    pub fn forbids(&self, wish: &Wish) -> bool {
-        let leases = self.leases();
-        self.wants().forbid(wish, &leases, Instant::now())
+    /// Whether a client's lease on a node isn't renewed, since another one has wanted it for long.
+    pub fn forbids(&self, client: u32, node: u32) -> bool {
+        self.wants().forbid(client, node, Instant::now())
+    }
+
+    fn doubts(&self) -> MutexGuard<'_, VecDeque<Doubt>> {
+        self.doubts.lock().unwrap_or_else(PoisonError::into_inner)
+    }
+
+    fn doubt(&self, node: u32, holders: impl IntoIterator<Item = u32>) {
+        let mut doubts = self.doubts();
+        // One that doesn't lead looks at none.
+        let room = DOUBTS.saturating_sub(doubts.len());
+        doubts.extend(holders.into_iter().take(room).map(|holder| Doubt { node, holder }));
+        self.is_doubtful.notify_one();
+    }
+
+    /// The next lease whose client may not be allowed it, once there is one.
+    pub async fn next_doubt(&self) -> Doubt {
+        loop {
+            let next = self.doubts().pop_front();
+            match next {
+                Some(doubt) => return doubt,
+                None => self.is_doubtful.notified().await,
+            }
+        }
     }
 
     /// Begins anew with what the files say, and tells more of it: of numbered calls of those clients and numbers that are
@@ -122,11 +158,13 @@ impl Following {
             Part::State(state) => leases = state,
             Part::Call(call, answer) => {
                 let (note, told) = (Note::of(call), Told::of(answer));
+                let changes = changes_of(&note, told);
                 leases.apply(&note, told);
+                leases.landed(&changes);
                 if let Some(outcome) = finder.next(call, answer).filter(|one| is_asked(one.client, one.number)) {
                     found.put(outcome);
                 }
-                found.recent.push_back(changes_of(&note, told).into_owned());
+                found.recent.push_back(changes);
                 lengths.push_back(call.len());
                 length += call.len();
                 while length - lengths.front().copied().unwrap_or(0) > RECENT {
@@ -143,23 +181,34 @@ impl Following {
 
     /// Takes over what a call has done that was answered at this time. Answers come in the order of the calls.
     pub fn answered(&self, note: &Note, answer: &[u8], time: i64) {
-        let (mut leases, told) = (self.leases(), Told::of(answer));
-        if let (Note::Lease(wish), Told::Leased(node)) = (note, told) {
-            if !leases.held.contains_key(&(node, wish.client)) {
-                self.wants().taken(wish, node);
+        let told = Told::of(answer);
+        let changes = changes_of(note, told);
+        let mut leases = self.leases();
+        match (note, told) {
+            (Note::Lease(wish), Told::Leased(node)) => {
+                if leases.of(node, wish.client).is_none() {
+                    self.wants().taken(wish.client, node);
+                }
+                if wish.node.map_or(false, |meant| meant != node) {
+                    // The path has led elsewhere meanwhile, where nobody has looked whether the client may have the lease.
+                    self.doubt(node, [wish.client]);
+                }
             }
+            (_, Told::NoRoom) => self.short.notify_one(),
+            _ => {}
         }
         leases.apply(note, told);
-        let changes = changes_of(note, told);
+        leases.landed(&changes);
         if !changes.is_empty() {
             self.times().changed(&changes, time);
         }
-        if told == Told::NoRoom {
-            self.short.notify_one();
-        }
         if let Note::Lease(wish) = note {
-            if self.wants().apply(wish, told, &leases, Instant::now()) {
+            let noted = self.wants().apply(wish, told, &leases, Instant::now());
+            if noted.is_new {
                 self.is_wanted.send_replace(());
+            }
+            if let Some(node) = wish.node.filter(|_| !noted.doubtful.is_empty()) {
+                self.doubt(node, noted.doubtful);
             }
         }
     }

@@ -1,6 +1,5 @@
 //! Frames and replies (docs/PROTOCOL.md), and what kfsd itself refuses (docs/KFSD.md).
 
-use crate::calls::On;
 use crate::times::Stamp;
 use crate::wants::Want;
 use std::io;
@@ -31,10 +30,13 @@ const FOUND: u8 = 3;
 /// The tag of a reply that refuses.
 const REFUSED: u8 = 2;
 
-/// The tags of look-ups: of names, of bytes and of leases, whose replies may be long, and those that are the front's.
-const NAMES: u8 = 0x44;
-const READ: u8 = 0x45;
-const LEASES: u8 = 0x47;
+/// The tags of look-ups: where a name leads; those whose replies may be long, of names, bytes, leases and plans; and those that
+/// are the front's.
+const FIND: u8 = 0x43;
+pub const NAMES: u8 = 0x44;
+pub const READ: u8 = 0x45;
+pub const LEASES: u8 = 0x47;
+pub const PLAN: u8 = 0x48;
 pub const STATE: u8 = 0x41;
 pub const CHECKPOINT: u8 = 0x42;
 
@@ -62,6 +64,10 @@ const SET_TIME: u8 = 0xf5;
 /// The tag of a look-up of a node's header, and of what it finds.
 const NODE: u8 = 0x40;
 const FOUND_NODE: u8 = 1;
+const FILE: u8 = 1;
+
+/// The tag of what the look-up of a name finds.
+const FOUND_NAME: u8 = 5;
 
 /// How many bytes stand before the call.
 pub const NUMBERED_HEAD: usize = 9;
@@ -175,22 +181,17 @@ pub fn moment(number: u32, now: u64, longest: u64) -> Vec<u8> {
     reply(number, &said)
 }
 
-/// The reply that tells which leases of a client others want, and the serial of the last one.
-pub fn wanted(number: u32, behind: u64, wants: &[&Want]) -> Vec<u8> {
+/// The reply that tells which leases of a client others want, and the serial of the last one. Each is told with an empty path:
+/// how the other one leads to the node is its own business, and may name what the holder may not search.
+pub fn wanted(number: u32, behind: u64, wants: &[Want]) -> Vec<u8> {
     let mut said = vec![WANTED];
     said.extend_from_slice(&wants.last().map_or(behind, |want| want.serial).to_be_bytes());
     // There are 64 at most.
     said.extend_from_slice(&(wants.len() as u16).to_be_bytes());
     for want in wants {
-        let (node, path) = match &want.on {
-            On::Node(node) => (*node, &[][..]),
-            On::Path(path) => (0, path.as_slice()),
-        };
         said.extend_from_slice(&want.by.to_be_bytes());
-        said.extend_from_slice(&node.to_be_bytes());
-        // It came with a length of two bytes.
-        said.extend_from_slice(&(path.len() as u16).to_be_bytes());
-        said.extend_from_slice(path);
+        said.extend_from_slice(&want.node.to_be_bytes());
+        said.extend_from_slice(&[0; 2]);
     }
     reply(number, &said)
 }
@@ -227,11 +228,38 @@ pub fn node_look_up(node: u32) -> Vec<u8> {
     body
 }
 
-/// The owner of the node in what such a look-up has found: none within where there is no such node.
-pub fn owner_in(found: &[u8]) -> Option<Option<u32>> {
+/// What such a look-up has found of a node.
+#[derive(Clone, Copy, Debug, PartialEq, Eq)]
+pub struct Found {
+    pub is_file: bool,
+    pub mode: u16,
+    pub owner: u32,
+}
+
+/// The node in what such a look-up has found: none within where there is no such node.
+pub fn node_in(found: &[u8]) -> Option<Option<Found>> {
     match *found {
         [FOUND_NODE, 0] => Some(None),
-        [FOUND_NODE, _kind, _, _, a, b, c, d, ..] => Some(Some(u32::from_be_bytes([a, b, c, d]))),
+        [FOUND_NODE, kind, m, n, a, b, c, d, ..] => {
+            let (mode, owner) = (u16::from_be_bytes([m, n]), u32::from_be_bytes([a, b, c, d]));
+            Some(Some(Found { is_file: kind == FILE, mode, owner }))
+        }
+        _ => None,
+    }
+}
+
+/// The look-up of a name in a directory.
+pub fn name_look_up(directory: u32, name: &[u8]) -> Vec<u8> {
+    let mut body = vec![FIND];
+    body.extend_from_slice(&directory.to_be_bytes());
+    body.extend_from_slice(name);
+    body
+}
+
+/// The node to which the name leads in what such a look-up has found; none where it leads nowhere, or the client may not look.
+pub fn number_in(found: &[u8]) -> Option<u32> {
+    match *found {
+        [FOUND_NAME, 1, a, b, c, d] => Some(u32::from_be_bytes([a, b, c, d])),
         _ => None,
     }
 }
@@ -285,9 +313,26 @@ pub fn asked(body: &[u8]) -> Asked {
     }
 }
 
+/// Whether a body is a look-up, which changes nothing. What is no call isn't made either.
+pub fn is_look_up(body: &[u8]) -> bool {
+    matches!(body.first(), Some(tag) if *tag >= NODE)
+}
+
+/// A look-up of rows may ask for so many bytes at once, and is asked again for those behind them: so long nobody else is answered.
+const ROWS_AT_ONCE: u32 = 16_384;
+
+/// Has a look-up of names or leases ask for no more than may be asked for at once.
+pub fn shorten(body: &mut [u8]) {
+    if let [NAMES | LEASES, _, _, _, _, a, b, c, d, ..] = body {
+        let limit = u32::from_be_bytes([*a, *b, *c, *d]).min(ROWS_AT_ONCE);
+        [*a, *b, *c, *d] = limit.to_be_bytes();
+    }
+}
+
 /// How many bytes the reply to a body may have, where they are many: those that a look-up asks for.
 pub fn found_in(body: &[u8]) -> u32 {
     let asked = match *body {
+        [PLAN, ..] => FOUND_LIMIT,
         [NAMES | LEASES, _, _, _, _, a, b, c, d, ..] => u32::from_be_bytes([a, b, c, d]),
         // The count is its last field.
         [READ, .., a, b, c, d] => u32::from_be_bytes([a, b, c, d]),
@@ -315,10 +360,23 @@ impl Reply {
 
     /// The answer, without its position; none where the frame is refused.
     pub fn answer(&self) -> Option<&[u8]> {
-        match self.said.as_slice() {
-            [ANSWERED, _, _, _, _, answer @ ..] => Some(answer),
+        answer_in(&self.said)
+    }
+
+    /// The position of the answer.
+    pub fn position(&self) -> Option<u32> {
+        match *self.said.as_slice() {
+            [ANSWERED, a, b, c, d, ..] => Some(u32::from_be_bytes([a, b, c, d])),
             _ => None,
         }
+    }
+}
+
+/// The answer in what stands behind a reply's head, without its position; none where the frame is refused, or looked.
+pub fn answer_in(said: &[u8]) -> Option<&[u8]> {
+    match said {
+        [ANSWERED, _, _, _, _, answer @ ..] => Some(answer),
+        _ => None,
     }
 }
 
@@ -386,11 +444,13 @@ mod tests {
     }
 
     #[test]
-    fn owners_of_nodes_are_found() {
+    fn nodes_and_names_are_looked_up() {
         assert_eq!(node_look_up(256), [0x40, 0, 0, 1, 0]);
         let found = [&[1, 2, 1, 0xff, 0, 0, 1, 0][..], &[9; 14]].concat();
-        assert_eq!(owner_in(&found), Some(Some(256)));
-        assert_eq!((owner_in(&[1, 0]), owner_in(&[4, 1]), owner_in(&[])), (Some(None), None, None));
+        assert_eq!(node_in(&found), Some(Some(Found { is_file: false, mode: 0x1ff, owner: 256 })));
+        assert_eq!((node_in(&[1, 0]), node_in(&[4, 1]), node_in(&[])), (Some(None), None, None));
+        assert_eq!(name_look_up(256, b"a"), [0x43, 0, 0, 1, 0, b'a']);
+        assert_eq!((number_in(&[5, 1, 0, 0, 1, 0]), number_in(&[5, 0]), number_in(&[4, 5])), (Some(256), None, None));
     }
 
     #[test]
@@ -400,7 +460,21 @@ mod tests {
         assert_eq!(found_in(&[NAMES, 0, 0, 0, 5, 0, 0, 1, 4, b'a']), 260);
         assert_eq!(found_in(&[LEASES, 0, 0, 0, 5, 0, 0, 1, 4]), 260);
         assert_eq!(found_in(&[READ, 0, 0]), 0);
+        assert_eq!(found_in(&[PLAN]), FOUND_LIMIT);
         assert_eq!(found_in(&[1; 20]), 0);
+    }
+
+    #[test]
+    fn rows_are_asked_for_a_part_at_a_time() {
+        let short = |mut body: Vec<u8>| {
+            shorten(&mut body);
+            body
+        };
+        assert_eq!(short(vec![NAMES, 0, 0, 0, 5, 0, 1, 0, 0, b'a']), [NAMES, 0, 0, 0, 5, 0, 0, 0x40, 0, b'a']);
+        assert_eq!(short(vec![LEASES, 0, 0, 0, 5, 0, 0, 1, 4]), [LEASES, 0, 0, 0, 5, 0, 0, 1, 4]);
+        for other in [vec![NAMES, 0, 0, 0, 5, 0xff, 0xff, 0xff], vec![READ; 20], vec![]] {
+            assert_eq!(short(other.clone()), other);
+        }
     }
 
     #[tokio::test]

@@ -137,7 +137,7 @@ impl Whole {
             let mut bytes = Bytes(&row);
             if let (Some(node), Some(client), Some(kind), Some(end)) = (bytes.word(), bytes.word(), bytes.byte(), bytes.long())
             {
-                found.held.insert((node, client), Lease { writes: kind == 1, end, path: None });
+                found.put(node, client, Lease { writes: kind == 1, end });
             }
         }
         Ok(found)
@@ -219,7 +219,7 @@ mod tests {
         std::fs::write(room.0.join(FILES[1]), second).unwrap();
         let mut found = Vec::new();
         read(&room.0, |part| match part {
-            Part::State(leases) => found.push(format!("{} {:?}", leases.moment, leases.held.keys().next())),
+            Part::State(leases) => found.push(format!("{} {:?}", leases.moment, leases.all().map(|(key, _)| key).next())),
             Part::Call(call, answer) => found.push(format!("{}{answer:?}", String::from_utf8_lossy(call))),
         })
         .unwrap();

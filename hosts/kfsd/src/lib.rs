@@ -7,6 +7,7 @@
 #![forbid(unsafe_code)]
 
 pub mod allowance;
+pub mod asking;
 pub mod bytes;
 pub mod calls;
 pub mod clients;
@@ -15,6 +16,7 @@ pub mod cluster;
 pub mod config;
 pub mod connection;
 pub mod control;
+pub mod cost;
 pub mod daemon;
 pub mod desk;
 pub mod duties;
@@ -25,6 +27,7 @@ pub mod following;
 pub mod frames;
 pub mod journal;
 pub mod leases;
+pub mod meter;
 pub mod metrics;
 pub mod moves;
 pub mod outcomes;

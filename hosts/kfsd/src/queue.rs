@@ -1,19 +1,28 @@
-//! The calls that wait for `kfs_serve`, by client. Clients take turns by bytes, so none waits for all that another has sent.
+//! The calls that wait for `kfs_serve`, by client. Clients take turns by what their frames cost it, so none waits for all that
+//! another has queued, and what is at `kfs_serve` without an answer is little of each.
 
 use crate::allowance::Taken;
 use crate::calls::Note;
-use crate::config::FRAME_COST;
-use crate::frames::{Head, Reply, CHECKPOINT, HEAD};
+use crate::cost::{expected, measured, Account, Part};
+use crate::frames::{is_look_up, Head, Reply, CHECKPOINT, HEAD};
 use crate::outcomes::{Marker, MARKER};
 use crate::users::FRONT;
-use std::collections::{HashMap, VecDeque};
+use std::collections::{HashMap, HashSet, VecDeque};
 use std::sync::{Mutex, MutexGuard, PoisonError};
 use std::time::{Duration, Instant};
 use tokio::sync::{oneshot, Notify};
 use tokio::time::timeout_at;
 
-/// How many bytes a client may send in one turn, each frame with its cost. A longer frame waits for some turns.
-const TURN: usize = 8192;
+/// How many nanoseconds of `kfs_serve` a client's turn has. A frame that costs more waits for some turns.
+const TURN: u64 = 50_000;
+
+/// How many nanoseconds of frames may be at `kfs_serve` without an answer, or one frame more: at least, and at most where the
+/// disk takes long, so that more calls are kept together.
+const LEAST_WINDOW: u64 = 1_000_000;
+const MOST_WINDOW: u64 = 20_000_000;
+
+/// For how long behind its last answer a client counts as one that others hold up.
+const LATELY: Duration = Duration::from_secs(1);
 
 /// A frame with more bytes is a long one: while `kfs_serve` has it, nobody else is answered.
 const LONG: usize = 65_536;
@@ -42,9 +51,11 @@ pub enum Answer {
 pub struct Call {
     /// The client that sends it, as the kernel's answer and the table of users say.
     pub client: u32,
+    /// In whose line it waits: the client's, or kfsd's own, where another one waits for it.
+    pub line: u32,
     pub body: Vec<u8>,
-    /// What kfsd follows of it.
-    pub note: Note,
+    /// What kfsd follows of it, where its bytes don't say that.
+    pub note: Option<Note>,
     /// When it came.
     pub came: Instant,
     /// The client's own number for it, where it has one.
@@ -63,8 +74,14 @@ pub struct Asker {
 }
 
 impl Call {
-    fn cost(&self) -> usize {
-        self.body.len() + FRAME_COST as usize
+    /// In whose line it is, and what it is expected to cost an unknown client.
+    fn part(&self) -> Part {
+        Part { client: self.line, expected: expected(&self.body) }
+    }
+
+    /// Whether it is a look-up of somebody who is gone.
+    fn is_in_vain(&self) -> bool {
+        self.asker.to.is_closed() && is_look_up(&self.body)
     }
 
     /// Whether it is the first of those that are sent at once: all before it is kept then (flight.rs).
@@ -97,6 +114,9 @@ pub struct Sent {
     pub is_checkpoint: bool,
     /// How many bytes it has.
     pub length: usize,
+    /// In whose line it was, and what it is expected to cost an unknown client and this one, in nanoseconds.
+    pub part: Part,
+    pub cost: u64,
     /// None where it is a marker.
     pub asker: Option<Asker>,
 }
@@ -122,11 +142,11 @@ pub struct Batch {
     pub sent: Vec<Sent>,
 }
 
-/// The calls of a client, and how many bytes it may send still in its turn.
+/// The calls of a client, and how many nanoseconds it may use still in its turn.
 #[derive(Debug, Default)]
 struct Line {
     calls: VecDeque<Call>,
-    credit: usize,
+    credit: u64,
 }
 
 /// Why a client's next long frame isn't sent yet.
@@ -138,14 +158,37 @@ enum Hold {
     Until(Instant),
 }
 
+/// What becomes of a client's turn.
+#[derive(Clone, Copy, Debug, PartialEq, Eq)]
+enum Turn {
+    /// Its next call is sent.
+    Call,
+    /// Nobody waits for its next call any more.
+    InVain,
+    /// It has used it up.
+    Over,
+    /// Its next call is held back.
+    Rests,
+    /// As much of it is at `kfs_serve` as may be.
+    Full,
+}
+
 #[derive(Debug, Default)]
 struct Lines {
     of: HashMap<u32, Line>,
-    /// The clients that have a call, in the order of their turns; but for those that rest.
+    /// The clients that have a call, in the order of their turns; but for those that rest, and those that are full.
     turns: VecDeque<u32>,
-    /// Those whose next call is a long one that is held back.
+    /// Those whose next call is held back for a time, or until a long one is answered.
     resting: Vec<u32>,
+    /// Those that have a share of the window at `kfs_serve`.
+    full: HashSet<u32>,
     holds: HashMap<u32, Hold>,
+    accounts: HashMap<u32, Account>,
+    /// The two clients that were answered last, the last one first.
+    last: [Option<u32>; 2],
+    /// What is at `kfs_serve`, in nanoseconds, and how much of it may be.
+    sent: u64,
+    window: u64,
     count: usize,
     is_closed: bool,
     next_number: u32,
@@ -184,16 +227,18 @@ impl Queue {
 
     /// The same in the name of a client, behind its calls.
     pub fn push_as(&self, client: u32, body: Vec<u8>) -> oneshot::Receiver<Answer> {
+        self.push_in(client, client, body)
+    }
+
+    /// The same in the name of a client, among kfsd's own calls: for another one, who needn't wait for the client's.
+    pub fn push_for(&self, client: u32, body: Vec<u8>) -> oneshot::Receiver<Answer> {
+        self.push_in(FRONT, client, body)
+    }
+
+    fn push_in(&self, line: u32, client: u32, body: Vec<u8>) -> oneshot::Receiver<Answer> {
         let (to, answer) = oneshot::channel();
-        self.push(Call {
-            client,
-            note: Note::of(&body),
-            body,
-            came: Instant::now(),
-            number: None,
-            bytes: None,
-            asker: Asker { to, frame: None },
-        });
+        let asker = Asker { to, frame: None };
+        self.push(Call { client, line, note: None, body, came: Instant::now(), number: None, bytes: None, asker });
         answer
     }
 
@@ -230,8 +275,27 @@ impl Queue {
 
     /// Nothing that was sent is answered any more.
     pub fn begin_anew(&self) {
-        self.lines().holds.retain(|_, hold| *hold != Hold::Sent);
+        let mut lines = self.lines();
+        lines.holds.retain(|_, hold| *hold != Hold::Sent);
+        lines.sent = 0;
+        lines.accounts.values_mut().for_each(|account| account.sent = 0);
+        let full = std::mem::take(&mut lines.full);
+        lines.turns.extend(full);
+        drop(lines);
         self.changed.notify_one();
+    }
+
+    /// A frame was answered: there is room for others.
+    pub fn answered(&self, sent: &Sent) {
+        let is_waited_for = self.lines().answered(sent, Instant::now());
+        if is_waited_for {
+            self.changed.notify_one();
+        }
+    }
+
+    /// These frames were answered together. `kfs_serve` has worked for so long, and then waited for the disk.
+    pub fn measured(&self, parts: &[Part], worked: Duration, waited: Duration) {
+        self.lines().measured(parts, worked, waited);
     }
 
     /// Takes no call any more, and tells those that wait that they were never sent.
@@ -241,6 +305,7 @@ impl Queue {
         let left = std::mem::take(&mut lines.of);
         lines.turns.clear();
         lines.resting.clear();
+        lines.full.clear();
         lines.count = 0;
         drop(lines);
         left.into_values().flat_map(|line| line.calls).for_each(never_sent);
@@ -260,7 +325,7 @@ impl Queue {
                 if lines.is_closed && lines.count == 0 {
                     return None;
                 }
-                lines.first_end()
+                lines.first_end(now)
             };
             let changed = self.changed.notified();
             match until {
@@ -279,23 +344,47 @@ fn never_sent(call: Call) {
 
 impl Lines {
     fn push(&mut self, call: Call) {
-        let client = call.client;
-        let line = self.of.entry(client).or_default();
+        let line = self.of.entry(call.line).or_default();
         if line.calls.is_empty() {
-            self.turns.push_back(client);
+            self.turns.push_back(call.line);
         }
         line.calls.push_back(call);
         self.count += 1;
     }
 
+    /// Whether another client was answered lately, beside whom this one has no more than a part of all.
+    fn has_others(&self, client: u32, now: Instant) -> bool {
+        let is_late = |other: &u32| self.accounts.get(other).map_or(false, |it| now.duration_since(it.last) < LATELY);
+        self.last.iter().flatten().any(|other| *other != client && is_late(other))
+    }
+
+    /// How much of one client may be at `kfs_serve`: half of all beside others.
+    fn share(&self, client: u32, now: Instant) -> u64 {
+        let window = self.window.max(LEAST_WINDOW);
+        if self.has_others(client, now) {
+            window / 2
+        } else {
+            window
+        }
+    }
+
+    /// Until when the next call of a client is held back; none where it isn't, or until an answer.
+    fn rests_until(&self, client: u32, now: Instant) -> Option<Instant> {
+        let is_long = || self.of.get(&client).and_then(|line| line.calls.front()).map_or(false, Call::is_long);
+        let held = match self.holds.get(&client) {
+            Some(Hold::Until(end)) if *end > now && is_long() => Some(*end),
+            _ => None,
+        };
+        let is_one_of_some = client != FRONT && !self.is_closed && self.has_others(client, now);
+        let spent = self.accounts.get(&client).filter(|_| is_one_of_some).and_then(|account| account.rests_until(now));
+        held.max(spent)
+    }
+
     /// Whether the next call of a client is held back.
     fn rests(&self, client: u32, now: Instant) -> bool {
         let is_long = || self.of.get(&client).and_then(|line| line.calls.front()).map_or(false, Call::is_long);
-        match self.holds.get(&client) {
-            Some(Hold::Until(end)) => *end > now && is_long(),
-            Some(Hold::Sent) => is_long(),
-            None => false,
-        }
+        let is_sent = matches!(self.holds.get(&client), Some(Hold::Sent)) && is_long();
+        is_sent || self.rests_until(client, now).is_some()
     }
 
     /// Gives those a turn that rest no more.
@@ -307,47 +396,74 @@ impl Lines {
     }
 
     /// When the first of those that rest is due; none where an answer tells.
-    fn first_end(&self) -> Option<Instant> {
-        let ends = self.resting.iter().filter_map(|client| match self.holds.get(client) {
-            Some(Hold::Until(end)) => Some(*end),
-            _ => None,
-        });
-        ends.min()
+    fn first_end(&self, now: Instant) -> Option<Instant> {
+        self.resting.iter().filter_map(|client| self.rests_until(*client, now)).min()
+    }
+
+    fn answered(&mut self, sent: &Sent, now: Instant) -> bool {
+        self.sent = self.sent.saturating_sub(sent.cost);
+        let client = sent.part.client;
+        if let Some(account) = self.accounts.get_mut(&client) {
+            account.sent = account.sent.saturating_sub(sent.cost);
+            account.last = now;
+        }
+        if client != FRONT && self.last[0] != Some(client) {
+            self.last = [Some(client), self.last[0]];
+        }
+        if self.full.remove(&client) {
+            self.turns.push_back(client);
+        }
+        self.count > 0
+    }
+
+    fn measured(&mut self, parts: &[Part], worked: Duration, waited: Duration) {
+        measured(&mut self.accounts, parts, worked, Instant::now());
+        // Where the disk takes long, others wait for it anyway.
+        let wanted = u64::try_from(waited.as_nanos()).unwrap_or(MOST_WINDOW).min(MOST_WINDOW);
+        self.window = (self.window * 7 + wanted) / 8;
     }
 
     fn batch(&mut self, most: usize, now: Instant) -> Batch {
         let mut batch = Batch::default();
         while let Some(call) = self.pop(most.saturating_sub(batch.bytes.len()), batch.sent.is_empty(), now) {
             if let Some(number) = call.number {
-                let marker = Marker::new(call.client, number, &call.body).bytes();
-                let number = self.put(&mut batch.bytes, FRONT, &marker);
-                let length = HEAD + MARKER;
-                batch.sent.push(Sent {
-                    number,
-                    client: FRONT,
-                    note: Note::Nothing,
-                    came: call.came,
-                    numbered: None,
-                    is_checkpoint: false,
-                    length,
-                    asker: None,
-                });
+                self.put_marker(&mut batch, &call, number);
             }
-            let number = self.put(&mut batch.bytes, call.client, &call.body);
-            let is_checkpoint = call.is_alone();
-            let Call { client, body, note, came, number: numbered, asker, .. } = call;
-            batch.sent.push(Sent {
-                number,
-                client,
-                note,
-                came,
-                numbered,
-                is_checkpoint,
-                length: HEAD + body.len(),
-                asker: Some(asker),
-            });
+            self.put_call(&mut batch, call, now);
         }
         batch
+    }
+
+    /// Says which number the next call has.
+    fn put_marker(&mut self, batch: &mut Batch, call: &Call, number: u64) {
+        let marker = Marker::new(call.client, number, &call.body).bytes();
+        let number = self.put(&mut batch.bytes, FRONT, &marker);
+        batch.sent.push(Sent {
+            number,
+            client: FRONT,
+            note: Note::Nothing,
+            came: call.came,
+            numbered: None,
+            is_checkpoint: false,
+            length: HEAD + MARKER,
+            // The call behind it costs that, too.
+            part: Part { client: call.line, expected: 0 },
+            cost: 0,
+            asker: None,
+        });
+    }
+
+    fn put_call(&mut self, batch: &mut Batch, call: Call, now: Instant) {
+        let number = self.put(&mut batch.bytes, call.client, &call.body);
+        let (is_checkpoint, part) = (call.is_alone(), call.part());
+        let Call { client, body, note, came, number: numbered, asker, .. } = call;
+        let account = self.accounts.entry(part.client).or_insert_with(|| Account::new(now));
+        let cost = account.cost(part.expected);
+        account.sent += cost;
+        self.sent += cost;
+        let note = note.unwrap_or_else(|| Note::of(&body));
+        let length = HEAD + body.len();
+        batch.sent.push(Sent { number, client, note, came, numbered, is_checkpoint, length, part, cost, asker: Some(asker) });
     }
 
     /// Puts a frame behind these bytes, and tells its number.
@@ -362,35 +478,69 @@ impl Lines {
 
     /// The next call, where there is one and it fits in so many bytes or is the first.
     fn pop(&mut self, room: usize, is_first: bool, now: Instant) -> Option<Call> {
-        loop {
+        while self.sent < self.window.max(LEAST_WINDOW) {
             let client = *self.turns.front()?;
-            if self.rests(client, now) {
-                self.turns.pop_front();
-                self.resting.push(client);
-                continue;
+            match self.turn_of(client, room, is_first, now)? {
+                Turn::Call => {
+                    let call = self.take(client)?;
+                    if call.is_long() && !self.is_closed {
+                        self.holds.insert(client, Hold::Sent);
+                    }
+                    return Some(call);
+                }
+                Turn::InVain => drop(self.take(client)),
+                Turn::Over => self.turns.rotate_left(1),
+                Turn::Rests => {
+                    self.turns.pop_front();
+                    self.resting.push(client);
+                }
+                Turn::Full => {
+                    self.turns.pop_front();
+                    self.full.insert(client);
+                }
             }
-            let line = self.of.get_mut(&client)?;
-            let (cost, length, is_alone) = line.calls.front().map(|call| (call.cost(), call.length(), call.is_alone()))?;
-            if cost > line.credit {
-                line.credit += TURN;
-                self.turns.rotate_left(1);
-                continue;
-            }
-            if (length > room || is_alone) && !is_first {
-                return None;
-            }
-            line.credit -= cost;
-            let call = line.calls.pop_front()?;
-            if line.calls.is_empty() {
-                self.of.remove(&client);
-                self.turns.pop_front();
-            }
-            self.count -= 1;
-            if call.is_long() && !self.is_closed {
-                self.holds.insert(client, Hold::Sent);
-            }
-            return Some(call);
         }
+        None
+    }
+
+    /// What becomes of the turn of a client; none where its call doesn't fit in so many bytes.
+    fn turn_of(&mut self, client: u32, room: usize, is_first: bool, now: Instant) -> Option<Turn> {
+        let call = self.of.get(&client).and_then(|line| line.calls.front())?;
+        if call.is_in_vain() {
+            return Some(Turn::InVain);
+        }
+        let (expected, is_too_long) = (call.part().expected, call.length() > room || call.is_alone());
+        if self.rests(client, now) {
+            return Some(Turn::Rests);
+        }
+        let account = self.accounts.get(&client).copied().unwrap_or_else(|| Account::new(now));
+        let cost = account.cost(expected);
+        if account.sent > 0 && account.sent + cost > self.share(client, now) {
+            return Some(Turn::Full);
+        }
+        let is_only_one = self.turns.len() == 1;
+        let line = self.of.get_mut(&client)?;
+        if cost > line.credit && !is_only_one {
+            line.credit += TURN;
+            return Some(Turn::Over);
+        }
+        if is_too_long && !is_first {
+            return None;
+        }
+        line.credit = line.credit.saturating_sub(cost);
+        Some(Turn::Call)
+    }
+
+    /// Takes the next call of a client, whose turn it is.
+    fn take(&mut self, client: u32) -> Option<Call> {
+        let line = self.of.get_mut(&client)?;
+        let call = line.calls.pop_front()?;
+        if line.calls.is_empty() {
+            self.of.remove(&client);
+            self.turns.pop_front();
+        }
+        self.count -= 1;
+        Some(call)
     }
 }
 
@@ -405,9 +555,25 @@ mod tests {
         let (to, answer) = oneshot::channel();
         let asker = Asker { to, frame: None };
         (
-            Call { client, body: vec![7; length], note: Note::Nothing, came: Instant::now(), number: None, bytes: None, asker },
+            Call {
+                client,
+                line: client,
+                body: vec![7; length],
+                note: None,
+                came: Instant::now(),
+                number: None,
+                bytes: None,
+                asker,
+            },
             answer,
         )
+    }
+
+    /// The next frames, which are answered at once.
+    async fn next(queue: &Queue) -> Option<Batch> {
+        let batch = timeout(Duration::from_secs(9), queue.next(MOST)).await.unwrap()?;
+        batch.sent.iter().for_each(|sent| queue.answered(sent));
+        Some(batch)
     }
 
     /// The clients of the frames in these bytes, with the length of each body.
@@ -442,7 +608,7 @@ mod tests {
         queue.push(call(8, 10).0);
         let mut before = 0;
         loop {
-            let batch = queue.next(MOST).await.unwrap();
+            let batch = next(&queue).await.unwrap();
             let clients = clients_in(&batch.bytes);
             if clients.contains(&(8, 10)) {
                 break;
@@ -460,7 +626,7 @@ mod tests {
         }
         queue.push(call(99, 20).0);
         let mut before = [0; 20];
-        'all: while let Some(batch) = queue.next(MOST).await {
+        'all: while let Some(batch) = next(&queue).await {
             for (client, _) in clients_in(&batch.bytes) {
                 match before.get_mut(client as usize) {
                     Some(count) => *count += 1,
@@ -468,8 +634,8 @@ mod tests {
                 }
             }
         }
-        // 8,192 bytes of frames that cost 276 each
-        assert_eq!(before, [29; 20]);
+        // 50,000 nanoseconds of frames that cost 8,200 each
+        assert_eq!(before, [6; 20]);
     }
 
     #[tokio::test]
@@ -512,7 +678,7 @@ mod tests {
         let queue = Queue::default();
         queue.push(call(7, 10 * MOST).0);
         queue.push(call(8, 5).0);
-        let (first, second) = (queue.next(MOST).await.unwrap(), queue.next(MOST).await.unwrap());
+        let (first, second) = (next(&queue).await.unwrap(), next(&queue).await.unwrap());
         assert_eq!(clients_in(&first.bytes), [(8, 5)]);
         assert_eq!(clients_in(&second.bytes), [(7, 10 * MOST as u32)]);
     }
@@ -520,7 +686,7 @@ mod tests {
     #[tokio::test]
     async fn a_long_frame_waits_behind_one_that_is_not_done() {
         let (queue, long) = (Queue::default(), 2 * LONG);
-        let next = || async { clients_in(&timeout(Duration::from_secs(9), queue.next(MOST)).await.unwrap().unwrap().bytes) };
+        let next = || async { clients_in(&next(&queue).await.unwrap().bytes) };
         for _ in 0..4 {
             queue.push(call(7, long).0);
         }
@@ -548,11 +714,72 @@ mod tests {
         let queue = Queue::default();
         queue.push(call(7, 2 * LONG).0);
         queue.push(call(7, 2 * LONG).0);
-        assert!(queue.next(MOST).await.is_some());
+        assert!(next(&queue).await.is_some());
         queue.long_answered(7, 1 << 30, false);
         queue.close();
-        assert!(queue.next(MOST).await.is_some());
-        assert!(queue.next(MOST).await.is_none());
+        assert!(next(&queue).await.is_some());
+        assert!(next(&queue).await.is_none());
+    }
+
+    /// A call that is expected to cost so many nanoseconds and some.
+    fn costing(client: u32, nanos: usize) -> Call {
+        call(client, nanos / 10).0
+    }
+
+    #[tokio::test]
+    async fn little_of_a_client_is_sent_beside_others() {
+        let queue = Queue::default();
+        (0..100).for_each(|_| queue.push(costing(7, 100_000)));
+        // alone it has the whole window, and one frame more
+        let first = queue.next(usize::MAX).await.unwrap();
+        assert_eq!(first.sent.len(), 9);
+        assert!(timeout(Duration::from_millis(20), queue.next(usize::MAX)).await.is_err());
+        queue.push(costing(8, 10_000));
+        assert_eq!(clients_in(&queue.next(usize::MAX).await.unwrap().bytes), [(8, 1000)]);
+        first.sent.iter().for_each(|sent| queue.answered(sent));
+        let (other, _answer) = call(8, 10);
+        queue.push(other);
+        let batch = queue.next(usize::MAX).await.unwrap();
+        batch.sent.iter().filter(|sent| sent.client == 8).for_each(|sent| queue.answered(sent));
+        // another one was answered lately, so it has half
+        let rest = clients_in(&batch.bytes).into_iter().filter(|(client, _)| *client == 7).count();
+        assert!(rest <= 9, "{rest}");
+        batch.sent.iter().for_each(|sent| queue.answered(sent));
+        assert_eq!(queue.next(usize::MAX).await.unwrap().sent.len(), 4);
+    }
+
+    #[tokio::test]
+    async fn who_takes_long_rests_beside_others() {
+        let queue = Queue::default();
+        let took = |sent: &Sent, millis| {
+            queue.answered(sent);
+            queue.measured(&[sent.part], Duration::from_millis(millis), Duration::ZERO);
+        };
+        queue.push(call(8, 1).0);
+        took(&queue.next(MOST).await.unwrap().sent[0], 0);
+        queue.push(call(7, 1).0);
+        took(&queue.next(MOST).await.unwrap().sent[0], 25);
+        queue.push(call(7, 2).0);
+        let began = Instant::now();
+        queue.push(call(8, 3).0);
+        assert_eq!(clients_in(&next(&queue).await.unwrap().bytes), [(8, 3)]);
+        assert_eq!(clients_in(&next(&queue).await.unwrap().bytes), [(7, 2)]);
+        // four times 25 milliseconds, but for four of them
+        assert!(began.elapsed() >= Duration::from_millis(90), "{:?}", began.elapsed());
+    }
+
+    #[tokio::test]
+    async fn look_ups_of_who_is_gone_are_dropped() {
+        let queue = Queue::default();
+        let look_up = |client| Call { body: crate::frames::node_look_up(1), ..call(client, 0).0 };
+        (0..1000).for_each(|_| queue.push(look_up(7)));
+        // what changes something is done
+        queue.push(call(7, 5).0);
+        let (asked, _answer) = call(8, 0);
+        queue.push(Call { body: crate::frames::node_look_up(1), ..asked });
+        let batch = queue.next(MOST).await.unwrap();
+        assert_eq!(clients_in(&batch.bytes), [(7, 5), (8, 5)]);
+        assert!(queue.is_empty());
     }
 
     #[tokio::test]

@@ -1,7 +1,7 @@
 //! How kfsd stands, as texts for `kfsctl`.
 
-use crate::calls::On;
 use crate::connection::Shared;
+use crate::wants::Want;
 use serde::{Deserialize, Serialize};
 use std::fmt::Write as _;
 use std::sync::Arc;
@@ -116,7 +116,7 @@ pub fn status(shared: &Shared) -> Status {
 
 fn standing(shared: &Shared) -> Standing {
     let following = &shared.following;
-    let leases = following.leases().held.len();
+    let leases = following.leases().len();
     let wanted_leases = following.wants().all(Instant::now()).len();
     Standing { moment: following.clock.now(), leases, wanted_leases, moved_blocks: shared.figures.moved.get() }
 }
@@ -138,23 +138,19 @@ pub fn users(shared: &Shared) -> String {
 /// A line for each lease, and then one for each that another client wants.
 pub fn leases(shared: &Shared) -> String {
     let (now, following) = (shared.following.clock.now(), &shared.following);
-    let mut text = String::from("    node   client kind  seconds path\n");
+    let mut text = String::from("    node   client kind  seconds\n");
     let leases = following.leases();
-    for ((node, client), lease) in leases.held.iter().take(LISTED) {
+    for ((node, client), lease) in leases.all().take(LISTED) {
         let (kind, left) = (if lease.writes { "write" } else { "read" }, lease.end.saturating_sub(now));
-        let path = lease.path.as_deref().unwrap_or(b"").escape_ascii();
-        let _ = writeln!(text, "{node:>8} {client:>8} {kind:<5} {left:>7} {path}");
+        let _ = writeln!(text, "{node:>8} {client:>8} {kind:<5} {left:>7}");
     }
-    if leases.held.len() > LISTED {
-        let _ = writeln!(text, "and {} more", leases.held.len() - LISTED);
+    if leases.len() > LISTED {
+        let _ = writeln!(text, "and {} more", leases.len() - LISTED);
     }
     drop(leases);
     for (holder, want, since) in following.wants().all(Instant::now()) {
-        let what = match &want.on {
-            On::Node(node) => format!("node {node}"),
-            On::Path(path) => path.escape_ascii().to_string(),
-        };
-        let _ = writeln!(text, "client {} has wanted {what} of client {holder} for {} seconds", want.by, since.as_secs());
+        let Want { by, node, .. } = want;
+        let _ = writeln!(text, "client {by} has wanted node {node} of client {holder} for {} seconds", since.as_secs());
     }
     text
 }

@@ -101,6 +101,11 @@ pub fn lines_of(users: &[User]) -> String {
     users.iter().map(|user| user.line() + "\n").collect()
 }
 
+/// How many calls of a user may be made at once: those of a tenth of a second.
+fn calls_at_once(limits: &Limits) -> u32 {
+    (limits.calls_a_second / 10).max(1)
+}
+
 /// What a user has in flight, over all of its connections.
 #[derive(Debug)]
 pub struct Account {
@@ -110,6 +115,8 @@ pub struct Account {
     /// Frames that kfsd answers itself, and new connections. Where a user has more of them, they wait.
     pub answers: Pace,
     pub arrivals: Pace,
+    /// Calls that it makes.
+    pub calls: Pace,
     connections: AtomicU32,
 }
 
@@ -121,6 +128,7 @@ impl Account {
             bytes: Allowance::new(limits.bytes_a_user),
             answers: Pace::new(ANSWERS, AT_ONCE),
             arrivals: Pace::new(ARRIVALS, AT_ONCE),
+            calls: Pace::new(limits.calls_a_second, calls_at_once(limits)),
             connections: AtomicU32::new(0),
         }
     }
@@ -129,6 +137,7 @@ impl Account {
     fn limit(&self, limits: &Limits) {
         self.frames.set_most(limits.frames_a_user);
         self.bytes.set_most(limits.bytes_a_user);
+        self.calls.set(limits.calls_a_second, calls_at_once(limits));
     }
 
     /// How many connections it has.

@@ -82,11 +82,14 @@ async fn make(
 ) -> Result<(), ClusterFault> {
     while let Some(Batch { bytes, sent }) = shared.queue.next(MOST).await {
         count_sent(&sent, shared);
+        let began = Instant::now();
         let talking = timeout(leading.most, replica.talk(&bytes, sent.len())).await;
         let replies = talking.map_err(|_| ClusterFault::Hangs(leading.most.as_secs()))??;
         if replies.iter().zip(&sent).any(|(reply, one)| reply.number != one.number) {
             return Err(ClusterFault::Ended(ErrorKind::InvalidData.into()));
         }
+        let parts: Vec<_> = sent.iter().map(|one| one.part).collect();
+        shared.queue.measured(&parts, began.elapsed(), Duration::ZERO);
         let mut group = Group { time: times::now(), moment: shared.following.clock.now(), calls: vec![] };
         for (body, reply) in bodies(&bytes).into_iter().zip(&replies) {
             // What is refused, and what looks, changes nothing.
@@ -125,7 +128,10 @@ async fn put(leading: &Leading<'_>, mut next: u64, mut made: Receiver<Made>, sha
         if group.calls.is_empty() {
             shared.term.holds().await;
         } else {
+            let began = Instant::now();
             leading.volume.put(leading.lead, next, &group).await?;
+            // Meanwhile others gather.
+            shared.queue.measured(&[], Duration::ZERO, began.elapsed());
             next += 1;
             moment = group.moment;
             shared.figures.group.set(next);

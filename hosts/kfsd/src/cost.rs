@@ -1,0 +1,154 @@
+//! What a frame costs: how long `kfs_serve` works for it. That is expected by its kind and length, and by how long its client's
+//! frames took before; and measured where replies come.
+
+use crate::frames::{found_in, LEASES, NAMES, PLAN, READ};
+use std::collections::HashMap;
+use std::time::{Duration, Instant};
+
+/// What a call and a look-up cost by themselves, and each byte of a frame, in nanoseconds. A look-up of bytes copies them;
+/// one of names or leases goes through rows.
+const CALL: u64 = 8_000;
+const LOOK_UP: u64 = 4_000;
+const BYTE: u64 = 10;
+const ROW_BYTE: u64 = 30;
+const COPIED_BYTES: u64 = 2;
+
+/// How much of what a measurement says otherwise is believed at once.
+const STEP: f64 = 0.3;
+
+/// How many times as long or as short as is expected a client's frames may be thought to take.
+const MOST_RATIO: f64 = 10_000.0;
+const LEAST_RATIO: f64 = 0.02;
+
+/// How much of the time of `kfs_serve` a client may use on and on while others use it, too: one part of so many. It may use
+/// so much at once.
+const PART: u32 = 4;
+const AT_ONCE: Duration = Duration::from_millis(4);
+
+/// What a frame costs where nothing is known of its client, in nanoseconds.
+pub fn expected(body: &[u8]) -> u64 {
+    let length = body.len() as u64;
+    let found = u64::from(found_in(body));
+    match body.first() {
+        Some(&(NAMES | LEASES)) => LOOK_UP + ROW_BYTE * found,
+        Some(&READ) => LOOK_UP + found / COPIED_BYTES,
+        Some(&PLAN) => LOOK_UP + BYTE * length,
+        Some(tag) if *tag >= 0x40 => LOOK_UP,
+        _ => CALL + BYTE * length,
+    }
+}
+
+/// What `kfs_serve` has done for a client.
+#[derive(Clone, Copy, Debug)]
+pub struct Account {
+    /// How many times as long as is expected its frames take.
+    ratio: f64,
+    /// What is expected of its frames that were sent and aren't answered, in nanoseconds.
+    pub sent: u64,
+    /// When all that was done for it would be over, had it had its part of the time alone.
+    over: Instant,
+    /// When its last frame was answered.
+    pub last: Instant,
+}
+
+impl Account {
+    pub fn new(now: Instant) -> Account {
+        Account { ratio: 1.0, sent: 0, over: now, last: now }
+    }
+
+    /// What a frame is expected to cost that would cost so much of an unknown client.
+    pub fn cost(&self, expected: u64) -> u64 {
+        // At least one, so that a turn isn't endless.
+        ((expected as f64 * self.ratio) as u64).max(1)
+    }
+
+    /// Until when it rests, since it has used more than its part; none where it needn't.
+    pub fn rests_until(&self, now: Instant) -> Option<Instant> {
+        self.over.checked_sub(AT_ONCE).filter(|end| *end > now)
+    }
+
+    /// Counts time that was spent for it.
+    fn spend(&mut self, time: Duration, now: Instant) {
+        self.over = self.over.max(now) + time * PART;
+    }
+}
+
+/// A client's frames that were answered together: what would be expected of them, were nothing known.
+#[derive(Clone, Copy, Debug)]
+pub struct Part {
+    pub client: u32,
+    pub expected: u64,
+}
+
+/// Shares out the time that frames took together. Each client's ratio moves by its share of what wasn't foreseen: a client whose
+/// frames come alone now and then is told from one whose frames are beside them.
+pub fn measured(accounts: &mut HashMap<u32, Account>, parts: &[Part], took: Duration, now: Instant) {
+    let ratio = |part: &Part| accounts.get(&part.client).map_or(1.0, |account| account.ratio);
+    let foreseen: f64 = parts.iter().map(|part| part.expected as f64 * ratio(part)).sum();
+    let squares: f64 = parts.iter().map(|part| (part.expected as f64).powi(2)).sum();
+    if foreseen <= 0.0 {
+        return;
+    }
+    let nanos = took.as_nanos() as f64;
+    for part in parts {
+        let expected = part.expected as f64;
+        if let Some(account) = accounts.get_mut(&part.client) {
+            let share = expected * account.ratio / foreseen;
+            account.spend(Duration::from_nanos((nanos * share) as u64), now);
+            let moved = account.ratio + STEP * (nanos - foreseen) * expected / squares;
+            account.ratio = moved.clamp(LEAST_RATIO, MOST_RATIO);
+        }
+    }
+}
+
+#[cfg(test)]
+mod tests {
+    use super::*;
+
+    const MICRO: Duration = Duration::from_micros(1);
+
+    fn after(accounts: &mut HashMap<u32, Account>, parts: &[(u32, u64)], took: Duration, now: Instant) {
+        let parts: Vec<Part> = parts.iter().map(|(client, expected)| Part { client: *client, expected: *expected }).collect();
+        for part in &parts {
+            accounts.entry(part.client).or_insert_with(|| Account::new(now));
+        }
+        measured(accounts, &parts, took, now);
+    }
+
+    #[test]
+    fn kinds_of_frames_are_told_apart() {
+        let read = |count: u32| [&[READ, 0, 0, 0, 5, 0, 0, 0, 0, 0, 0, 0, 0][..], &count.to_be_bytes()].concat();
+        let names = [NAMES, 0, 0, 0, 5, 0, 1, 0, 0];
+        assert!(expected(&names) > 20 * expected(&read(65_536)));
+        assert!(expected(&read(65_536)) > expected(&read(1)));
+        assert!(expected(&[1; 2000]) > 3 * expected(&[3; 9]) && expected(&[3; 9]) > expected(&[0x40, 0, 0, 0, 1]));
+    }
+
+    #[test]
+    fn who_costs_much_is_told_from_who_is_beside_it() {
+        let (mut accounts, now) = (HashMap::new(), Instant::now());
+        for _ in 0..100 {
+            // 50 frames of client 9 take 100 times as long as is expected
+            after(&mut accounts, &[(7, 4_000), (9, 200_000)], MICRO * 20_004, now);
+            after(&mut accounts, &[(7, 4_000)], MICRO * 4, now);
+            after(&mut accounts, &[(9, 200_000)], MICRO * 20_000, now);
+        }
+        assert!((accounts[&7].ratio - 1.0).abs() < 0.5, "{}", accounts[&7].ratio);
+        assert!((accounts[&9].ratio - 100.0).abs() < 1.0, "{}", accounts[&9].ratio);
+    }
+
+    #[test]
+    fn who_uses_more_than_its_part_rests() {
+        let now = Instant::now();
+        let mut account = Account::new(now);
+        account.spend(MICRO * 1000, now);
+        assert_eq!(account.rests_until(now), None);
+        account.spend(MICRO * 2000, now);
+        assert_eq!(account.rests_until(now), Some(now + MICRO * 8000));
+        assert_eq!(account.rests_until(now + MICRO * 8000), None);
+        // what wasn't used isn't saved
+        let later = now + MICRO * 1_000_000;
+        account.spend(MICRO * 2000, later);
+        assert_eq!(account.rests_until(later), Some(later + MICRO * 4000));
+    }
+}
