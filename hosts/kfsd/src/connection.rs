@@ -16,6 +16,7 @@ use crate::frames::{
 use crate::outcomes::{Outcomes, Stands};
 use crate::queue::{Answer, Asker, Call, Permits, Queue};
 use crate::rules::Rules;
+use crate::thread::{self, Thread};
 use crate::users::{Account, Place};
 use std::collections::VecDeque;
 use std::future::Future;
@@ -24,7 +25,7 @@ use std::pin::Pin;
 use std::sync::{Arc, Mutex, MutexGuard, PoisonError};
 use std::task::{Context, Poll};
 use std::time::{Duration, Instant};
-use tokio::io::{sink, AsyncRead, AsyncReadExt, AsyncWrite, AsyncWriteExt, BufReader};
+use tokio::io::{AsyncRead, AsyncReadExt, AsyncWrite, AsyncWriteExt, BufReader};
 use tokio::sync::{oneshot, watch};
 use tokio::time::{sleep, timeout};
 use tracing::debug;
@@ -34,6 +35,9 @@ const BUFFER: usize = 4096;
 
 /// How many bytes of replies are written at once, and one reply more.
 const TOGETHER: usize = 16_384;
+
+/// How often it is looked whether the other end of a connection is closed from which no more comes.
+const LOOK: Duration = Duration::from_millis(100);
 
 /// How long a client waits that asks which of its leases others want.
 const WAITING: Duration = Duration::from_secs(20);
@@ -51,6 +55,8 @@ pub struct Shared {
     pub rules: watch::Receiver<Arc<Rules>>,
     /// Whether no frame is read any more.
     pub stopping: watch::Receiver<bool>,
+    /// Who has had kfsd's thread.
+    pub thread: Arc<Thread>,
 }
 
 impl Shared {
@@ -226,8 +232,25 @@ enum Said {
     Later(Pin<Box<dyn Future<Output = Vec<u8>> + Send>>),
 }
 
-/// Serves a connection to its end.
-pub async fn serve(from: impl AsyncRead + Unpin, to: impl AsyncWrite + Unpin, place: Place, shared: Arc<Shared>) {
+/// Serves a connection to its end. `is_gone` says whether nobody hears a reply any more, once nothing more is to be read.
+pub async fn serve(
+    from: impl AsyncRead + Unpin,
+    to: impl AsyncWrite + Unpin,
+    is_gone: impl Fn() -> bool,
+    place: Place,
+    shared: Arc<Shared>,
+) {
+    let (uid, usage, thread) = (place.account.user.uid, Arc::clone(&place.account.usage), Arc::clone(&shared.thread));
+    thread::Shared::new(serve_all(from, to, is_gone, place, shared), uid, &thread, &usage).await;
+}
+
+async fn serve_all(
+    from: impl AsyncRead + Unpin,
+    to: impl AsyncWrite + Unpin,
+    is_gone: impl Fn() -> bool,
+    place: Place,
+    shared: Arc<Shared>,
+) {
     // Each has its place among the frames that are under way, so there are as many as may be.
     let owed = Owed::default();
     let limits = shared.limits();
@@ -258,12 +281,24 @@ pub async fn serve(from: impl AsyncRead + Unpin, to: impl AsyncWrite + Unpin, pl
     let is_slow = tokio::select! {
         // What is read first is seen by the half that writes.
         biased;
-        end = &mut reading => writing.await.is_err() || matches!(end, End::Slow),
+        end = &mut reading => tokio::select! {
+            written = &mut writing => written.is_err() || matches!(end, End::Slow),
+            // What is owed is dropped, and look-ups of it aren't made.
+            () = gone(is_gone) => false,
+        },
         written = &mut writing => written.is_err(),
     };
     if is_slow {
         shared.figures.too_slow.add(1);
         debug!("a connection of user {} was too slow", place.account.user.uid);
+    }
+}
+
+/// Returns when nobody hears a reply any more. A connection whose other end is closed and one that is only written no more look
+/// alike to the half that reads.
+async fn gone(is_gone: impl Fn() -> bool) {
+    while !is_gone() {
+        sleep(LOOK).await;
     }
 }
 
@@ -314,9 +349,9 @@ impl<R: AsyncRead + Unpin> Reader<'_, R> {
         let limits = self.shared.limits();
         let time = limits.frame_time();
         if head.length > limits.frame_bytes {
-            let passed = timeout(time, tokio::io::copy(&mut (&mut self.from).take(head.length.into()), &mut sink())).await?;
-            let is_whole = matches!(passed, Ok(count) if count == u64::from(head.length));
-            return self.refuse(head, frame, if is_whole { Refusal::TooLong } else { Refusal::CutShort }).await;
+            self.refuse(head, frame, Refusal::TooLong).await?;
+            // To pass over it would cost as much as to take it.
+            return Err(End::Input);
         }
         let bytes = take(&self.bytes, &self.account.bytes, head.length + FRAME_COST).await;
         let mut body = vec![0; head.length as usize];

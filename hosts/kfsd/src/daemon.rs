@@ -7,6 +7,7 @@ use crate::cluster::term::Term;
 use crate::config::{Config, ConfigFault};
 use crate::connection::Shared;
 use crate::desk::{Desk, DeskFault};
+use crate::docket::Docket;
 use crate::duties;
 use crate::figures::Figures;
 use crate::folder::{Folder, Found};
@@ -178,6 +179,7 @@ impl Place {
                 store: Arc::new(Mutex::new(open_store(&folder)?)),
                 folder,
                 rows: config.rows,
+                docket: Docket::new(config.rows),
                 tiers: config.tiers,
                 clients: Arc::clone(clients),
             })),
@@ -200,6 +202,7 @@ impl Daemon {
             term: place.term(),
             rules: now,
             stopping: stops,
+            thread: Arc::default(),
         });
         shared.following.wants().set_time(Duration::from_secs(config.duties.wanted_seconds));
         let desk = place.begin(&config, &clients)?;

@@ -4,10 +4,11 @@ use crate::calls::Told;
 use crate::clients::{Clients, Refusal};
 use crate::cluster::ClusterFault;
 use crate::connection::Shared;
+use crate::docket::Docket;
 use crate::flight::Flight;
 use crate::folder::{Folder, Found};
 use crate::following::Following;
-use crate::frames::{read_reply, said_again, Head, Reply};
+use crate::frames::{read_reply, said_again, Head, Reply, CHECKPOINT, CHECKPOINT_MADE, FULL};
 use crate::meter::Meter;
 use crate::queue::{Answer, Batch, Sent};
 use crate::store::{Changes, Store};
@@ -23,7 +24,7 @@ use std::time::Duration;
 use thiserror::Error;
 use tokio::io::{AsyncRead, AsyncWrite, AsyncWriteExt, BufReader};
 use tokio::process::{Child, ChildStdin, ChildStdout, Command};
-use tokio::sync::watch;
+use tokio::sync::{oneshot, watch};
 use tokio::task::spawn_blocking;
 use tokio::time::{sleep, timeout};
 use tracing::{info, warn};
@@ -69,6 +70,7 @@ pub struct Desk {
     pub program: PathBuf,
     pub folder: Folder,
     pub rows: u32,
+    pub docket: Docket,
     pub tiers: [u32; 3],
     /// What kfsd keeps itself.
     pub store: Arc<Mutex<Store>>,
@@ -83,6 +85,8 @@ enum Why {
     Closed,
     /// There are new clients, which the next process takes.
     NewClients,
+    /// The docket is begun anew by the next process.
+    Docket,
 }
 
 /// How a process of `kfs_serve` ended.
@@ -108,7 +112,7 @@ impl Desk {
             self.keep(shared).await?;
             match ended.done {
                 Some(Why::Closed) => return Ok(locked(&self.store).end()?),
-                Some(Why::NewClients) => {
+                Some(Why::NewClients | Why::Docket) => {
                     fruitless = 0;
                     continue;
                 }
@@ -236,8 +240,8 @@ impl Desk {
         flight: &Flight,
         meter: &mut Meter,
     ) -> Result<Option<Why>, DeskFault> {
-        let writing = write_calls(to, shared, flight, &self.clients);
-        let reading = read_replies(from, shared, flight, meter);
+        let writing = self.write_calls(to, shared, flight);
+        let reading = read_replies(from, shared, flight, &self.docket, meter);
         let keeping = self.keep_on(shared, flight);
         tokio::pin!(writing, reading, keeping);
         let why = tokio::select! {
@@ -252,6 +256,35 @@ impl Desk {
         let read = if why.is_some() { reading.await } else { timeout(LAST_MOMENT, reading).await.unwrap_or(Ok(())) };
         say_why(read);
         Ok(why.filter(|_| flight.is_empty()))
+    }
+
+    /// Sends calls until the queue has ended, or the next process takes new clients or begins the docket anew. Then the input of
+    /// `kfs_serve` ends, too.
+    async fn write_calls(&self, mut to: ChildStdin, shared: &Shared, flight: &Flight) -> io::Result<Why> {
+        let are_new = self.clients.due();
+        let mut anew = Anew::NotDue;
+        tokio::pin!(are_new);
+        loop {
+            // Where this is dropped it has taken nothing.
+            let next = async { shared.queue.next(flight.room().await).await };
+            let batch = tokio::select! {
+                batch = next, if anew.has_room() => batch,
+                () = &mut are_new => return Ok(Why::NewClients),
+                is_made = anew.is_made(&self.docket, shared) => match is_made {
+                    true => return Ok(Why::Docket),
+                    false => continue,
+                },
+            };
+            match batch {
+                None => return Ok(Why::Closed),
+                Some(Batch { bytes, sent }) => {
+                    anew.sent(&sent);
+                    count_sent(&sent, shared);
+                    flight.add(sent).await;
+                    to.write_all(&bytes).await?;
+                }
+            }
+        }
     }
 
     /// Keeps outcomes now and then, and whenever much was sent behind them. Returns where that fails.
@@ -308,6 +341,57 @@ impl Desk {
     }
 }
 
+/// How far a process is on the way to a new docket: the rows go back at a start behind a checkpoint.
+enum Anew {
+    NotDue,
+    /// The checkpoint is asked for, and is sent. So many calls may be sent behind it before it is made.
+    Asked {
+        answer: oneshot::Receiver<Answer>,
+        is_sent: bool,
+        room: usize,
+    },
+}
+
+impl Anew {
+    /// Whether more calls may be sent.
+    fn has_room(&self) -> bool {
+        !matches!(self, Anew::Asked { is_sent: true, room: 0, .. })
+    }
+
+    /// These were sent.
+    fn sent(&mut self, frames: &[Sent]) {
+        if let Anew::Asked { is_sent, room, .. } = self {
+            *is_sent = *is_sent || frames.iter().any(|frame| frame.is_checkpoint);
+            *room = room.saturating_sub(frames.len());
+        }
+    }
+
+    /// Returns when it has gone on. Answers whether the checkpoint is made, behind which the docket is begun anew.
+    async fn is_made(&mut self, docket: &Docket, shared: &Shared) -> bool {
+        match self {
+            Anew::NotDue => {
+                docket.is_due().await;
+                let answer = shared.queue.push_first(vec![CHECKPOINT]);
+                *self = Anew::Asked { answer, is_sent: false, room: docket.room() };
+                false
+            }
+            Anew::Asked { answer, .. } => {
+                let answer = answer.await;
+                let is_made = matches!(&answer, Ok(Answer::Said(reply)) if reply.found() == Some(&[CHECKPOINT_MADE]));
+                *self = Anew::NotDue;
+                if is_made {
+                    info!("the docket is begun anew");
+                    docket.begin_anew();
+                } else {
+                    warn!("the docket has three quarters of its rows, and no checkpoint is made");
+                    docket.wait();
+                }
+                is_made
+            }
+        }
+    }
+}
+
 /// Does what may take long with files on a thread of its own, beside all else.
 async fn beside<T: Send + 'static>(work: impl FnOnce() -> Result<T, DeskFault> + Send + 'static) -> Result<T, DeskFault> {
     spawn_blocking(work).await.unwrap_or_else(|fault| Err(DeskFault::Keeping(fault)))
@@ -359,33 +443,12 @@ fn say_why(read: io::Result<()>) {
     }
 }
 
-/// Sends calls until the queue has ended, or there are new clients. Then the input of `kfs_serve` ends, too.
-async fn write_calls(mut to: ChildStdin, shared: &Shared, flight: &Flight, clients: &Clients) -> io::Result<Why> {
-    let are_new = clients.due();
-    tokio::pin!(are_new);
-    loop {
-        // Where this is dropped it has taken nothing.
-        let next = async { shared.queue.next(flight.room().await).await };
-        let batch = tokio::select! {
-            batch = next => batch,
-            () = &mut are_new => return Ok(Why::NewClients),
-        };
-        match batch {
-            None => return Ok(Why::Closed),
-            Some(Batch { bytes, sent }) => {
-                count_sent(&sent, shared);
-                flight.add(sent).await;
-                to.write_all(&bytes).await?;
-            }
-        }
-    }
-}
-
 /// Hands answers out until the output of `kfs_serve` ends.
 async fn read_replies(
     from: &mut BufReader<ChildStdout>,
     shared: &Shared,
     flight: &Flight,
+    docket: &Docket,
     meter: &mut Meter,
 ) -> io::Result<()> {
     // Those that have come together.
@@ -394,6 +457,11 @@ async fn read_replies(
         let wrong = || io::Error::new(io::ErrorKind::InvalidData, format!("a reply to frame {}", reply.number));
         let sent = flight.take(reply.number).ok_or_else(wrong)?;
         take_over(&sent, &reply, times::now(), shared);
+        match reply.position() {
+            Some(position) => docket.has(position),
+            None if reply.said.starts_with(&FULL) => docket.is_full(),
+            None => {}
+        }
         if sent.is_kept() {
             flight.ended();
         }

@@ -4,7 +4,7 @@ use crate::asking::settle;
 use crate::bytes::Bytes;
 use crate::calls::tick;
 use crate::connection::Shared;
-use crate::frames::{CHECKPOINT, STATE};
+use crate::frames::{CHECKPOINT, CHECKPOINT_MADE, STATE};
 use crate::queue::Answer;
 use std::sync::Arc;
 use std::time::Duration;
@@ -21,7 +21,7 @@ pub async fn tick_on(shared: Arc<Shared>) {
         let due = shared.following.leases().tick_due(shared.following.clock.now(), shared.duties().tick_seconds);
         if let Some(moment) = due {
             // Where nobody knows the answer, the leases are read anew, and the next look finds out.
-            let _ = shared.queue.push_own(tick(moment)).await;
+            let _ = shared.queue.push_first(tick(moment)).await;
         }
         tokio::select! {
             () = sleep(LOOK) => {}
@@ -75,5 +75,5 @@ pub async fn state(shared: &Shared) -> Option<State> {
 
 /// Has the journal begun anew. Answers whether it was.
 pub async fn checkpoint(shared: &Shared) -> bool {
-    matches!(found(shared, vec![CHECKPOINT]).await.as_deref(), Some([3]))
+    found(shared, vec![CHECKPOINT]).await.as_deref() == Some(&[CHECKPOINT_MADE])
 }

@@ -40,6 +40,12 @@ pub const PLAN: u8 = 0x48;
 pub const STATE: u8 = 0x41;
 pub const CHECKPOINT: u8 = 0x42;
 
+/// What is found where a checkpoint was asked for and is made.
+pub const CHECKPOINT_MADE: u8 = 3;
+
+/// The front of a reply that refuses a call since the docket is full.
+pub const FULL: [u8; 2] = [REFUSED, 7];
+
 /// The tag of a body that asks kfsd who the client is. It is never forwarded.
 const HELLO: u8 = 0xf0;
 

@@ -175,6 +175,8 @@ enum Turn {
 
 #[derive(Debug, Default)]
 struct Lines {
+    /// Calls of kfsd's own that go before all others.
+    first: VecDeque<Call>,
     of: HashMap<u32, Line>,
     /// The clients that have a call, in the order of their turns; but for those that rest, and those that are full.
     turns: VecDeque<u32>,
@@ -225,6 +227,22 @@ impl Queue {
         self.push_as(FRONT, body)
     }
 
+    /// Puts a call of kfsd's own before all that waits.
+    pub fn push_first(&self, body: Vec<u8>) -> oneshot::Receiver<Answer> {
+        let (call, answer) = own_call(FRONT, FRONT, body);
+        let mut lines = self.lines();
+        if lines.is_closed {
+            drop(lines);
+            never_sent(call);
+        } else {
+            lines.first.push_back(call);
+            lines.count += 1;
+            drop(lines);
+            self.changed.notify_one();
+        }
+        answer
+    }
+
     /// The same in the name of a client, behind its calls.
     pub fn push_as(&self, client: u32, body: Vec<u8>) -> oneshot::Receiver<Answer> {
         self.push_in(client, client, body)
@@ -236,9 +254,8 @@ impl Queue {
     }
 
     fn push_in(&self, line: u32, client: u32, body: Vec<u8>) -> oneshot::Receiver<Answer> {
-        let (to, answer) = oneshot::channel();
-        let asker = Asker { to, frame: None };
-        self.push(Call { client, line, note: None, body, came: Instant::now(), number: None, bytes: None, asker });
+        let (call, answer) = own_call(line, client, body);
+        self.push(call);
         answer
     }
 
@@ -302,13 +319,13 @@ impl Queue {
     pub fn give_up(&self) {
         let mut lines = self.lines();
         lines.is_closed = true;
-        let left = std::mem::take(&mut lines.of);
+        let (first, left) = (std::mem::take(&mut lines.first), std::mem::take(&mut lines.of));
         lines.turns.clear();
         lines.resting.clear();
         lines.full.clear();
         lines.count = 0;
         drop(lines);
-        left.into_values().flat_map(|line| line.calls).for_each(never_sent);
+        first.into_iter().chain(left.into_values().flat_map(|line| line.calls)).for_each(never_sent);
         self.changed.notify_one();
     }
 
@@ -335,6 +352,13 @@ impl Queue {
             }
         }
     }
+}
+
+/// A call of kfsd's own, or in the name of a client.
+fn own_call(line: u32, client: u32, body: Vec<u8>) -> (Call, oneshot::Receiver<Answer>) {
+    let (to, answer) = oneshot::channel();
+    let asker = Asker { to, frame: None };
+    (Call { client, line, note: None, body, came: Instant::now(), number: None, bytes: None, asker }, answer)
 }
 
 fn never_sent(call: Call) {
@@ -478,6 +502,13 @@ impl Lines {
 
     /// The next call, where there is one and it fits in so many bytes or is the first.
     fn pop(&mut self, room: usize, is_first: bool, now: Instant) -> Option<Call> {
+        if matches!(self.first.front(), Some(call) if is_first || !call.is_alone()) {
+            self.count -= 1;
+            return self.first.pop_front();
+        }
+        if !self.first.is_empty() {
+            return None;
+        }
         while self.sent < self.window.max(LEAST_WINDOW) {
             let client = *self.turns.front()?;
             match self.turn_of(client, room, is_first, now)? {
@@ -659,6 +690,19 @@ mod tests {
         assert_eq!(clients_in(&first.bytes), [(7, 1)]);
         assert_eq!(clients_in(&second.bytes), [(FRONT, 1), (8, 2)]);
         assert_eq!(second.sent.iter().map(|sent| sent.is_checkpoint).collect::<Vec<_>>(), [true, false]);
+    }
+
+    #[tokio::test]
+    async fn what_is_urgent_goes_first() {
+        let queue = Queue::default();
+        (0..100).for_each(|_| queue.push(call(7, 1).0));
+        let _answer = queue.push_first(vec![CHECKPOINT]);
+        let batch = queue.next(MOST).await.unwrap();
+        assert_eq!(clients_in(&batch.bytes)[..2], [(FRONT, 1), (7, 1)]);
+        assert!(batch.sent[0].is_checkpoint);
+        let _answer = queue.push_first(vec![4; 9]);
+        queue.give_up();
+        assert!(queue.is_empty() && queue.next(MOST).await.is_none());
     }
 
     #[tokio::test]

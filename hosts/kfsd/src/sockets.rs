@@ -5,10 +5,11 @@ use crate::control;
 use crate::daemon::DaemonFault;
 use crate::frames::Refusal;
 use crate::pace::Pace;
-use crate::peer::uid_of;
+use crate::peer::{is_closed, uid_of};
 use std::fs::{self, Permissions};
 use std::io::{self, Write};
 use std::os::unix::fs::{FileTypeExt, PermissionsExt};
+use std::os::unix::io::AsRawFd;
 use std::path::{Path, PathBuf};
 use std::sync::Arc;
 use std::time::{Duration, Instant};
@@ -130,8 +131,10 @@ fn take(stream: UnixStream, shared: &Arc<Shared>, tasks: &mut JoinSet<()>) -> bo
                 if !wait.is_zero() {
                     sleep(wait).await;
                 }
+                // It is open for as long as its connection is served.
+                let socket = stream.as_raw_fd();
                 let (from, to) = stream.into_split();
-                connection::serve(from, to, place, shared).await;
+                connection::serve(from, to, || is_closed(socket), place, shared).await;
             });
             true
         }

@@ -3,6 +3,7 @@
 use crate::allowance::Allowance;
 use crate::config::Limits;
 use crate::pace::Pace;
+use crate::thread::Usage;
 use serde::{Deserialize, Serialize};
 use std::collections::{BTreeSet, HashMap};
 use std::fmt::Write as _;
@@ -19,7 +20,7 @@ const GROUP_LIMIT: usize = 16;
 /// How many frames of a user kfsd itself answers a second, and how many connections it takes; and how many of each at once.
 const ANSWERS: u32 = 10_000;
 const ARRIVALS: u32 = 1_000;
-const AT_ONCE: u32 = 1_000;
+const AT_ONCE: u32 = 100;
 
 /// A user of the configuration.
 #[derive(Clone, Debug, Deserialize, Serialize, PartialEq, Eq)]
@@ -117,6 +118,8 @@ pub struct Account {
     pub arrivals: Pace,
     /// Calls that it makes.
     pub calls: Pace,
+    /// What it has had of kfsd's thread.
+    pub usage: Arc<Usage>,
     connections: AtomicU32,
 }
 
@@ -129,6 +132,7 @@ impl Account {
             answers: Pace::new(ANSWERS, AT_ONCE),
             arrivals: Pace::new(ARRIVALS, AT_ONCE),
             calls: Pace::new(limits.calls_a_second, calls_at_once(limits)),
+            usage: Arc::default(),
             connections: AtomicU32::new(0),
         }
     }

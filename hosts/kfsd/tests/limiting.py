@@ -92,7 +92,7 @@ def fewer_bytes(made):
         other.socket.sendall(data[12:])
         assert other.reply().refusal == ("Trailing", 0)
         assert seven.ask(2, lease(7, 10) + bytes(1000)).refusal == TOO_LONG
-        assert seven.ask(3, lease(7, 10)).answer
+        assert seven.is_ended() and daemon.connect(7).ask(3, lease(7, 10)).answer
         daemon.wait_for(lambda: daemon.status()["user"][0]["bytes_left"] == LEAST)
 
 
@@ -121,8 +121,8 @@ def more_is_of_use_at_once(made):
             waiting[-1].socket.settimeout(0.3)
             with contextlib.suppress(TimeoutError):
                 waiting[-1].socket.sendall(frame(1, 7, bytes(50_000)) * 4)
-        # two are in the window of what is sent, and one waits
-        assert sent(daemon) == 2 and daemon.status()["kfs_serve"]["waiting_calls"] == 1
+        # one is at kfs_serve, where a client has no more of this length, and one waits
+        assert sent(daemon) == 1 and daemon.status()["kfs_serve"]["waiting_calls"] == 1
         daemon.limits |= {"bytes_a_user": 250_000}
         reload(daemon)
         assert settled(daemon, lambda status: status["kfs_serve"]["waiting_calls"]) == 3, "one of each connection"

@@ -40,8 +40,13 @@ def tool(name):
 kept_in = tool("serve-kills").kept_in
 
 
-def lease(client, end, path=b"/", writes=False):
-    """The call that asks for a lease."""
+def lease(client, end, node=1, writes=False):
+    """The call that asks for a lease by number, of the root where nothing is said."""
+    return struct.pack(">BIBQI", 6, client, writes, end, node)
+
+
+def lease_by_path(client, end, path=b"/", writes=False):
+    """The call that asks for one by a path. kfsd makes another one of it."""
     return struct.pack(">BIBQH", 2, client, writes, end, len(path)) + path
 
 

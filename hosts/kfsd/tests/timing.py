@@ -3,7 +3,7 @@ import struct
 import time
 
 from killing import YES, submission
-from running import READY, Daemon, lease, numbered, pretender, user
+from running import READY, Daemon, lease, lease_by_path, numbered, pretender, user
 
 from benchmarks import FILE, file_gone, files_made, log_of, node, plan_of, put
 from fuzzing.codec import Chmod, Write
@@ -144,7 +144,7 @@ def leases_on_what_is_gone_end(made):
         seven = daemon.connect(7)
         assert seven.ask(0, lease(7, 1 << 40, writes=True)).answer
         done(seven, submit(*files_made([b"a"])))
-        assert seven.ask(0, lease(7, 1 << 40, b"/a", writes=True)).answer[4] == 4
+        assert seven.ask(0, lease_by_path(7, 1 << 40, b"/a", writes=True)).answer[4] == 4
         assert daemon.status()["desk"]["leases"] == 2
         done(seven, submit(*file_gone(b"a", 2)))
         assert daemon.status()["desk"]["leases"] == 1

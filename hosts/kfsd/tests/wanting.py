@@ -3,14 +3,10 @@ import struct
 import threading
 import time
 
-from running import Daemon, lease
+from running import Daemon, lease, lease_by_path
 
 LEASED, REFUSED, HELD = 4, 8, 7
 WANTED = ("Wanted", 0)
-
-
-def by_number(client, end, node=1):
-    return struct.pack(">BIBQI", 6, client, 1, end, node)
 
 
 def ask_for_wants(connection, behind=0):
@@ -46,7 +42,7 @@ def the_holder_is_told(made):
         assert is_held(eight.ask(1, lease(8, 1000)))
         serial, found = wants(listening)
         assert found == [(8, 1, b"")] and time.monotonic() - began < 1, found
-        assert is_held(eight.ask(2, by_number(8, 1000)))
+        assert is_held(eight.ask(2, lease_by_path(8, 1000, writes=True)))
         ask_for_wants(listening)
         assert wants(listening) == (serial, [(8, 1, b"")])
         # behind that serial nothing is new, until a lease is wanted that isn't yet
@@ -112,7 +108,7 @@ def a_wanted_lease_is_not_renewed(made):
             assert not refused
             began = time.monotonic()
             while True:
-                reply = eight.ask(1, by_number(8, eight.moment()[0] + 100))
+                reply = eight.ask(1, lease_by_path(8, eight.moment()[0] + 100, writes=True))
                 if reply.answer[4] == LEASED:
                     break
                 assert time.monotonic() - began < 20, "the other one never gets it"
@@ -136,7 +132,7 @@ def a_want_that_is_given_up_is_over(made):
             assert is_held(eight.ask(1, lease(8, 1000)))
             time.sleep(0.4)
         assert seven.ask(2, lease(7, 2000, writes=True)).refusal == WANTED
-        assert seven.ask(2, by_number(7, 2000)).refusal == WANTED
+        assert seven.ask(2, lease_by_path(7, 2000, writes=True)).refusal == WANTED
         time.sleep(1.2)
         assert seven.ask(3, lease(7, 2000, writes=True)).answer[4] == LEASED
         assert is_held(eight.ask(2, lease(8, 1000)))

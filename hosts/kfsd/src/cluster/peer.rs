@@ -4,6 +4,7 @@
 
 use super::base::Bases;
 use crate::connection::{self, Shared};
+use crate::peer::is_closed;
 use nix::sys::socket::{setsockopt, sockopt};
 use std::fs;
 use std::io::{self, ErrorKind};
@@ -184,8 +185,10 @@ async fn serve_user(mut stream: TcpStream, uid: u32, shared: Arc<Shared>) -> io:
     match shared.place_of(Ok(uid)) {
         Ok(place) => {
             shared.figures.connections.add(1);
+            // It is open for as long as its connection is served.
+            let socket = stream.as_raw_fd();
             let (from, to) = stream.into_split();
-            connection::serve(from, to, place, shared).await;
+            connection::serve(from, to, || is_closed(socket), place, shared).await;
             Ok(())
         }
         Err(refusal) => {
