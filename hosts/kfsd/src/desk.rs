@@ -192,11 +192,12 @@ impl Desk {
         }
         self.keep(shared).await?;
         for sent in left {
+            let is_own = sent.is_own();
             match (answer_of(&sent), sent.asker) {
                 (Some(answer), Some(asker)) => {
                     let _ = asker.to.send(Answer::Said(Reply { number: sent.number, said: said_again(answer) }));
                 }
-                _ if sent.client != FRONT => shared.figures.unknown.add(1),
+                _ if !is_own => shared.figures.unknown.add(1),
                 _ => {}
             }
         }
@@ -481,14 +482,14 @@ async fn read_replies(
 
 /// Counts frames that are about to be sent.
 pub fn count_sent(sent: &[Sent], shared: &Shared) {
-    let of_clients = || sent.iter().filter(|one| one.client != FRONT);
+    let of_clients = || sent.iter().filter(|one| !one.is_own());
     shared.figures.sent.add(of_clients().count());
     shared.figures.waited.add(of_clients().map(|one| one.came.elapsed().as_micros() as usize).sum());
 }
 
 /// Takes over what a frame has done, which was answered at this time.
 pub fn take_over(sent: &Sent, reply: &Reply, time: i64, shared: &Shared) {
-    if sent.client == FRONT {
+    if sent.is_own() {
         shared.figures.own.add(1);
     } else {
         shared.figures.answered.add(1);

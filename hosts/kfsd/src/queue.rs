@@ -81,7 +81,7 @@ impl Call {
 
     /// Whether it is a look-up of somebody who is gone.
     fn is_in_vain(&self) -> bool {
-        self.asker.to.is_closed() && is_look_up(&self.body)
+        self.client != FRONT && self.asker.to.is_closed() && is_look_up(&self.body)
     }
 
     /// Whether it is the first of those that are sent at once: all before it is kept then (flight.rs).
@@ -122,6 +122,11 @@ pub struct Sent {
 }
 
 impl Sent {
+    /// Whether it is kfsd's own, or made in the name of a client for another one's sake.
+    pub fn is_own(&self) -> bool {
+        self.client == FRONT || self.part.client == FRONT
+    }
+
     /// Whether something of its answer is kept here.
     pub fn is_kept(&self) -> bool {
         self.numbered.is_some() || matches!(self.note, Note::Submit(_) | Note::Time(..))

@@ -58,8 +58,8 @@ def figures_are_told(made):
         values = values_in(text)
         assert values["kfsd_frames_answered_total"] == values["kfsd_frames_sent_total"] == 22
         assert values["kfsd_frames_answered_here_total"] == 1 and values["kfsd_frames_unknown_total"] == 0
-        # the marker of the numbered call
-        assert values["kfsd_own_calls_total"] == 1
+        # the marker of the numbered call, and the look whether the holder may have the lease that is wanted
+        assert values["kfsd_own_calls_total"] == 2
         assert values["kfsd_kfs_serve_starts_total"] == values["kfsd_kfs_serve_open"] == 1
         assert (values["kfsd_leases"], values["kfsd_wanted_leases"]) == (1, 1)
         assert values['kfsd_user_connections{uid="1000",client="7"}'] == 1
@@ -100,8 +100,8 @@ def kfsctl_prints(made):
         assert [line.split()[:3] for line in users[1:]] == [["1000", "7", "1"], ["1001", "8", "1"], ["1002", "9", "0"]]
         leases = daemon.ask("leases").splitlines()
         assert len(leases) == 3, leases
-        node, client, kind, left, path = leases[1].split()
-        assert (node, client, kind, path) == ("1", "7", "write", "/") and 900 < int(left) <= 1000
+        node, client, kind, left = leases[1].split()
+        assert (node, client, kind) == ("1", "7", "write") and 900 < int(left) <= 1000
         assert leases[2].startswith("client 8 has wanted node 1 of client 7 for ")
         shown = daemon.status()
         assert shown["desk"]["leases"] == shown["desk"]["wanted_leases"] == 1

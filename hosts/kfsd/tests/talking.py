@@ -80,16 +80,22 @@ def a_stranger_is_refused(made):
 
 
 def long_and_cut_frames(made):
-    """A frame that is too long is passed over, and one that is cut short is told so."""
+    """A frame that is too long ends its connection, behind what came before it. One that is cut short is told so."""
     with Daemon(*made, frame_bytes=5000).start() as daemon:
         seven = daemon.connect(7)
-        seven.send(1, bytes(5001))
-        seven.send(2, bytes(5000))
-        seven.send(3, lease(7, 10))
+        seven.send(1, bytes(5000))
+        seven.send(2, lease(7, 10))
+        seven.send(3, bytes(5001))
         replies = [seven.reply() for _ in range(3)]
         assert [it.number for it in replies] == [1, 2, 3]
-        assert [it.refusal for it in replies[:2]] == [("TooLong", 0), ("BadField", 0)] and replies[2].answer
-        for length, count in ((100, 99), (100, 0), (9000, 8999)):
+        assert [it.refusal for it in replies[::2]] == [("BadField", 0), ("TooLong", 0)] and replies[1].answer
+        assert seven.is_ended()
+        # nothing of it need come
+        for length in (5001, (1 << 32) - 1):
+            other = daemon.connect(7)
+            other.socket.sendall(struct.pack(">III", length, 5, 7))
+            assert other.reply() == (5, None, ("TooLong", 0)) and other.is_ended()
+        for length, count in ((100, 99), (100, 0)):
             cut = daemon.connect(7)
             cut.socket.sendall(struct.pack(">III", length, 5, 7) + bytes(count))
             cut.socket.shutdown(1)
@@ -110,8 +116,11 @@ def the_longest_frames(made):
         assert len(call) == LONGEST
         # 02: No, since these bytes are no log
         assert seven.ask(1, call).answer[4] == 2
-        assert seven.ask(2, call + b"x").refusal == ("TooLong", 0)
-        assert seven.ask(3, b"\x63" * LONGEST).refusal == ("BadField", 0)
+        assert seven.ask(2, b"\x63" * LONGEST).refusal == ("BadField", 0)
+        other = daemon.connect(7)
+        with contextlib.suppress(BrokenPipeError):
+            other.send(3, call + b"x")
+        assert other.reply().refusal == ("TooLong", 0) and other.is_ended()
         assert seven.ask(4, lease(7, 10)).answer
         print(f"    kfsd has {daemon.resident() / (1 << 20):.0f} MiB behind frames of 16 MiB")
         assert daemon.stop()[0] == 0
