@@ -149,11 +149,11 @@ def children_of(process):
 class Daemon:
     """A kfsd with a folder of its own."""
 
-    def __init__(self, binaries, program, users=None, tiers=(64, 64, 64), duties=None, figures=None, **limits):
+    def __init__(self, binaries, program, users=None, tiers=(64, 64, 64), duties=None, figures=None, rows=None, **limits):
         self.binaries, self.users, self.limits, self.tiers = binaries, list(USERS if users is None else users), limits, tiers
         # most tests ask for leases up to any end, and count seconds of none
         self.duties = {"lease_seconds": 0, "checkpoint_at_stop": False, "free_percent": 0, **(duties or {})}
-        self.figures = figures
+        self.figures, self.rows = figures, rows
         self.room = tempfile.mkdtemp(prefix="kfsd-")
         os.chmod(self.room, 0o755)
         self.folder, self.program = f"{self.room}/desk", program
@@ -182,6 +182,7 @@ class Daemon:
         """Writes the configuration."""
         lines = [f'{name} = "{self.room}/{name}"' for name in ("socket", "control")]
         lines += [f'figures = "{self.figures}"'] if self.figures else []
+        lines += [f"rows = {self.rows}"] if self.rows else []
         lines += [f'folder = "{self.folder}"', f'program = "{self.program}"', f"tiers = {list(self.tiers)}", "[limits]"]
         lines += [f"{name} = {value}" for name, value in self.limits.items()]
         lines += ["[duties]", *(f"{name} = {json.dumps(value)}" for name, value in self.duties.items())]
