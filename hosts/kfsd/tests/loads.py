@@ -1,24 +1,18 @@
-"""Figures of a kfsd: calls a second and how long they take, alone and beside clients that would harm them."""
-import contextlib
+"""Figures of a kfsd: calls a second and how long they take, and the same calls without it."""
 import os
-import random
-import signal
-import socket
 import struct
 import subprocess
 import tempfile
-import threading
 import time
 import tomllib
 
 from loading import load_users, prepare, said_by, start_load
 from replaying import Follower, calls_in
-from running import FRONT, Connection, Daemon, frame, lease, user
+from running import Daemon, frame
 
 from benchmarks import put_files
 from kept_parts import client_bytes, fresh_image, step_bytes
 
-HOSTILE = [user(5000 + at, 900 + at) for at in range(4)]
 COUNTS = (1, 10, 100, 1000)
 
 
@@ -125,122 +119,3 @@ def by_library(bench, where, state, groups):
         put_files(room, {"state": state, "steps": b"".join(map(step_bytes, groups))})
         said = subprocess.run([bench, folder if kept else where, "state", "steps"], cwd=room, check=True, capture_output=True)
         return sum(map(int, said.stdout.split())) / 1e9
-
-
-# ---- Clients that would harm others. Each goes on until it is killed, in a process of its own.
-
-def connect(daemon, client):
-    it = next(it for it in HOSTILE if it["client"] == client)
-    return Connection(f"{daemon.room}/socket", it["uid"], client)
-
-
-def reading(connection):
-    """Reads and forgets what comes."""
-    connection.socket.settimeout(None)
-    with contextlib.suppress(OSError):
-        while connection.socket.recv(1 << 16):
-            pass
-
-
-def forged(daemon, chance):
-    """Frames in the name of others, as fast as they are taken."""
-    it = connect(daemon, 900)
-    threading.Thread(target=reading, args=(it,), daemon=True).start()
-    data = b"".join(frame(at, chance.choice([FRONT, 100, 900]), chance.choice([lease(100, 1 << 40, writes=True), struct.pack(">BQ", 4, 1 << 60)])) for at in range(500))
-    while True:
-        it.socket.sendall(data)
-
-
-def random_frames(daemon, chance):
-    """10^5 random frames, and again."""
-    it = connect(daemon, 901)
-    threading.Thread(target=reading, args=(it,), daemon=True).start()
-    parts = []
-    for at in range(100_000):
-        body = chance.choice([chance.randbytes(chance.randrange(40)), lease(901, chance.randrange(1 << 20))])
-        parts.append(frame(at, chance.choice([901, 901, chance.randrange(1 << 32)]), body))
-    data = b"".join(parts)
-    while True:
-        it.socket.sendall(data)
-
-
-def never_reading(daemon, _chance):
-    """Four connections that send calls and never read, again when they were ended."""
-    data = b"".join(frame(at, 902, lease(902, 10)) for at in range(1000))
-    while True:
-        connections = [connect(daemon, 902) for _ in range(4)]
-        for it in connections:
-            it.socket.settimeout(0.5)
-            with contextlib.suppress(OSError):
-                while True:
-                    it.socket.sendall(data)
-
-
-def long_frames(daemon, _chance):
-    """Wrong logs of 1 MB, as many as are taken: each is kept with its answer."""
-    it = connect(daemon, 903)
-    threading.Thread(target=reading, args=(it,), daemon=True).start()
-    data = frame(1, 903, struct.pack(">BII", 1, 903, 1_000_000) + bytes(1_000_000) + bytes(4))
-    while True:
-        it.socket.sendall(data)
-
-
-def idle(daemon, _chance):
-    """2,000 connections that say nothing."""
-    connections = [connect(daemon, 900 + at % 4) for at in range(2000)]
-    assert len(connections) == 2000
-    signal.pause()
-
-
-def coming_and_going(daemon, _chance):
-    """Connections that end within a frame."""
-    os.setuid(HOSTILE[0]["uid"])
-    strangers(daemon, _chance)
-
-
-def strangers(daemon, _chance):
-    """The same of a user that isn't listed."""
-    while True:
-        with contextlib.suppress(OSError), socket.socket(socket.AF_UNIX) as it:
-            it.connect(f"{daemon.room}/socket")
-            it.sendall(frame(1, 900, lease(900, 10))[:-3])
-
-
-def started(kind, daemon):
-    """A process that does so until it is killed."""
-    child = os.fork()
-    if child:
-        return child
-    with contextlib.suppress(BaseException):
-        kind(daemon, random.Random(kind.__name__))
-    os._exit(1)
-
-
-def beside(daemon, kinds, seconds):
-    """The figures of ten users beside these."""
-    children = [started(kind, daemon) for kind in kinds for _ in range(2 if kind is not idle else 1)]
-    try:
-        time.sleep(1.5 if kinds else 0.1)
-        return load_of(daemon, 10, seconds)
-    finally:
-        for child in children:
-            os.kill(child, signal.SIGKILL)
-            os.waitpid(child, 0)
-
-
-def hostile(made, seconds):
-    """Prints how long calls of ten users take beside each kind of hostile clients, two of each, and beside all."""
-    kinds = [forged, random_frames, never_reading, idle, coming_and_going, strangers, long_frames]
-    cases = [[], *([kind] for kind in kinds), kinds[:-1], kinds, []]
-    print("beside                   calls/s    median 99 of 100      most, in microseconds; 99 of 100 beside alone")
-    alone = None
-    for case in cases:
-        users = load_users(10, 10) + HOSTILE
-        with Daemon(*made, users=users, tiers=(8192, 16, 16), connections_a_user=600, reply_seconds=5).start() as daemon:
-            daemon.users = users[:10]
-            prepare(daemon)
-            found = beside(daemon, case, seconds)
-            daemon.process.kill()
-        alone = alone or found["micros_of_99_in_100"]
-        name = case[0].__name__ if len(case) == 1 else {0: "nobody", len(kinds): "all"}.get(len(case), "all but long_frames")
-        print(f"{name:<20} {line(found)} {found['micros_of_99_in_100'] / alone:>9.2f}", flush=True)

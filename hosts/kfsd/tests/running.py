@@ -160,6 +160,8 @@ class Daemon:
         os.mkdir(self.folder, 0o700)
         self.log = f"{self.room}/log"
         self.process, self.runs_as, self.patience = None, None, SOON
+        # what it is told beside its configuration
+        self.words = ("--verbose",)
 
     def __enter__(self):
         return self
@@ -195,7 +197,7 @@ class Daemon:
         """Starts it, without waiting."""
         self.put_config()
         with open(self.log, "ab") as log:
-            self.process = subprocess.Popen([f"{self.binaries}/kfsd", "--verbose", "--config", f"{self.room}/kfsd.toml"], stdin=subprocess.DEVNULL, stdout=log, stderr=log, user=self.runs_as, group=self.runs_as)
+            self.process = subprocess.Popen([f"{self.binaries}/kfsd", *self.words, "--config", f"{self.room}/kfsd.toml"], stdin=subprocess.DEVNULL, stdout=log, stderr=log, user=self.runs_as, group=self.runs_as)
 
     def start(self):
         """Starts it, and waits until clients may connect."""

@@ -4,15 +4,20 @@
 //! writes it twice, and takes it out. In a mixed load it also changes its mode, size and names, writes to a file that all
 //! connections of the user share, and tries to create one that all try to create. Each call has a number, and is handed in
 //! again under it until it is answered; so each answer has to be the right one, whatever is killed meanwhile. It prints figures.
+//!
+//! It is also a client that would harm others (hostile.rs), and one that isn't and is timed beside those (polite.rs).
 
 #![forbid(unsafe_code)]
 
+mod hostile;
 mod kernel;
 mod making;
+mod polite;
 mod steps;
 
 use anyhow::{bail, ensure, Context, Result};
 use clap::Parser;
+use hostile::Kind;
 use kfsd::frames::{Head, REPLY_HEAD};
 use making::{word, Owner};
 use nix::unistd::{geteuid, seteuid, Uid};
@@ -70,6 +75,18 @@ struct Words {
     /// Where it is written now and then how many calls were answered.
     #[arg(long)]
     progress: Option<PathBuf>,
+    /// Is the first user with one thing under way at a time, and times look-ups, calls and new connections.
+    #[arg(long)]
+    polite: bool,
+    /// Harms others in this way, as the first user.
+    #[arg(long, value_enum)]
+    hostile: Option<Kind>,
+    /// What a hostile one sends.
+    #[arg(long, default_value = "frames")]
+    frames: PathBuf,
+    /// Where its counts begin.
+    #[arg(long, default_value_t = 0)]
+    first: u32,
 }
 
 #[derive(Debug, Deserialize)]
@@ -293,6 +310,21 @@ fn shared_of(words: &Words) -> Result<Shared> {
     })
 }
 
+/// Is polite or hostile until the end.
+async fn beside(words: &Words, user: User) -> Result<()> {
+    let time = Duration::from_secs_f64(words.seconds);
+    match words.hostile {
+        Some(kind) => {
+            let (file, end) = (std::fs::read(&words.frames)?, Instant::now() + time);
+            hostile::run(kind, &words.socket, user, &file, words.connections, words.first, end).await
+        }
+        None => {
+            hostile::become_user(user)?;
+            polite::run(&words.socket, user, time)
+        }
+    }
+}
+
 // With one thread, as kfsd (src/main.rs).
 #[tokio::main(flavor = "current_thread")]
 async fn main() -> Result<()> {
@@ -302,7 +334,10 @@ async fn main() -> Result<()> {
         return say(0, kernel::run(folder, words.connections, Duration::from_secs_f64(words.seconds))?, began);
     }
     let users = users_in(&words.users)?;
-    ensure!(!users.is_empty(), "there are no users");
+    let user = *users.first().context("there are no users")?;
+    if words.polite || words.hostile.is_some() {
+        return beside(&words, user).await;
+    }
     let (began, shared) = (Instant::now(), Arc::new(shared_of(&words)?));
     if let Some(path) = words.progress {
         let (shared, file) = (Arc::clone(&shared), Disk::create(path)?);

@@ -120,7 +120,12 @@ impl Making {
 
 /// The call for a lease on a node, for ever.
 pub fn lease(client: u32, number: u32, writes: bool) -> Vec<u8> {
-    [&[6][..], &word(client), &[u8::from(writes)], &long(1 << 62), &word(number)].concat()
+    lease_until(client, number, writes, 1 << 62)
+}
+
+/// The call for a lease on a node up to a moment.
+pub fn lease_until(client: u32, number: u32, writes: bool, end: u64) -> Vec<u8> {
+    [&[6][..], &word(client), &[u8::from(writes)], &long(end), &word(number)].concat()
 }
 
 pub fn word(number: u32) -> [u8; 4] {
