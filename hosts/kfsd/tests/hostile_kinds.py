@@ -300,7 +300,7 @@ def path_begun(daemon, run):
     desk.connection.send(1, frames.find(home, b"p"))
     above = desk.connection.reply().answer.number
     desk.connection.send(1, frames.names(above, 65_536))
-    ((top, was),) = desk.connection.reply().answer.names
+    ((was, top),) = desk.connection.reply().answer.names
     begun = b"%08x" % (run << OF_A_RUN)
     if was != begun:
         desk.land([Rename(above, was, above, begun)], [NameRow(above, was, 0), NameRow(above, begun, top)])
