@@ -8,7 +8,7 @@ import threading
 import time
 from typing import NamedTuple
 
-from hostile_kinds import KINDS, OF_A_RUN, POLITE, TIERS, USERS, Desk
+from hostile_kinds import KINDS, OF_A_RUN, POLITE, USERS, Desk
 from loads import used_by
 from running import Daemon
 
@@ -21,6 +21,8 @@ DUTIES = {"lease_seconds": 3600, "free_percent": 10}
 # Seconds: how long harms are at work before times count, how much longer they live where nobody ends them, how long kfsd may
 # take to be at rest behind them, and how soon it answers then.
 WARM, LEFT, CALM, AT_ONCE = 1.0, 30, 90, 0.05
+# Of fewer than so many there is no 99th of 100.
+FEW = 100
 
 
 class Run(NamedTuple):
@@ -126,8 +128,10 @@ def wait_until_calm(daemon):
 
 
 def notes_of(figures, running):
-    notes = [f"{figures[thing][what]} {what}" for thing in THINGS for what in ("lost", "wrong") if figures[thing][what]]
-    return notes + ["a generator has ended" for it in running if it.poll() is not None]
+    """What is to be known of a run: things that weren't answered in time or rightly, so few that the 99th of 100 says little, and a harm that is gone."""
+    notes = [f"{thing} {what}" for thing in THINGS for what in ("lost", "wrong") if figures[thing][what]]
+    notes += [f"{thing} few" for thing in THINGS if figures[thing]["count"] < FEW]
+    return notes + ["a harm has ended" for it in running if it.poll() is not None]
 
 
 def one_run(daemon, kind, harms, users, seconds, run, memory):
@@ -156,7 +160,7 @@ def one_run(daemon, kind, harms, users, seconds, run, memory):
 
 def runs_of(made, kind, runs, seconds):
     """The runs of a kind, on a daemon of its own, and its memory."""
-    with Daemon(*made, users=USERS, tiers=TIERS, duties=DUTIES) as daemon:
+    with Daemon(*made, users=USERS, tiers=kind.tiers, duties=DUTIES) as daemon:
         daemon.words, daemon.patience = (), 60
         daemon.start()
         polite = Desk(daemon, POLITE)
@@ -189,7 +193,7 @@ def row(found, memory):
     misses += [f"memory +{last - halfway} KiB"] if last > halfway * (1 + GROWTH) + GROWTH_KIB else []
     columns += [f"{it:>8}" for it in memory]
     columns.append(f" {100 * middle(found, lambda it: it.kfsd):>5.0f} {100 * middle(found, lambda it: it.harms):>5.0f}")
-    notes = [f"{count} x {note}" for note, count in counted([note for it in found for note in it.notes])]
+    notes = [f"{note} in {count} of {len(found)}" for note, count in counted([note for it in found for note in it.notes])]
     return "".join(columns) + ("  " + ", ".join(notes) if notes else ""), misses
 
 

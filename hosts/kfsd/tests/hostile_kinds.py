@@ -16,7 +16,7 @@ HOLDER = user(5001, 901, (62_001, 65_500))
 OTHERS = [HOLDER, user(5002, 902), user(5003, 903)]
 UNLISTED = user(5999, 900)
 USERS = [POLITE, HOSTILE, *OTHERS]
-# Of tier 0 a user can fill all.
+# Blocks of each tier. A user may fill all of tier 0.
 TIERS = (2048, 8192, 8192)
 # How many seconds leases live here: beyond what a kind takes, and less than `lease_seconds` of kfsd.
 LIFE = 3000
@@ -39,11 +39,12 @@ class Harm(NamedTuple):
 
 
 class Kind(NamedTuple):
-    """A kind, how its harms are made on a prepared desk, and what is done before each run."""
+    """A kind, how its harms are made on a prepared desk, what is done before each run, and the sizes of the tiers."""
 
     name: str
     harms: object
     before: object = None
+    tiers: tuple = TIERS
 
 
 class Desk:
@@ -208,17 +209,22 @@ def wants(daemon):
     return [Harm("flood", sent(*asked), 6), Harm("idle", sent(b"\xf3" + bytes(8)), 250)]
 
 
-def fill(daemon):
-    """Writes more files than tier 0 holds, and takes each out again before it is written anew."""
-    desk, size, pieces = Desk(daemon, HOSTILE), 1 << 18, 4
-    home, bodies = desk.home(), []
-    for number in desk.numbers(40):
-        name = b"%d" % number
-        writes = [Write(number, at * 65_536, b"w" * 65_536) for at in range(pieces)]
-        rows = [NameRow(home, name, number)], [desk.row(number, FILE, 0o644, size)], [Piece(number, at * 65_536, 65_536, (1 + at, 0)) for at in range(pieces)]
-        bodies.append(desk.call([Unlink(home, name, FILE)], [NameRow(home, name, 0)], [NodeRow(number, None)]))
-        bodies += [desk.call([Create(home, name, number, FILE, 0o644), *writes], *rows), desk.lease_call(number)]
-    return [Harm("flood", sent(*bodies), 1)]
+def fill(files, blocks, payload):
+    """Writes more files of so many blocks than tier 0 holds, in payloads of so many bytes, and takes each out again before it is written anew."""
+
+    def made(daemon):
+        desk, size = Desk(daemon, HOSTILE), blocks * 4096
+        home, bodies = desk.home(), []
+        for number in desk.numbers(files):
+            name, places = b"%d" % number, range(0, size, payload)
+            entries = [Create(home, name, number, FILE, 0o644), *(Write(number, place, b"w" * payload) for place in places)]
+            pieces = [Piece(number, place, payload, (at, 0)) for at, place in enumerate(places, 1)]
+            bodies.append(desk.call([Unlink(home, name, FILE)], [NameRow(home, name, 0)], [NodeRow(number, None)]))
+            bodies.append(desk.call(entries, [NameRow(home, name, number)], [desk.row(number, FILE, 0o644, size)], pieces))
+            bodies.append(desk.lease_call(number))
+        return [Harm("flood", sent(*bodies), 1)]
+
+    return made
 
 
 def names(daemon):
@@ -333,7 +339,8 @@ KINDS = [
     Kind("slow ones, 250", always(Harm("slow", sent(DROP), 250))),
     Kind("idle ones, 1,000", idle),
     Kind("wants, 250 wait", wants),
-    Kind("tier 0 filled", fill),
+    Kind("tier 0 filled, long files", fill(40, 64, 65_536)),
+    Kind("tier 0 filled, short files", fill(80, 15, 61_440), tiers=(256, *TIERS[1:])),
     Kind("names of 12,000, 32", names),
     Kind("leases of 12,000, 1", leases(FEW, 1, 1)),
     Kind("leases of 12,000, 16", leases(FEW, 1, 16)),

@@ -119,11 +119,12 @@ async fn connection(kind: Kind, socket: PathBuf, mut frames: Frames, mut count: 
         if let Ok(stream) = UnixStream::connect(&socket).await {
             // Where it is ended, it is begun anew.
             let _ = timeout_at(end.into(), harm(kind, stream, &mut frames, &mut count)).await;
+            if kind == Kind::Reset {
+                // It ended as it was to, and the next one follows at once.
+                continue;
+            }
         }
-        // A reset is done by then, and the next one is to follow at once.
-        if kind != Kind::Reset {
-            sleep(REST).await;
-        }
+        sleep(REST).await;
     }
 }
 
