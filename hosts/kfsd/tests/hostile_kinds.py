@@ -22,7 +22,8 @@ TIERS = (2048, 8192, 8192)
 LIFE = 3000
 # What kfsload replaces by counts, and the bits that a run's and a connection's counts have in common.
 NEXT, LAST, OF_A_RUN = b"<<next>>", b"<<last>>", 27
-YES, LEASED = 1, 4
+# The tags of answers.
+YES, LEASED, DROPPED, REFUSED = 1, 4, 5, 8
 FEW, MANY = 12_000, 60_020
 RENAMES, DEPTH = 2_400, 3_000
 # The longest name of a directory, and how many of them a path has.
@@ -65,6 +66,13 @@ class Desk:
                 _, said = self.connection.next()
                 assert said[0] == 1 and said[5] == due, (self.client, body[:40], said)
 
+    def found(self, body):
+        """Sees that a look-up finds something, so that as many of it as are sent cost what they are meant to. Returns it."""
+        self.connection.send(1, body)
+        _, said = self.connection.next()
+        assert said[0] == 3 and said[1] != 4, (self.client, body[:40], said[:40])
+        return body
+
     def numbers(self, count):
         first, self.next = self.next, self.next + count
         return range(first, first + count)
@@ -98,7 +106,7 @@ class Desk:
         root = lease(self.client, self.until, writes=True)
         self.all([root], LEASED)
         (number,) = self.create(1, [b"d%d" % self.client], DIRECTORY, 0o755)
-        self.all([struct.pack(">BII", 3, self.client, 1)], 5)
+        self.all([struct.pack(">BII", 3, self.client, 1)], DROPPED)
         self.lease(number)
         return number
 
@@ -174,7 +182,7 @@ def wrong_logs(_daemon):
 
 def read_of(daemon):
     desk = Desk(daemon, HOSTILE)
-    return frames.read(desk.file(desk.home(), b"r", 65_536), 0, 65_000)
+    return desk.found(frames.read(desk.file(desk.home(), b"r", 65_536), 0, 65_000))
 
 
 def reads(daemon):
@@ -206,6 +214,7 @@ def wants(daemon):
     desk = Desk(daemon, HOSTILE)
     asked = [desk.lease_call(number) for number in held]
     asked += [lease(desk.client, desk.until, b"/d%d/%04d" % (holder.client, at), True) for at in range(1_000)]
+    desk.all([asked[0], asked[-1]], REFUSED)
     return [Harm("flood", sent(*asked), 6), Harm("idle", sent(b"\xf3" + bytes(8)), 250)]
 
 
@@ -222,6 +231,7 @@ def fill(files, blocks, payload):
             bodies.append(desk.call([Unlink(home, name, FILE)], [NameRow(home, name, 0)], [NodeRow(number, None)]))
             bodies.append(desk.call(entries, [NameRow(home, name, number)], [desk.row(number, FILE, 0o644, size)], pieces))
             bodies.append(desk.lease_call(number))
+        desk.all(bodies[1:2], YES)
         return [Harm("flood", sent(*bodies), 1)]
 
     return made
@@ -231,7 +241,7 @@ def names(daemon):
     desk = Desk(daemon, HOSTILE)
     home = desk.home()
     desk.create(home, [b"%05d" % at for at in range(FEW)])
-    return [flood(frames.names(home, 65_536), 32)]
+    return [flood(desk.found(frames.names(home, 65_536)), 32)]
 
 
 def leases(count, holders, connections):
@@ -243,7 +253,7 @@ def leases(count, holders, connections):
         # Read leases, so that all of them may hold each.
         for it in (HOSTILE, *OTHERS)[:holders]:
             Desk(daemon, it).lease(*held, writes=False)
-        return [flood(frames.leases(0, 0), connections)]
+        return [flood(desk.found(frames.leases(0, 0)), connections)]
 
     return made
 
@@ -280,7 +290,7 @@ def hard_plans(entries_of, connections):
 
     def made(daemon):
         desk = Desk(daemon, HOSTILE)
-        return [flood(frames.plan(encode_log(Log(1, desk.client, entries_of(desk)))), connections)]
+        return [flood(desk.found(frames.plan(encode_log(Log(1, desk.client, entries_of(desk))))), connections)]
 
     return made
 
