@@ -329,8 +329,9 @@ def six(daemon):
 
 
 KINDS = [
-    Kind("over the limit, 64", always(Harm("flood", TOO_LONG, 64))),
-    Kind("over the limit, 250", always(Harm("flood", TOO_LONG, 250))),
+    # of two processes, since to send these costs as much as to pass them over
+    Kind("over the limit, 64", always(*[Harm("flood", TOO_LONG, 32)] * 2)),
+    Kind("over the limit, 250", always(*[Harm("flood", TOO_LONG, 125)] * 2)),
     Kind("junk of 4 MiB, 250", always(flood(junk(4 << 20), 250))),
     Kind("junk of 60,000, 250", always(flood(junk(60_000), 250))),
     Kind("wrong logs of 1 MB", wrong_logs),
