@@ -53,7 +53,7 @@ class Calls:
         for function in source.functions:
             self.by_name.setdefault(function.name, []).append(function)
             self.owned.setdefault((function.owner, function.name), []).append(function)
-        self.types = {it.owner for it in source.functions} | set(source.fields) | set(source.holds)
+        self.types = {it.owner for it in source.functions if it.owner not in it.bounds} | set(source.fields) | set(source.types)
 
     def seen(self, caller, functions):
         """Those that the caller's crate can name."""
@@ -175,7 +175,7 @@ class Locals:
                 at = part.index(":")
                 self.names[part[at - 1]] = part[at + 1 :]
             elif "self" in part:
-                self.names["self"] = (function.owner,)
+                self.names["self"] = whole(function)
         self.learn(function.body)
 
     def learn(self, words):
@@ -300,10 +300,10 @@ class Locals:
         return None
 
     def methods(self, kind, name):
-        """Returns the methods of this name that a type has, or what it holds."""
+        """Returns the methods of this name that a type has, or what it holds. Other impls of the type may have others."""
         while kind:
             head, inner = head_of(list(kind))
-            found = self.calls.owned.get((head, name), ())
+            found = [it for it in self.calls.owned.get((head, name), ()) if self.calls.may_be(it.of, inner)]
             if found:
                 return found
             kind = inner[0] if head in HOLDERS and inner else None
@@ -332,6 +332,12 @@ class Locals:
             return None
         result = results.pop()
         return (found[0].owner,) if result == ("Self",) else result
+
+
+def whole(function):
+    """Returns the type of a method's `self`, with what stands between its angle brackets."""
+    inner = [it for part in function.of for it in (",", *part)][1:]
+    return (function.owner, "<", *inner, ">") if inner else (function.owner,)
 
 
 def plain(kind):

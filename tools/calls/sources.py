@@ -3,6 +3,7 @@ import glob
 import os
 import re
 from dataclasses import dataclass
+from typing import NamedTuple
 
 TOP = os.path.dirname(os.path.dirname(os.path.dirname(os.path.realpath(__file__))))
 
@@ -36,6 +37,15 @@ class Function:
     @property
     def title(self):
         return "::".join(filter(None, [self.crate, self.owner, self.name]))
+
+
+class Type(NamedTuple):
+    """A type of the crates. Types of one name are told apart by where they stand."""
+
+    crate: str
+    file: str
+    module: str
+    name: str
 
 
 def tokens_of(text):
@@ -109,7 +119,7 @@ def bounds_of(words):
 
 
 class Source:
-    """All functions of the crates, the fields of their structs, and the types that each type holds by value."""
+    """All functions of the crates, the fields of their structs, and what each type names that it holds by value."""
 
     def __init__(self, crates):
         self.functions, self.fields, self.variants, self.named, self.holds = [], {}, {}, {}, {}
@@ -119,6 +129,27 @@ class Source:
                 with open(file, encoding="utf-8") as it:
                     tokens = tokens_of(it.read())
                 Reader(self, crate, os.path.relpath(file, TOP), tokens).items(0, len(tokens), "", (), "", {})
+        self.types = {}
+        for it in self.holds:
+            self.types.setdefault(it.name, set()).add(it)
+
+    def held(self, holder):
+        """Returns the types that a type may hold by value."""
+        return set().union(*(self.meant(holder, path, name) for path, name in self.holds[holder]))
+
+    def meant(self, holder, path, name):
+        """Returns the types that a name may mean in the text of a type: of the module or crate before it, else of the holder's own
+        module, of its file, of the crate from which its file brings it, or of its crate. Where none is there, any may be meant."""
+        alike = self.types.get(name, set())
+        crate = self.uses.get((holder.file, path or name))
+        nearest = (
+            {it for it in alike if path and path in (it.crate, it.module)},
+            {it for it in alike if not path and (it.file, it.module) == (holder.file, holder.module)},
+            {it for it in alike if not path and it.file == holder.file},
+            {it for it in alike if it.crate == crate},
+            {it for it in alike if it.crate == holder.crate},
+        )
+        return next(filter(None, nearest), alike)
 
 
 class Reader:
@@ -173,7 +204,7 @@ class Reader:
             end += 1
         crate = self.crate if self.word(at + 1) in ("crate", "self", "super") else self.word(at + 1)
         for name in self.words(at + 2, end):
-            if re.match(r"[a-z_]", name):
+            if re.match(r"[A-Za-z_]", name):
                 self.source.uses[self.file, name] = crate
         return end
 
@@ -214,7 +245,7 @@ class Reader:
         end = closing(self.tokens, opening) if self.word(opening) != ";" else opening
         words = self.words(opening + 1, end)
         inner = words if self.word(at) == "struct" else [it for part in split(words) for it in part[1:]]
-        self.source.holds.setdefault(name, set()).update(held_by_value(inner))
+        self.source.holds[Type(self.crate, self.file, self.module(at), name)] = held_by_value(inner)
         if self.word(at) == "enum":
             for part in split(words):
                 if len(part) > 2 and part[1] == "(":
@@ -263,7 +294,7 @@ class Reader:
 
 
 def held_by_value(words):
-    """Returns the types that stand in the fields, but for those behind a reference."""
+    """Returns the names of types in the fields, each behind the last word of its path, but for those behind a reference."""
     found, skip = set(), False
     for index, word in enumerate(words):
         if word == "&":
@@ -271,5 +302,5 @@ def held_by_value(words):
         elif word in (",", ";", "{", "(") or word == ":":
             skip = False
         elif re.fullmatch(r"[A-Z]\w*", word) and not skip:
-            found.add(word)
+            found.add((words[index - 2] if words[index - 1 : index] == ["::"] else "", word))
     return found
