@@ -28,10 +28,10 @@ sys.exit(1)
 
 
 def linked_kit(room):
-    """Makes a copy of the kit, mostly of links, whose clang keeps the module. Returns the path of the kit and of the copy."""
+    """Makes a copy of the kit, mostly of links, that asks the prover nothing. Returns the path of the kit and of the copy."""
     kit = os.path.dirname(os.path.dirname(os.path.realpath(shutil.which("rt"))))
     copy = f"{room}/kit"
-    for folder, own in (("", {"bin", "toolchain"}), ("bin/", set()), ("toolchain/", {"bin"}), ("toolchain/bin/", {"clang"})):
+    for folder, own in (("", {"bin", "toolchain"}), ("bin/", set()), ("toolchain/", {"bin"}), ("toolchain/bin/", set())):
         os.makedirs(f"{copy}/{folder}", exist_ok=True)
         for name in set(os.listdir(f"{kit}/{folder}")) - own:
             # rt looks for the kit where its own text lies.
@@ -40,10 +40,15 @@ def linked_kit(room):
     # What `rt try` asks the prover meanwhile is only a hint.
     os.remove(f"{copy}/bin/rattle")
     os.symlink("/bin/true", f"{copy}/bin/rattle")
+    return kit, copy
+
+
+def watch_clang(kit, copy, room):
+    """Puts in the place of the copy's clang what keeps the module."""
+    os.remove(f"{copy}/toolchain/bin/clang")
     with open(f"{copy}/toolchain/bin/clang", "w", encoding="utf-8") as it:
         it.write(CLANG.replace("REAL", repr(f"{kit}/toolchain/bin/clang")).replace("ROOM", repr(room)))
     os.chmod(f"{copy}/toolchain/bin/clang", 0o755)
-    return kit, copy
 
 
 def keep_module(crate, copy, room):
@@ -64,6 +69,7 @@ def build_quick(program, uses, room, files=()):
     os.makedirs(room, exist_ok=True)
     crate = copy_with(program, uses, f"{room}/copy", files)
     kit, copy = linked_kit(room)
+    watch_clang(kit, copy, room)
     keep_module(crate, copy, room)
     with open(f"{room}/words", encoding="utf-8") as it:
         words = [word.replace(copy, kit) for word in it.read().split("\n") if word not in ("-O0", "-fsanitize=address")]
