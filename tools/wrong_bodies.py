@@ -91,16 +91,14 @@ def planted(edit, room):
                 it.write(text.replace(old, value))
 
 
-def tried(crate, edit, words, prepare=lambda folder: None):
+def tried(crate, edit, words):
     """Returns what the quick build of a crate says with a wrong body below it. The prover is asked nothing."""
+    how = {"stdin": subprocess.DEVNULL, "stdout": subprocess.PIPE, "stderr": subprocess.STDOUT, "text": True, "errors": "replace"}
     with tempfile.TemporaryDirectory(prefix="wrong-bodies-") as room:
         copy_crates(crates_below(crate), f"{room}/copy")
         planted(edit, f"{room}/copy")
-        folder = f"{room}/copy/crates/{crate}"
-        prepare(folder)
         _, kit = linked_kit(room)
-        ran = subprocess.run([f"{kit}/bin/rt", "try", *words], cwd=folder, stdin=subprocess.DEVNULL, stdout=subprocess.PIPE, stderr=subprocess.STDOUT, text=True, errors="replace", check=False)
-    return ran.stdout
+        return subprocess.run([f"{kit}/bin/rt", "try", *words], cwd=f"{room}/copy/crates/{crate}", check=False, **how).stdout
 
 
 def tests_of(crate, edit):
@@ -114,13 +112,10 @@ def tests_of(crate, edit):
 
 def fails_script(script, edit):
     """Returns whether a script of kfs_rows, run alone as the gate runs it, fails with a wrong body below; None where it didn't run."""
-
-    def alone(folder):
-        for path in glob.glob(f"{folder}/data/*"):
-            if os.path.basename(path).partition(".")[0] != script:
-                os.remove(path)
-
-    said = tried(SCRIPTS, edit, ["--seconds", "120"], alone)
+    words = ["--seconds", "120"]
+    for path in sorted(glob.glob(f"{TOP}/crates/{SCRIPTS}/data/{script}.*")):
+        words += ["--data", f"{os.path.basename(path)}={path}"]
+    said = tried(SCRIPTS, edit, words)
     line = re.search(rf"^{script}: (.*)$", said, re.M)
     if not line:
         print(said[-2_000:], file=sys.stderr)
