@@ -9,6 +9,7 @@ use crate::flight::Flight;
 use crate::folder::{Folder, Found};
 use crate::following::Following;
 use crate::frames::{read_reply, said_again, Head, Reply, CHECKPOINT, CHECKPOINT_MADE, FULL};
+use crate::log;
 use crate::meter::Meter;
 use crate::queue::{Answer, Batch, Sent};
 use crate::store::{Changes, Store};
@@ -310,9 +311,11 @@ impl Desk {
             .args(self.words(lines)?)
             .stdin(Stdio::piped())
             .stdout(Stdio::piped())
+            .stderr(Stdio::piped())
             .kill_on_drop(true)
             .spawn()
             .map_err(|fault| DeskFault::Process(self.program.clone(), fault))?;
+        log::tell_of(child.stderr.take());
         match (child.stdin.take(), child.stdout.take()) {
             (Some(to), Some(from)) => Ok((child, to, from)),
             _ => Err(DeskFault::Process(self.program.clone(), io::ErrorKind::BrokenPipe.into())),

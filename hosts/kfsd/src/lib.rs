@@ -28,6 +28,7 @@ pub mod following;
 pub mod frames;
 pub mod journal;
 pub mod leases;
+pub mod log;
 pub mod meter;
 pub mod metrics;
 pub mod moves;

@@ -3,6 +3,7 @@
 #![forbid(unsafe_code)]
 
 use clap::Parser;
+use kfsd::log::Log;
 use std::path::PathBuf;
 use std::process::ExitCode;
 use tracing::{error, Level};
@@ -28,7 +29,18 @@ struct Words {
 async fn main() -> ExitCode {
     let words = Words::parse();
     let level = if words.verbose { Level::DEBUG } else { Level::INFO };
-    tracing_subscriber::fmt().with_max_level(level).with_writer(std::io::stderr).with_target(false).init();
+    let log = match Log::begin() {
+        Ok(log) => log,
+        Err(_) => return ExitCode::FAILURE,
+    };
+    tracing_subscriber::fmt().with_max_level(level).with_writer(log.clone()).with_target(false).init();
+    Log::tell_panics();
+    let status = run(&words).await;
+    log.end().await;
+    status
+}
+
+async fn run(words: &Words) -> ExitCode {
     let ended = match &words.begin_with {
         Some(from) => kfsd::daemon::begin_with(&words.config, from).await,
         None => kfsd::daemon::run(&words.config).await,

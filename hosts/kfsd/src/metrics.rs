@@ -95,6 +95,7 @@ fn text_of(status: &Status, times: &Times) -> String {
         ("kfsd_own_calls_total", "Calls of kfsd itself that were answered.", status.frames.own),
         ("kfsd_moved_blocks_total", "Blocks that were moved to slower tiers.", status.desk.moved_blocks),
         ("kfsd_kfs_serve_starts_total", "How often kfs_serve was started.", status.kfs_serve.starts),
+        ("kfsd_log_lines_dropped_total", "Lines of the log that were dropped.", status.log_lines_dropped),
     ];
     for (name, help, value) in counts {
         put(&mut text, name, help, "counter", value);

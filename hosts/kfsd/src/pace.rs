@@ -53,6 +53,22 @@ impl Pace {
             sleep(wait).await;
         }
     }
+
+    /// Whether one more may be done at this moment without waiting. It is counted where it may.
+    pub fn may_at(&self, now: Instant) -> bool {
+        let mut state = self.state();
+        let next = state.done.max(now) + state.each;
+        let may = next.duration_since(now) <= state.at_once;
+        if may {
+            state.done = next;
+        }
+        may
+    }
+
+    /// The same now.
+    pub fn may(&self) -> bool {
+        self.may_at(Instant::now())
+    }
 }
 
 #[cfg(test)]
@@ -74,5 +90,12 @@ mod tests {
         pace.set(10, 1);
         assert_eq!(pace.wait_at(now + Duration::from_secs(20)), Duration::ZERO);
         assert_eq!(pace.wait_at(now + Duration::from_secs(20)), Duration::from_millis(100));
+    }
+
+    #[test]
+    fn what_may_not_be_done_is_not_counted() {
+        let (pace, now) = (Pace::new(1000, 2), Instant::now() + Duration::from_secs(1));
+        assert_eq!([(); 4].map(|()| pace.may_at(now)), [true, true, false, false]);
+        assert_eq!([(); 2].map(|()| pace.may_at(now + Duration::from_millis(1))), [true, false]);
     }
 }

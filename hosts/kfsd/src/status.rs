@@ -1,6 +1,7 @@
 //! How kfsd stands, as texts for `kfsctl`.
 
 use crate::connection::Shared;
+use crate::log;
 use crate::wants::Want;
 use serde::{Deserialize, Serialize};
 use std::fmt::Write as _;
@@ -13,6 +14,8 @@ const LISTED: usize = 10_000;
 /// What `kfsctl status` prints.
 #[derive(Debug, Deserialize, Serialize)]
 pub struct Status {
+    /// Lines of the log that were dropped, since standard error wasn't read, couldn't be written, or was to have too many.
+    pub log_lines_dropped: u64,
     pub kfs_serve: DeskStatus,
     pub desk: Standing,
     pub connections: ConnectionStatus,
@@ -85,6 +88,7 @@ pub fn status(shared: &Shared) -> Status {
     });
     let micros = figures.times.sum().as_micros() as u64;
     Status {
+        log_lines_dropped: log::dropped(),
         kfs_serve: DeskStatus {
             process: figures.process.get(),
             is_open: figures.opened.get() == 1,

@@ -193,11 +193,11 @@ class Daemon:
         with open(f"{self.room}/kfsd.toml", "w", encoding="utf-8") as it:
             it.write("\n".join(lines) + "\n")
 
-    def begin(self):
-        """Starts it, without waiting."""
+    def begin(self, told=None):
+        """Starts it, without waiting. It tells its log, or this file."""
         self.put_config()
         with open(self.log, "ab") as log:
-            self.process = subprocess.Popen([f"{self.binaries}/kfsd", *self.words, "--config", f"{self.room}/kfsd.toml"], stdin=subprocess.DEVNULL, stdout=log, stderr=log, user=self.runs_as, group=self.runs_as)
+            self.process = subprocess.Popen([f"{self.binaries}/kfsd", *self.words, "--config", f"{self.room}/kfsd.toml"], stdin=subprocess.DEVNULL, stdout=log, stderr=told or log, user=self.runs_as, group=self.runs_as)
 
     def start(self):
         """Starts it, and waits until clients may connect."""

@@ -4,6 +4,7 @@ use super::base::{Bases, Since};
 use super::group::Group;
 use super::{blocking, ClusterFault};
 use crate::frames::{read_reply, Head, Reply, CHECKPOINT, HEAD};
+use crate::log;
 use crate::users::FRONT;
 use std::ffi::OsString;
 use std::fs;
@@ -57,9 +58,11 @@ impl Replica {
             .args(words)
             .stdin(Stdio::piped())
             .stdout(Stdio::piped())
+            .stderr(Stdio::piped())
             .kill_on_drop(true)
             .spawn()
             .map_err(failed)?;
+        log::tell_of(child.stderr.take());
         let (to, from) = match (child.stdin.take(), child.stdout.take()) {
             (Some(to), Some(from)) => (to, BufReader::new(from)),
             _ => return Err(failed(ErrorKind::BrokenPipe.into())),
