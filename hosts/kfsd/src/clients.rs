@@ -141,6 +141,11 @@ impl Clients {
     }
 }
 
+/// The first of these users that can't be a client beside those before it, and why.
+pub fn wrong_one(users: &[User]) -> Option<(u32, String)> {
+    users.iter().enumerate().find_map(|(at, user)| Some((user.uid, why_not(user, &users[..at])?)))
+}
+
 /// Why a user doesn't become a client.
 fn why_not(user: &User, others: &[User]) -> Option<String> {
     let [first, last] = user.grant;

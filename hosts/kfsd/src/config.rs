@@ -1,5 +1,6 @@
 //! The file that an administrator writes.
 
+use crate::clients::wrong_one;
 use crate::cluster::Settings;
 use crate::frames::{BODY_LIMIT, FOUND_BYTES};
 use crate::users::{User, UsersFault};
@@ -11,6 +12,9 @@ use thiserror::Error;
 
 /// What a head and the bookkeeping of a frame count for, beside its body.
 pub const FRAME_COST: u32 = 256;
+
+/// The most blocks of a tier (docs/FORMATS.md).
+const BLOCKS_LIMIT: u32 = 65_536;
 
 /// Why a configuration isn't taken.
 #[derive(Debug, Error)]
@@ -27,6 +31,10 @@ pub enum ConfigFault {
     NotLocal(SocketAddr),
     #[error(transparent)]
     Users(#[from] UsersFault),
+    #[error("tier {0} has {1} blocks: {BLOCKS_LIMIT} are the most")]
+    Tier(usize, u32),
+    #[error("a desk can't begin with user {0}: {1}")]
+    First(u32, String),
 }
 
 /// The whole file.
@@ -191,8 +199,19 @@ impl Config {
         if let Some(fault) = config.cluster.as_ref().and_then(Settings::fault) {
             return Err(ConfigFault::Limit(fault));
         }
+        if let Some((tier, blocks)) = config.tiers.into_iter().enumerate().find(|(_, blocks)| *blocks > BLOCKS_LIMIT) {
+            return Err(ConfigFault::Tier(tier, blocks));
+        }
         crate::users::check(&config.users)?;
         Ok(config)
+    }
+
+    /// Looks whether a desk can begin with these users. At one that is there, who can't be a client is kept out.
+    pub fn check_first(&self) -> Result<(), ConfigFault> {
+        match wrong_one(&self.users) {
+            Some((uid, why)) => Err(ConfigFault::First(uid, why)),
+            None => Ok(()),
+        }
     }
 }
 
@@ -250,5 +269,26 @@ mod tests {
         assert!(matches!(read(&text), Err(ConfigFault::Limit(_))));
         let text = format!("{SMALL}\n[limits]\nframe_bytes = 100000\nbytes_a_user = 100256");
         assert!(read(&text).is_ok());
+    }
+
+    #[test]
+    fn tiers_and_users_of_a_first_start_are_told_by_name() {
+        assert!(read(&SMALL.replace("16, 64", "65536, 64")).is_ok());
+        let fault = read(&SMALL.replace("16, 64", "65537, 64")).unwrap_err().to_string();
+        assert_eq!(fault, "tier 1 has 65537 blocks: 65536 are the most");
+        let with = |client: u32, grant: &str| {
+            let text = format!("{SMALL}\n[[user]]\nuid = 1001\ngid = 1\nclient = {client}\ngrant = {grant}");
+            read(&text).and_then(|config| config.check_first()).map_err(|fault| fault.to_string())
+        };
+        assert_eq!(with(8, "[100, 65536]"), Ok(()));
+        assert_eq!(with(8, "[1, 0]"), Ok(()));
+        for (client, grant, why) in [
+            (8, "[99, 100]", "a desk can't begin with user 1001: its grant has numbers of client 7"),
+            (8, "[0, 1]", "a desk can't begin with user 1001: its grant begins at 0, or ends above 65,536"),
+            (8, "[100, 65537]", "a desk can't begin with user 1001: its grant begins at 0, or ends above 65,536"),
+            (7, "[100, 101]", "user 1001: client 7 is there twice"),
+        ] {
+            assert_eq!(with(client, grant), Err(why.to_string()), "{client} {grant}");
+        }
     }
 }

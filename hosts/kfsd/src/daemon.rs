@@ -6,13 +6,14 @@ use crate::cluster::member::Member;
 use crate::cluster::term::Term;
 use crate::config::{Config, ConfigFault};
 use crate::connection::Shared;
-use crate::desk::{Desk, DeskFault};
+use crate::desk::{has_files, Desk, DeskFault};
 use crate::docket::Docket;
 use crate::duties;
 use crate::figures::Figures;
-use crate::folder::{Folder, Found};
+use crate::folder::{look_at_owner, Folder};
 use crate::following::Following;
 use crate::frames::CHECKPOINT;
+use crate::journal;
 use crate::metrics;
 use crate::moves;
 use crate::queue::Queue;
@@ -68,7 +69,8 @@ impl DaemonFault {
     /// The exit status: 3 where the desk's files have failed, 4 where `kfs_serve` doesn't run or doesn't end, and else 1.
     pub fn status(&self) -> u8 {
         match self {
-            DaemonFault::Desk(DeskFault::Files | DeskFault::HalfMade(_) | DeskFault::Folder(_) | DeskFault::Store(_)) => 3,
+            DaemonFault::Desk(DeskFault::Files | DeskFault::HalfMade(..) | DeskFault::Gone(..) | DeskFault::Damaged(_)) => 3,
+            DaemonFault::Desk(DeskFault::Folder(_) | DeskFault::Store(_)) => 3,
             DaemonFault::Desk(DeskFault::Fruitless(_) | DeskFault::Keeping(_)) | DaemonFault::Killed | DaemonFault::Task(_) => {
                 4
             }
@@ -132,7 +134,8 @@ fn read_config(path: &Path) -> Result<Config, DaemonFault> {
 
 /// Where the desk is: on this machine alone, or on several.
 enum Place {
-    Alone(Folder),
+    /// With what kfsd itself keeps.
+    Alone(Folder, Store),
     Member(Box<Member>),
 }
 
@@ -146,7 +149,10 @@ impl Place {
     /// The place that a configuration says. A member waits here until etcd answers.
     async fn of(config: &Config, folder: Folder) -> Result<Place, DaemonFault> {
         let settings = match &config.cluster {
-            None => return Ok(Place::Alone(folder)),
+            None => {
+                let store = Store::open(folder.path()).map_err(DeskFault::Store)?;
+                return Ok(Place::Alone(folder, store));
+            }
             Some(settings) => settings,
         };
         let lines = lines_of(&config.users);
@@ -157,33 +163,30 @@ impl Place {
     /// The clients of the desk.
     fn clients(&self, config: &Config) -> Result<Clients, DaemonFault> {
         match self {
-            Place::Alone(folder) => {
-                let failed = |fault| DaemonFault::Io(folder.clients_path(), fault);
-                Ok(Clients::of_desk(folder.clients(&lines_of(&config.users)).map_err(failed)?))
-            }
+            Place::Alone(folder, store) => Ok(Clients::of_desk(clients_in(folder, store, config)?)),
             Place::Member(member) => Ok(Clients::of_volume(member.clients().to_string())),
         }
     }
 
     fn term(&self) -> Term {
         match self {
-            Place::Alone(_) => Term::for_good(),
+            Place::Alone(..) => Term::for_good(),
             Place::Member(_) => Term::not_yet(),
         }
     }
 
-    fn begin(self, config: &Config, clients: &Arc<Clients>) -> Result<Begun, DaemonFault> {
+    fn begin(self, config: &Config, clients: &Arc<Clients>) -> Begun {
         match self {
-            Place::Alone(folder) => Ok(Begun::Alone(Desk {
+            Place::Alone(folder, store) => Begun::Alone(Desk {
                 program: config.program.clone(),
-                store: Arc::new(Mutex::new(open_store(&folder)?)),
+                store: Arc::new(Mutex::new(store)),
                 folder,
                 rows: config.rows,
                 docket: Docket::new(config.rows),
                 tiers: config.tiers,
                 clients: Arc::clone(clients),
-            })),
-            Place::Member(member) => Ok(Begun::Member(member)),
+            }),
+            Place::Member(member) => Begun::Member(member),
         }
     }
 }
@@ -205,7 +208,7 @@ impl Daemon {
             thread: Arc::default(),
         });
         shared.following.wants().set_time(Duration::from_secs(config.duties.wanted_seconds));
-        let desk = place.begin(&config, &clients)?;
+        let desk = place.begin(&config, &clients);
         let of_desk = Arc::clone(&shared);
         let desk = tokio::spawn(async move {
             let ended = match desk {
@@ -336,14 +339,20 @@ fn rules_of(config: &Config, clients: &Clients, before: &Table) -> Rules {
     Rules { limits: config.limits, duties: config.duties, table }
 }
 
-/// Opens what kfsd itself keeps. A desk that isn't there yet has nothing of it.
-fn open_store(folder: &Folder) -> Result<Store, DaemonFault> {
-    let is_new = folder.files().map_err(DeskFault::Folder)? == Found::None;
-    Ok(Store::open(folder.path(), is_new).map_err(DeskFault::Store)?)
+/// The lines of the clients of a desk, as its files have them. A first start puts those of the configuration in place.
+fn clients_in(folder: &Folder, store: &Store, config: &Config) -> Result<String, DaemonFault> {
+    if has_files(folder, store.had_desk())? {
+        return Ok(journal::clients(folder.path()).map_err(DeskFault::Folder)?.unwrap_or_default());
+    }
+    config.check_first()?;
+    let lines = lines_of(&config.users);
+    folder.keep_clients(&lines).map_err(|fault| DaemonFault::Io(folder.clients_path(), fault))?;
+    Ok(lines)
 }
 
 /// Locks the folder. The `kfs_serve` of a daemon that was killed ends soon, since its input has ended.
 async fn lock(config: &Config) -> Result<Folder, DaemonFault> {
+    look_at_owner(&config.folder).map_err(|fault| DaemonFault::Io(config.folder.clone(), fault))?;
     let waiting = async {
         loop {
             match Folder::lock(&config.folder) {

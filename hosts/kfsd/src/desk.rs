@@ -6,13 +6,14 @@ use crate::cluster::ClusterFault;
 use crate::connection::Shared;
 use crate::docket::Docket;
 use crate::flight::Flight;
-use crate::folder::{Folder, Found};
+use crate::folder::{Folder, Found, FILES};
 use crate::following::Following;
 use crate::frames::{read_reply, said_again, Head, Reply, CHECKPOINT, CHECKPOINT_MADE, FULL};
+use crate::journal;
 use crate::log;
 use crate::meter::Meter;
 use crate::queue::{Answer, Batch, Sent};
-use crate::store::{Changes, Store};
+use crate::store::{Changes, Store, StoreFault};
 use crate::times;
 use crate::users::FRONT;
 use std::collections::{HashMap, HashSet, VecDeque};
@@ -49,20 +50,32 @@ pub enum DeskFault {
     Process(PathBuf, io::Error),
     #[error("the folder: {0}")]
     Folder(io::Error),
-    #[error("{0} has one of the two files. A crash has cut the first start short: where nothing was ever answered, remove it")]
-    HalfMade(PathBuf),
+    #[error(
+        "a crash has cut the first start in {0} short: where no call was ever answered, remove {1}, else go back to a copy"
+    )]
+    HalfMade(PathBuf, &'static str),
+    #[error("{0} has had a desk, and {1} gone: put back both files of a copy. A new desk begins in an empty folder")]
+    Gone(PathBuf, &'static str),
+    #[error("neither first.kdjl nor second.kdjl in {0} is whole: keep them, and go back to a copy (docs/OPERATIONS.md)")]
+    Damaged(PathBuf),
     #[error("kfs_serve takes neither its words nor its clients (status {0})")]
     Words(i32),
     #[error("the files of the desk, or their disk, have failed (status 3 of kfs_serve): see docs/OPERATIONS.md")]
     Files,
-    #[error("kfsd.sqlite: {0}")]
-    Store(#[from] rusqlite::Error),
+    #[error(transparent)]
+    Store(#[from] StoreFault),
     #[error("kfsd itself: {0}")]
     Keeping(tokio::task::JoinError),
     #[error("{FRUITLESS} processes of kfs_serve have ended one after another without an answer; the last one: {0}")]
     Fruitless(ExitStatus),
     #[error(transparent)]
     Cluster(#[from] ClusterFault),
+}
+
+impl From<rusqlite::Error> for DeskFault {
+    fn from(fault: rusqlite::Error) -> DeskFault {
+        DeskFault::Store(fault.into())
+    }
 }
 
 /// What a start of `kfs_serve` takes.
@@ -101,6 +114,23 @@ struct Ended {
     left: VecDeque<Sent>,
 }
 
+/// Whether the files of a desk are there for `kfs_serve` to be opened. False where there was never a desk: they may be made.
+pub fn has_files(folder: &Folder, had_desk: bool) -> Result<bool, DeskFault> {
+    const BOTH: &str = "first.kdjl and second.kdjl";
+    let [_, second] = FILES;
+    let path = || folder.path().to_path_buf();
+    match (folder.files().map_err(DeskFault::Folder)?, had_desk) {
+        (Found::None, false) => Ok(false),
+        (Found::None, true) => Err(DeskFault::Gone(path(), "both first.kdjl and second.kdjl are")),
+        (Found::One(name), false) => Err(DeskFault::HalfMade(path(), name)),
+        (Found::One(name), true) if name == second => Err(DeskFault::Gone(path(), "first.kdjl is")),
+        (Found::One(_), true) => Err(DeskFault::Gone(path(), "second.kdjl is")),
+        (Found::Both, _) if journal::counting(folder.path()).map_err(DeskFault::Folder)?.is_some() => Ok(true),
+        (Found::Both, false) => Err(DeskFault::HalfMade(path(), BOTH)),
+        (Found::Both, true) => Err(DeskFault::Damaged(path())),
+    }
+}
+
 impl Desk {
     /// Has `kfs_serve` answer the calls of the queue, until the queue is closed and empty. `ready` becomes true when the
     /// files are open for the first time.
@@ -137,8 +167,17 @@ impl Desk {
 
     /// The lines of the clients that a start takes, where there are new ones. The first start takes all that are listed anyway.
     fn new_clients(&self) -> Result<Option<String>, DeskFault> {
-        let has_files = self.folder.files().map_err(DeskFault::Folder)? == Found::Both;
-        Ok(if has_files { self.clients.wanted() } else { None })
+        Ok(if self.has_files()? { self.clients.wanted() } else { None })
+    }
+
+    fn has_files(&self) -> Result<bool, DeskFault> {
+        has_files(&self.folder, locked(&self.store).had_desk())
+    }
+
+    /// Notes that there is a desk, before a client is answered.
+    async fn note(&self) -> Result<(), DeskFault> {
+        let store = Arc::clone(&self.store);
+        beside(move || Ok(locked(&store).note_desk()?)).await
     }
 
     /// Whether the clients that a process was to take are kept out from now on, since it has ended so before it had begun.
@@ -217,6 +256,7 @@ impl Desk {
         let has_begun = is_open(&mut to, &mut from).await;
         let mut done = None;
         if has_begun {
+            self.note().await?;
             info!("kfs_serve is ready");
             figures.opened.set(1);
             if let Some(lines) = lines {
@@ -326,22 +366,17 @@ impl Desk {
     fn words(&self, lines: Option<&str>) -> Result<Vec<OsString>, DeskFault> {
         let folder = self.folder.path();
         let mut words: Vec<OsString> = vec!["open".into(), folder.into(), self.rows.to_string().into()];
-        match self.folder.files().map_err(DeskFault::Folder)? {
-            Found::Both => {
-                if let Some(lines) = lines {
-                    self.folder.keep_clients(lines).map_err(DeskFault::Folder)?;
-                    words.extend(["--clients".into(), self.folder.clients_path().into()]);
-                }
-                Ok(words)
+        if self.has_files()? {
+            if let Some(lines) = lines {
+                self.folder.keep_clients(lines).map_err(DeskFault::Folder)?;
+                words.extend(["--clients".into(), self.folder.clients_path().into()]);
             }
-            Found::One => Err(DeskFault::HalfMade(folder.to_path_buf())),
-            Found::None => {
-                words[0] = "new".into();
-                words.push(self.folder.clients_path().into());
-                words.extend(self.tiers.iter().map(|blocks| blocks.to_string().into()));
-                Ok(words)
-            }
+        } else {
+            words[0] = "new".into();
+            words.push(self.folder.clients_path().into());
+            words.extend(self.tiers.iter().map(|blocks| blocks.to_string().into()));
         }
+        Ok(words)
     }
 }
 

@@ -3,12 +3,12 @@
 //! kfsd writes nothing to them. What it reads here `kfs_serve` opens behind it, and refuses where it is wrong.
 
 use crate::bytes::Bytes;
-use crate::folder::FILES;
+use crate::folder::{self, FILES};
 use crate::leases::{Lease, Leases};
 use crate::users::{lines_of, User};
-use std::fs::File;
+use std::fs::{File, OpenOptions};
 use std::io::{self, BufReader, ErrorKind, Read, Seek, SeekFrom};
-use std::path::Path;
+use std::path::{Path, PathBuf};
 
 /// How many bytes stand before the state of a file.
 pub const HEAD: usize = 21;
@@ -25,12 +25,15 @@ pub enum Part<'a> {
 
 /// A file whose head is whole.
 struct Whole {
+    path: PathBuf,
     number: u64,
     file: BufReader<File>,
     /// Where the file ends.
     end: u64,
     /// Where the first record begins.
     records: u64,
+    /// How many bytes of the state aren't read yet.
+    left: u64,
 }
 
 /// Reads both files. The calls of the file that counted before come first, where they lead to the state of the one that counts.
@@ -83,35 +86,51 @@ pub fn counting(folder: &Path) -> io::Result<Option<(File, u64)>> {
 impl Whole {
     /// Opens a file; none where it isn't there, or its head isn't whole.
     fn open(path: &Path) -> io::Result<Option<Whole>> {
-        let file = match File::open(path) {
-            Ok(file) => file,
-            Err(fault) if fault.kind() == ErrorKind::NotFound => return Ok(None),
-            Err(fault) => return Err(fault),
-        };
+        if !folder::is_there(path)? {
+            return Ok(None);
+        }
+        let file = folder::open(path, OpenOptions::new().read(true))?;
         let end = file.metadata()?.len();
         let mut file = BufReader::with_capacity(BUFFER, file);
         if end < HEAD as u64 {
             return Ok(None);
         }
         let mut head = [0; HEAD];
-        file.read_exact(&mut head)?;
+        file.read_exact(&mut head).map_err(|fault| folder::at(path, fault))?;
         let mut bytes = Bytes(&head);
         let is_whole = bytes.take(4) == Some(b"KDJL");
         let number = bytes.long().unwrap_or(0);
         let is_open = bytes.byte() == Some(1);
         let records = bytes.long().and_then(|length| length.checked_add(HEAD as u64)).filter(|at| *at <= end);
-        Ok(records.filter(|_| is_whole && is_open).map(|records| Whole { number, file, end, records }))
+        let whole = |records| {
+            let (path, left) = (path.to_path_buf(), records - HEAD as u64);
+            Whole { path, number, file, end, records, left }
+        };
+        Ok(records.filter(|_| is_whole && is_open).map(whole))
     }
 
     fn take(&mut self, count: usize) -> io::Result<Vec<u8>> {
         let mut bytes = vec![0; count];
-        self.file.read_exact(&mut bytes)?;
+        self.file.read_exact(&mut bytes).map_err(|fault| folder::at(&self.path, fault))?;
         Ok(bytes)
+    }
+
+    /// So many bytes of the state. Where it has no more of them, a count in it is wrong.
+    fn take_state(&mut self, count: usize) -> io::Result<Vec<u8>> {
+        match self.left.checked_sub(count as u64) {
+            Some(left) => self.left = left,
+            None => {
+                let fault =
+                    io::Error::new(ErrorKind::InvalidData, "its state is damaged: it has more clients or leases than bytes");
+                return Err(folder::at(&self.path, fault));
+            }
+        }
+        self.take(count)
     }
 
     /// The moment of the state, and how many clients and leases it has. The file stands at the state.
     fn state_head(&mut self) -> io::Result<(u64, u32, u32)> {
-        let head = self.take(HEAD)?;
+        let head = self.take_state(HEAD)?;
         let mut bytes = Bytes(&head[5..]);
         Ok((bytes.long().unwrap_or(0), bytes.word().unwrap_or(0), bytes.word().unwrap_or(0)))
     }
@@ -120,8 +139,8 @@ impl Whole {
     fn clients(&mut self, count: u32) -> io::Result<Vec<User>> {
         let mut found = Vec::new();
         for _ in 0..count {
-            let row = self.take(22)?;
-            let groups = self.take(4 * usize::from(row[21]))?;
+            let row = self.take_state(22)?;
+            let groups = self.take_state(4 * usize::from(row[21]))?;
             found.extend(client_of(&row, &groups));
         }
         Ok(found)
@@ -133,7 +152,7 @@ impl Whole {
         self.clients(clients)?;
         let mut found = Leases::at(moment);
         for _ in 0..leases {
-            let row = self.take(17)?;
+            let row = self.take_state(17)?;
             let mut bytes = Bytes(&row);
             if let (Some(node), Some(client), Some(kind), Some(end)) = (bytes.word(), bytes.word(), bytes.byte(), bytes.long())
             {
@@ -252,6 +271,20 @@ mod tests {
         other[12] = 0;
         std::fs::write(room.0.join(FILES[0]), &other).unwrap();
         assert_eq!(clients(&room.0).unwrap().unwrap(), "client 7 1 1 0 2 9 5\n");
+    }
+
+    #[test]
+    fn a_count_that_is_too_great_is_told_with_its_file() {
+        let room = Room::new("counts");
+        let whole = file(5, 1, &[&[b'a'; 5_000]]);
+        // the last bytes of the counts of clients and of leases, and that of a client's groups
+        for place in [HEAD + 16, HEAD + 20, HEAD + 42] {
+            let mut wrong = whole.clone();
+            wrong[place] = 200;
+            std::fs::write(room.0.join(FILES[1]), &wrong).unwrap();
+            let fault = read(&room.0, |_| {}).unwrap_err().to_string();
+            assert!(fault.contains("second.kdjl: its state is damaged"), "{fault}");
+        }
     }
 
     #[test]

@@ -190,7 +190,8 @@ mod tests {
         let before = dropped();
         let long = vec![b'x'; WAITING_BYTES / 4];
         (0..6).for_each(|_| log.put(&long));
-        assert_eq!(dropped() - before, 2);
+        // other tests drop some, too
+        assert!(dropped() - before >= 2);
         (0..4).for_each(|_| read.send(()).unwrap());
         log.end().await;
         assert_eq!(written.try_iter().count(), 4);
@@ -198,7 +199,8 @@ mod tests {
         log.put(b"a");
         drop(read);
         log.end().await;
-        assert_eq!((dropped() - before, log.waiting.load(Ordering::Acquire)), (3, 0));
+        assert!(dropped() - before >= 3);
+        assert_eq!(log.waiting.load(Ordering::Acquire), 0);
     }
 
     #[tokio::test]

@@ -1,12 +1,20 @@
 //! What kfsd itself keeps: a file of SQLite beside the files of the desk.
 
+use crate::folder::{at, is_there, open};
 use crate::times::Stamp;
-use rusqlite::{params, Connection};
+use rusqlite::{params, Connection, OpenFlags};
 use std::collections::HashMap;
+use std::fs::{self, OpenOptions, Permissions};
+use std::io;
+use std::os::unix::fs::{OpenOptionsExt, PermissionsExt};
 use std::path::Path;
+use thiserror::Error;
 
 /// The file's name in the folder of the desk.
 pub const NAME: &str = "kfsd.sqlite";
+
+/// Who may read and write it: its owner.
+const MODE: u32 = 0o600;
 
 /// What becomes of a numbered call that has been answered.
 #[derive(Clone, Debug, PartialEq, Eq)]
@@ -38,6 +46,8 @@ impl Changes {
 #[derive(Debug)]
 pub struct Store {
     connection: Connection,
+    /// Whether there was a desk in the folder, by the file and since.
+    had_desk: bool,
     /// Whether changes were lost, since they couldn't be kept. No others are kept then.
     has_failed: bool,
 }
@@ -54,17 +64,65 @@ const TABLES: &str = "
     );
     CREATE TABLE IF NOT EXISTS running (is_running INTEGER NOT NULL);
     CREATE TABLE IF NOT EXISTS time (node INTEGER PRIMARY KEY, modified INTEGER NOT NULL);
+    CREATE TABLE IF NOT EXISTS desk (was_open INTEGER NOT NULL);
 ";
 
-impl Store {
-    /// Opens the file in a folder, or makes it. Where the desk is a new one, what is kept is another's and goes.
-    pub fn open(folder: &Path, is_new: bool) -> rusqlite::Result<Store> {
-        let connection = Connection::open(folder.join(NAME))?;
-        connection.execute_batch(TABLES)?;
-        if is_new {
-            connection.execute_batch("DELETE FROM outcome; DELETE FROM stamp; DELETE FROM running; DELETE FROM time;")?;
+/// What only a desk leaves. A file of an older kfsd doesn't say itself that there was one.
+const TRACES: &str = "
+    SELECT EXISTS (SELECT * FROM desk) OR EXISTS (SELECT * FROM outcome) OR EXISTS (SELECT * FROM stamp) OR EXISTS (SELECT * FROM time)
+";
+
+/// Why the file can't be opened.
+#[derive(Debug, Error)]
+pub enum StoreFault {
+    #[error("kfsd.sqlite: {0}")]
+    Sqlite(#[from] rusqlite::Error),
+    #[error(transparent)]
+    Io(#[from] io::Error),
+}
+
+/// Sees to it that the file and those beside it are regular ones and their owner's alone. SQLite gives those that it makes
+/// the mode of the file.
+fn guard(folder: &Path) -> io::Result<()> {
+    open(&folder.join(NAME), OpenOptions::new().create(true).truncate(false).write(true).mode(MODE))?;
+    for name in [NAME.to_string(), format!("{NAME}-wal"), format!("{NAME}-shm")] {
+        let path = folder.join(name);
+        if is_there(&path)? {
+            let file = open(&path, OpenOptions::new().read(true))?;
+            file.set_permissions(Permissions::from_mode(MODE)).map_err(|fault| at(&path, fault))?;
         }
-        Ok(Store { connection, has_failed: false })
+    }
+    Ok(())
+}
+
+impl Store {
+    /// Opens the file in a folder, or makes it.
+    pub fn open(folder: &Path) -> Result<Store, StoreFault> {
+        guard(folder)?;
+        // Of the whole path no part may be a link then.
+        let folder = fs::canonicalize(folder)?;
+        let connection =
+            Connection::open_with_flags(folder.join(NAME), OpenFlags::default() | OpenFlags::SQLITE_OPEN_NOFOLLOW)?;
+        connection.execute_batch(TABLES)?;
+        let had_desk = connection.query_row(TRACES, [], |row| row.get(0))?;
+        Ok(Store { connection, had_desk, has_failed: false })
+    }
+
+    /// Whether a desk was open in the folder.
+    pub fn had_desk(&self) -> bool {
+        self.had_desk
+    }
+
+    /// Says that a desk is open in the folder. Behind the answer this is on the disk.
+    pub fn note_desk(&mut self) -> rusqlite::Result<()> {
+        let all = self.connection.transaction()?;
+        let count: u32 = all.query_row("SELECT count(*) FROM desk", [], |row| row.get(0))?;
+        if count == 0 {
+            all.execute("INSERT INTO desk (was_open) VALUES (1)", [])?;
+        }
+        all.commit()?;
+        self.had_desk = true;
+        Ok(())
     }
 
     /// All outcomes, those first that were kept first.
@@ -153,6 +211,7 @@ fn put_stamps(all: &Connection, stamps: &HashMap<u32, Option<Stamp>>) -> rusqlit
 mod tests {
     use super::*;
     use crate::folder::tests::Room;
+    use std::os::unix::fs::symlink;
 
     fn outcome(client: u32, number: u64) -> Outcome {
         Outcome { client, number, answer: vec![1, 0] }
@@ -161,31 +220,66 @@ mod tests {
     #[test]
     fn what_is_kept_is_there_at_the_next_opening() {
         let room = Room::new("store");
-        let mut store = Store::open(&room.0, true).unwrap();
+        let mut store = Store::open(&room.0).unwrap();
         let outcomes = vec![outcome(7, u64::MAX), outcome(8, 1), outcome(7, 2)];
         store.keep(&Changes { outcomes: outcomes.clone(), ..Changes::default() }).unwrap();
         drop(store);
-        let mut store = Store::open(&room.0, false).unwrap();
+        let mut store = Store::open(&room.0).unwrap();
         assert_eq!(store.outcomes().unwrap(), outcomes);
         store
             .keep(&Changes { outcomes: vec![outcome(7, 3)], forgotten: vec![(7, u64::MAX), (9, 1)], ..Changes::default() })
             .unwrap();
         assert_eq!(store.outcomes().unwrap(), [outcome(8, 1), outcome(7, 2), outcome(7, 3)]);
-        drop(store);
-        assert_eq!(Store::open(&room.0, true).unwrap().outcomes().unwrap(), []);
     }
+
+    #[test]
+    fn a_desk_is_noted_and_leaves_traces() {
+        let (room, other) = (Room::new("desk"), Room::new("other"));
+        let mut store = Store::open(&room.0).unwrap();
+        store.begin().unwrap();
+        drop(store);
+        // a first start that was cut short
+        let mut store = Store::open(&room.0).unwrap();
+        assert!(!store.had_desk());
+        store.note_desk().unwrap();
+        assert!(store.had_desk());
+        drop(store);
+        assert!(Store::open(&room.0).unwrap().had_desk());
+        let mut older = Store::open(&other.0).unwrap();
+        older.keep(&Changes { outcomes: vec![outcome(7, 1)], ..Changes::default() }).unwrap();
+        drop(older);
+        assert!(Store::open(&other.0).unwrap().had_desk());
+    }
+
+    #[test]
+    fn the_files_are_their_owners_alone() {
+        let room = Room::new("modes");
+        let mode_of = |name: &str| fs::metadata(room.0.join(name)).unwrap().permissions().mode() & 0o777;
+        fs::write(room.0.join(NAME), "").unwrap();
+        fs::set_permissions(room.0.join(NAME), Permissions::from_mode(0o644)).unwrap();
+        let mut store = Store::open(&room.0).unwrap();
+        store.note_desk().unwrap();
+        for name in ["kfsd.sqlite", "kfsd.sqlite-wal", "kfsd.sqlite-shm"] {
+            assert_eq!(mode_of(name), MODE, "{name}");
+        }
+        drop(store);
+        fs::rename(room.0.join(NAME), room.0.join("other")).unwrap();
+        symlink("other", room.0.join(NAME)).unwrap();
+        assert!(Store::open(&room.0).unwrap_err().to_string().ends_with("kfsd.sqlite isn't a regular file"));
+    }
+
     #[test]
     fn stamps_are_kept_and_taken() {
         let room = Room::new("stamps");
         let set = |time| Some(time).filter(|time| *time == 6);
         let stamp = |time| Some(Stamp { modified: time, changed: time + 1, moved: time - 1, set: set(time) });
-        let mut store = Store::open(&room.0, true).unwrap();
+        let mut store = Store::open(&room.0).unwrap();
         assert!(!store.begin().unwrap());
         let stamps = HashMap::from([(1, stamp(5)), (u32::MAX, stamp(6)), (3, None)]);
         store.keep(&Changes { stamps, ..Changes::default() }).unwrap();
         store.keep(&Changes { stamps: HashMap::from([(1, None)]), ..Changes::default() }).unwrap();
         drop(store);
-        let mut store = Store::open(&room.0, false).unwrap();
+        let mut store = Store::open(&room.0).unwrap();
         assert_eq!(store.stamps().unwrap(), [(u32::MAX, stamp(6).unwrap())]);
         assert!(store.begin().unwrap());
         store.end().unwrap();

@@ -69,8 +69,8 @@ impl User {
 pub enum UsersFault {
     #[error("user {0} is there twice")]
     TwiceUid(u32),
-    #[error("client {0} is there twice")]
-    TwiceClient(u32),
+    #[error("user {0}: client {1} is there twice")]
+    TwiceClient(u32, u32),
     #[error("user {0}: client {FRONT} is the front")]
     Front(u32),
     #[error("user {0} has more than 16 groups")]
@@ -85,7 +85,7 @@ pub fn check(users: &[User]) -> Result<(), UsersFault> {
             return Err(UsersFault::TwiceUid(user.uid));
         }
         if !clients.insert(user.client) {
-            return Err(UsersFault::TwiceClient(user.client));
+            return Err(UsersFault::TwiceClient(user.uid, user.client));
         }
         if user.client == FRONT {
             return Err(UsersFault::Front(user.uid));
@@ -248,7 +248,7 @@ mod tests {
     fn two_of_one_kind_are_refused() {
         assert_eq!(check(&[user(1, 7), user(2, 8)]), Ok(()));
         assert_eq!(check(&[user(1, 7), user(1, 8)]), Err(UsersFault::TwiceUid(1)));
-        assert_eq!(check(&[user(1, 7), user(2, 7)]), Err(UsersFault::TwiceClient(7)));
+        assert_eq!(check(&[user(1, 7), user(2, 7)]), Err(UsersFault::TwiceClient(2, 7)));
         assert_eq!(check(&[user(1, FRONT)]), Err(UsersFault::Front(1)));
         let many = User { groups: vec![1; 17], ..user(1, 7) };
         assert_eq!(check(&[many]), Err(UsersFault::Groups(1)));

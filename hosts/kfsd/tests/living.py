@@ -165,8 +165,14 @@ def wrong_configurations(made):
         assert daemon.ended() == 1 and "can't be run" in daemon.said()
     with Daemon(*made, users=[user(1, 7, (0, 0))]) as daemon:
         daemon.begin()
-        assert daemon.ended() == 1 and "status 1" in daemon.said()
+        assert daemon.ended() == 1 and "user 1: its grant begins at 0" in daemon.said()
         assert os.listdir(daemon.folder) and "first.kdjl" not in os.listdir(daemon.folder)
+    with Daemon(*made, users=[user(1, 7, (2, 9)), user(2, 8, (9, 10))]) as daemon:
+        daemon.begin()
+        assert daemon.ended() == 1 and "user 2: its grant has numbers of client 7" in daemon.said()
+    with Daemon(*made, tiers=(64, 64, 65537)) as daemon:
+        daemon.begin()
+        assert daemon.ended() == 1 and "tier 2 has 65537 blocks" in daemon.said()
 
 
 def files_that_failed_end_it(made):
@@ -176,18 +182,6 @@ def files_that_failed_end_it(made):
         seven.send(1, lease(7, 10))
         assert seven.reply().refusal == ("Unknown", 0) and seven.is_ended()
         assert daemon.ended() == 3 and "have failed" in daemon.said()
-
-
-def files_that_are_not_whole_end_it(made):
-    """One of the two files, two empty ones, or files without the list of their clients: kfsd says so and touches nothing."""
-    for names, status, word in ((["clients", "first.kdjl"], 3, "one of the two files"), (["first.kdjl", "second.kdjl", "clients"], 3, "have failed"), (["first.kdjl", "second.kdjl"], 1, "clients: No such file")):
-        with Daemon(*made) as daemon:
-            for name in names:
-                with open(f"{daemon.folder}/{name}", "wb"):
-                    pass
-            daemon.begin()
-            assert daemon.ended() == status and word in daemon.said(), (names, status)
-            assert set(os.listdir(daemon.folder)) - {"kfsd.sqlite"} == {*names, "lock"}
 
 
 def a_desk_that_never_opens_ends_it(made):
@@ -229,6 +223,6 @@ def stops_before_it_is_open(made):
 
 TESTS = [
     runs_without_privilege, stops_cleanly, stops_in_time, sockets_are_guarded, one_daemon_a_folder, the_example_is_right, users_are_read_anew, wrong_configurations,
-    files_that_failed_end_it, files_that_are_not_whole_end_it, a_desk_that_never_opens_ends_it, a_desk_that_talks_nonsense_is_replaced, a_desk_that_hangs_is_killed_at_the_end,
+    files_that_failed_end_it, a_desk_that_never_opens_ends_it, a_desk_that_talks_nonsense_is_replaced, a_desk_that_hangs_is_killed_at_the_end,
     stops_before_it_is_open,
 ]

@@ -286,11 +286,20 @@ class Daemon:
         return [call for call in kept_in(self.folder)[1] if call[0] not in FRONTS]
 
 
-def pretender(daemon, text):
+# What it does first: a first start makes the two files, whose state has neither clients nor leases.
+MAKING = """
+if sys.argv[1] == "new":
+    for name in ("first.kdjl", "second.kdjl"):
+        with open(f"{sys.argv[2]}/{name}", "xb") as it:
+            it.write(b"KDJL" + bytes(8) + b"\\1" + struct.pack(">Q", 21) + b"KDSK\\1" + bytes(16))
+"""
+
+
+def pretender(daemon, text, makes=True):
     """Has a script stand where kfs_serve does."""
     daemon.program = f"{daemon.room}/pretender"
     with open(daemon.program, "w", encoding="utf-8") as it:
-        it.write(f"#!{sys.executable}\nimport os, struct, sys, time\n{text}\n")
+        it.write(f"#!{sys.executable}\nimport os, struct, sys, time\n{MAKING if makes else ''}{text}\n")
     os.chmod(daemon.program, 0o755)
     return daemon
 

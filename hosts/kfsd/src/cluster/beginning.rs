@@ -76,7 +76,7 @@ fn take_in(from: &Path, is_own: bool, to: &Path, following: &Following) -> Resul
                 }
             }
             drop(lock);
-            let mut store = Store::open(to, false).map_err(|fault| fault.to_string())?;
+            let mut store = Store::open(to).map_err(|fault| fault.to_string())?;
             desk::recall(to, &mut store, following).map_err(|fault| fault.to_string())?;
             Ok(following.leases().moment)
         }

@@ -12,7 +12,7 @@ use super::{blocking, ClusterFault, Settings};
 use crate::calls::Note;
 use crate::config::Config;
 use crate::connection::Shared;
-use crate::folder::{Folder, Found};
+use crate::folder::{look_at_owner, Folder, Found};
 use crate::outcomes::Finder;
 use crate::queue::Queue;
 use crate::sockets::Sockets;
@@ -377,6 +377,7 @@ async fn begin(volume: &Volume, wanted: &str, folder: &Folder) -> Result<String,
 fn lock_other(path: &Path) -> Result<Folder, ClusterFault> {
     let failed = |fault| ClusterFault::Path(path.to_path_buf(), fault);
     let taken = || failed(io::Error::new(io::ErrorKind::AlreadyExists, "another kfsd has it"));
+    look_at_owner(path).map_err(failed)?;
     Folder::lock(path).map_err(failed)?.ok_or_else(taken)
 }
 
