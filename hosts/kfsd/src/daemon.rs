@@ -53,6 +53,8 @@ pub enum DaemonFault {
     Locked(PathBuf),
     #[error("{0} isn't a socket")]
     NotASocket(PathBuf),
+    #[error("{0}: another program listens there, as another kfsd would")]
+    InUse(PathBuf),
     #[error("at most {0} files may be open, and {1} connections are allowed: raise the one or lower connections_a_user")]
     Files(u64, u64),
     #[error("signals: {0}")]
@@ -102,6 +104,8 @@ struct Daemon {
 pub async fn run(path: &Path) -> Result<(), DaemonFault> {
     let config = read_config(path)?;
     let folder = lock(&config).await?;
+    // They are bound once the desk is open. What is wrong with them is told before it is made.
+    Sockets::look_at(&config.socket, &config.control)?;
     let mut signals = Signals::new().map_err(DaemonFault::Signals)?;
     let place = tokio::select! {
         place = Place::of(&config, folder) => place?,

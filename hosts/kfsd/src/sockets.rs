@@ -6,58 +6,155 @@ use crate::daemon::DaemonFault;
 use crate::frames::Refusal;
 use crate::pace::Pace;
 use crate::peer::{is_closed, uid_of};
+use nix::errno::Errno;
+use nix::sys::socket::{connect, socket, AddressFamily, SockFlag, SockType, UnixAddr};
+use nix::unistd::{access, close, AccessFlags};
 use std::fs::{self, Permissions};
 use std::io::{self, Write};
-use std::os::unix::fs::{FileTypeExt, PermissionsExt};
+use std::os::unix::fs::{FileTypeExt, MetadataExt, PermissionsExt};
 use std::os::unix::io::AsRawFd;
 use std::path::{Path, PathBuf};
-use std::sync::Arc;
+use std::sync::{Arc, Mutex, MutexGuard, PoisonError};
 use std::time::{Duration, Instant};
 use tokio::net::{UnixListener, UnixStream};
 use tokio::task::{yield_now, JoinSet};
-use tokio::time::{sleep, sleep_until};
+use tokio::time::{sleep, sleep_until, timeout_at};
 use tracing::warn;
 
 /// How long a listener rests where the system has no descriptor left.
 const REST: Duration = Duration::from_millis(100);
+
+/// How often kfsd looks whether a socket is there still.
+const LOOK: Duration = Duration::from_secs(1);
 
 /// How many connections kfsd refuses a second, and how many at once. Behind more of them it takes none for a while, and who
 /// connects again and again waits in the kernel's line.
 const REFUSALS: u32 = 4_000;
 const REFUSED_AT_ONCE: u32 = 10;
 
-/// A socket of a path, which goes with it.
+/// A socket of a path, which goes with it. Where its path is removed it is made anew.
 pub struct Socket {
-    listener: UnixListener,
     path: PathBuf,
+    mode: u32,
+    place: Mutex<Place>,
+}
+
+/// What stands at the path of a socket.
+struct Place {
+    listener: Arc<UnixListener>,
+    /// The device and the number of its file. The listener keeps the number from being another one's.
+    file: (u64, u64),
+    /// When it is looked at again.
+    due: Instant,
+    /// Why it couldn't be made anew.
+    fault: Option<String>,
+}
+
+/// Looks whether a path can be bound: nobody else may listen there.
+fn look_at(path: &Path) -> Result<(), DaemonFault> {
+    let failed = |fault| DaemonFault::Io(path.to_path_buf(), fault);
+    let folder = path.parent().unwrap_or_else(|| Path::new("/"));
+    access(folder, AccessFlags::W_OK | AccessFlags::X_OK).map_err(|errno| failed(errno.into()))?;
+    match fs::symlink_metadata(path) {
+        Ok(found) if !found.file_type().is_socket() => return Err(DaemonFault::NotASocket(path.to_path_buf())),
+        Err(fault) if fault.kind() != io::ErrorKind::NotFound => return Err(failed(fault)),
+        _ => {}
+    }
+    match is_heard(path) {
+        Ok(true) => Err(DaemonFault::InUse(path.to_path_buf())),
+        Ok(false) => Ok(()),
+        Err(errno) => Err(failed(errno.into())),
+    }
+}
+
+/// Whether somebody listens at a path. Who has too many waiting isn't waited for.
+fn is_heard(path: &Path) -> Result<bool, Errno> {
+    let address = UnixAddr::new(path)?;
+    let asking = socket(AddressFamily::Unix, SockType::Stream, SockFlag::SOCK_NONBLOCK | SockFlag::SOCK_CLOEXEC, None)?;
+    let asked = connect(asking, &address);
+    close(asking)?;
+    match asked {
+        Err(Errno::ECONNREFUSED | Errno::ENOENT) => Ok(false),
+        Ok(()) | Err(Errno::EAGAIN | Errno::EPROTOTYPE) => Ok(true),
+        Err(errno) => Err(errno),
+    }
+}
+
+/// The device and the number of the file at a path.
+fn file_at(path: &Path) -> io::Result<(u64, u64)> {
+    fs::symlink_metadata(path).map(|found| (found.dev(), found.ino()))
+}
+
+impl Place {
+    /// Binds a path. A socket where nobody listens was left there.
+    fn bind(path: &Path, mode: u32) -> Result<Place, DaemonFault> {
+        let failed = |fault| DaemonFault::Io(path.to_path_buf(), fault);
+        look_at(path)?;
+        match fs::remove_file(path) {
+            Err(fault) if fault.kind() != io::ErrorKind::NotFound => return Err(failed(fault)),
+            _ => {}
+        }
+        let listener = Arc::new(UnixListener::bind(path).map_err(failed)?);
+        fs::set_permissions(path, Permissions::from_mode(mode)).map_err(failed)?;
+        Ok(Place { listener, file: file_at(path).map_err(failed)?, due: Instant::now() + LOOK, fault: None })
+    }
+
+    /// Looks whether the socket is there still, where that is due, and makes it anew where it isn't.
+    fn look(&mut self, path: &Path, mode: u32) {
+        if Instant::now() < self.due {
+            return;
+        }
+        self.due = Instant::now() + LOOK;
+        if file_at(path).ok() == Some(self.file) {
+            self.fault = None;
+            return;
+        }
+        match Place::bind(path, mode) {
+            Ok(place) => {
+                warn!("{} was removed, and is made anew", path.display());
+                *self = place;
+            }
+            Err(fault) => {
+                let fault = Some(fault.to_string());
+                if self.fault != fault {
+                    warn!("{} was removed, and can't be made anew: {}", path.display(), fault.as_deref().unwrap_or(""));
+                }
+                self.fault = fault;
+            }
+        }
+    }
 }
 
 impl Socket {
-    /// Binds a path. The folder's lock is held, so a socket that is there is nobody's any more.
     fn bind(path: &Path, mode: u32) -> Result<Socket, DaemonFault> {
-        let failed = |fault| DaemonFault::Io(path.to_path_buf(), fault);
-        match fs::symlink_metadata(path) {
-            Ok(found) if found.file_type().is_socket() => fs::remove_file(path).map_err(failed)?,
-            Ok(_) => return Err(DaemonFault::NotASocket(path.to_path_buf())),
-            Err(fault) if fault.kind() == io::ErrorKind::NotFound => {}
-            Err(fault) => return Err(failed(fault)),
-        }
-        let listener = UnixListener::bind(path).map_err(failed)?;
-        let socket = Socket { listener, path: path.to_path_buf() };
-        fs::set_permissions(path, Permissions::from_mode(mode)).map_err(failed)?;
-        Ok(socket)
+        Ok(Socket { path: path.to_path_buf(), mode, place: Mutex::new(Place::bind(path, mode)?) })
+    }
+
+    fn place(&self) -> MutexGuard<'_, Place> {
+        self.place.lock().unwrap_or_else(PoisonError::into_inner)
     }
 
     /// The next connection.
     pub async fn accept(&self) -> io::Result<UnixStream> {
-        Ok(self.listener.accept().await?.0)
+        loop {
+            let (listener, due) = {
+                let mut place = self.place();
+                place.look(&self.path, self.mode);
+                (Arc::clone(&place.listener), place.due)
+            };
+            if let Ok(taken) = timeout_at(due.into(), listener.accept()).await {
+                return Ok(taken?.0);
+            }
+        }
     }
 }
 
 impl Drop for Socket {
     fn drop(&mut self) {
-        // Where it stays, the next start removes it.
-        let _ = fs::remove_file(&self.path);
+        // Another one may have it by now. Where it stays, the next start removes it.
+        if file_at(&self.path).ok() == Some(self.place().file) {
+            let _ = fs::remove_file(&self.path);
+        }
     }
 }
 
@@ -68,6 +165,12 @@ pub struct Sockets {
 }
 
 impl Sockets {
+    /// Looks whether both can be bound.
+    pub fn look_at(clients: &Path, control: &Path) -> Result<(), DaemonFault> {
+        look_at(clients)?;
+        look_at(control)
+    }
+
     /// Binds both.
     pub fn bind(clients: &Path, control: &Path) -> Result<Sockets, DaemonFault> {
         Ok(Sockets {

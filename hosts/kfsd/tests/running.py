@@ -162,6 +162,8 @@ class Daemon:
         self.process, self.runs_as, self.patience = None, None, SOON
         # what it is told beside its configuration
         self.words = ("--verbose",)
+        # the paths of sockets that aren't in its room
+        self.elsewhere = {}
 
     def __enter__(self):
         return self
@@ -182,7 +184,7 @@ class Daemon:
 
     def put_config(self):
         """Writes the configuration."""
-        lines = [f'{name} = "{self.room}/{name}"' for name in ("socket", "control")]
+        lines = [f'{name} = "{self.elsewhere.get(name, f"{self.room}/{name}")}"' for name in ("socket", "control")]
         lines += [f'figures = "{self.figures}"'] if self.figures else []
         lines += [f"rows = {self.rows}"] if self.rows else []
         lines += [f'folder = "{self.folder}"', f'program = "{self.program}"', f"tiers = {list(self.tiers)}", "[limits]"]
