@@ -2,21 +2,29 @@
 
 use crate::connection::Shared;
 use crate::figures::{Times, BOUNDS};
+use crate::pace::Pace;
 use crate::status::{status, Status};
+use std::collections::VecDeque;
 use std::fmt::Write as _;
 use std::io;
-use std::net::SocketAddr;
+use std::net::{Ipv4Addr, SocketAddr};
 use std::sync::Arc;
 use std::time::Duration;
 use tokio::io::{AsyncReadExt, AsyncWriteExt};
 use tokio::net::{TcpListener, TcpStream};
-use tokio::sync::Semaphore;
+use tokio::task::JoinHandle;
 use tokio::time::{sleep, timeout};
 use tracing::{debug, warn};
 
-/// How long one question may take, and how many are answered at once.
+/// How long a question may take to come, and how long it may take in all.
+const ASKING: Duration = Duration::from_secs(1);
 const TIME: Duration = Duration::from_secs(5);
-const AT_ONCE: usize = 16;
+
+/// How many connections there may be. The oldest makes way for a new one, so who asks nothing holds nobody up.
+const AT_ONCE: usize = 32;
+
+/// How many connections are taken a second. Who connects again and again takes no more of kfsd's time.
+const A_SECOND: u32 = 1_000;
 
 /// The most bytes of a question.
 const LONGEST: usize = 8192;
@@ -31,17 +39,14 @@ pub async fn listen(address: SocketAddr) -> io::Result<TcpListener> {
 
 /// Answers questions until it is dropped.
 pub async fn serve(listener: TcpListener, shared: Arc<Shared>) {
-    let places = Arc::new(Semaphore::new(AT_ONCE));
-    while let Ok(place) = Arc::clone(&places).acquire_owned().await {
+    let (mut open, pace) = (VecDeque::new(), Pace::new(A_SECOND, AT_ONCE as u32));
+    loop {
         match listener.accept().await {
             Ok((stream, _)) => {
-                let shared = Arc::clone(&shared);
-                tokio::spawn(async move {
-                    if let Ok(Err(fault)) = timeout(TIME, answer(stream, &shared)).await {
-                        debug!("figures: {fault}");
-                    }
-                    drop(place);
-                });
+                make_room(&mut open);
+                open.push_back(tokio::spawn(answer_in_time(stream, Arc::clone(&shared))));
+                // Zero where it needn't wait. What has come is read meanwhile.
+                sleep(pace.wait()).await;
             }
             Err(fault) => {
                 warn!("nobody is told figures: {fault}");
@@ -51,7 +56,41 @@ pub async fn serve(listener: TcpListener, shared: Arc<Shared>) {
     }
 }
 
+/// Ends the oldest connection where there are as many as may be.
+fn make_room(open: &mut VecDeque<JoinHandle<()>>) {
+    open.retain(|one| !one.is_finished());
+    if open.len() == AT_ONCE {
+        open.pop_front().iter().for_each(JoinHandle::abort);
+    }
+}
+
+async fn answer_in_time(stream: TcpStream, shared: Arc<Shared>) {
+    match timeout(TIME, answer(stream, &shared)).await {
+        Ok(Ok(())) => {}
+        Ok(Err(fault)) => debug!("figures: {fault}"),
+        Err(_) => debug!("figures: too slow"),
+    }
+}
+
 async fn answer(mut stream: TcpStream, shared: &Shared) -> io::Result<()> {
+    let asked = timeout(ASKING, question(&mut stream)).await.map_err(|_| io::ErrorKind::TimedOut)??;
+    let (line, text) = if !asked.starts_with(b"GET /metrics ") {
+        ("404 Not Found", "ask for /metrics\n".to_string())
+    } else if !names_this_machine(&asked, stream.local_addr()?.port()) {
+        ("403 Forbidden", "ask for 127.0.0.1, [::1] or localhost, with the port\n".to_string())
+    } else {
+        ("200 OK", text_of(&status(shared), &shared.figures.times))
+    };
+    let head = format!(
+        "HTTP/1.1 {line}\r\nContent-Type: text/plain; version=0.0.4\r\nContent-Length: {}\r\nConnection: close\r\n\r\n",
+        text.len()
+    );
+    stream.write_all((head + &text).as_bytes()).await?;
+    stream.shutdown().await
+}
+
+/// A question with all of its head, or as much as comes.
+async fn question(stream: &mut TcpStream) -> io::Result<Vec<u8>> {
     let mut asked = Vec::new();
     let mut part = [0; 1024];
     while !asked.windows(4).any(|it| it == b"\r\n\r\n") && asked.len() < LONGEST {
@@ -60,17 +99,31 @@ async fn answer(mut stream: TcpStream, shared: &Shared) -> io::Result<()> {
             count => asked.extend_from_slice(&part[..count]),
         }
     }
-    let (line, text) = if asked.starts_with(b"GET /metrics ") {
-        ("200 OK", text_of(&status(shared), &shared.figures.times))
-    } else {
-        ("404 Not Found", "ask for /metrics\n".to_string())
-    };
-    let head = format!(
-        "HTTP/1.1 {line}\r\nContent-Type: text/plain; version=0.0.4\r\nContent-Length: {}\r\nConnection: close\r\n\r\n",
-        text.len()
-    );
-    stream.write_all((head + &text).as_bytes()).await?;
-    stream.shutdown().await
+    Ok(asked)
+}
+
+/// Whether a question is for an address of this machine alone. By another name a page of the web would have a browser ask, once
+/// that name leads here.
+fn names_this_machine(asked: &[u8], port: u16) -> bool {
+    let text = String::from_utf8_lossy(asked);
+    let head = text.split("\r\n\r\n").next().unwrap_or("");
+    let hosts = head.split("\r\n").skip(1).filter_map(|line| line.split_once(':'));
+    let mut hosts = hosts.filter(|(name, _)| name.trim().eq_ignore_ascii_case("host")).map(|(_, host)| host.trim());
+    match (hosts.next(), hosts.next()) {
+        (Some(host), None) => is_of_this_machine(host, port),
+        _ => false,
+    }
+}
+
+/// Whether a host and its port are this one by an address of this machine alone, or by the name that always is.
+fn is_of_this_machine(host: &str, port: u16) -> bool {
+    let is_name = |name: &str| name.eq_ignore_ascii_case("localhost");
+    match (host.parse::<SocketAddr>(), host.rsplit_once(':')) {
+        (Ok(address), _) => address.ip().is_loopback() && address.port() == port,
+        (Err(_), Some((name, own))) => is_name(name) && own.parse() == Ok(port),
+        // The port that isn't named.
+        (Err(_), None) => port == 80 && (is_name(host) || host.parse().map_or(false, |ip: Ipv4Addr| ip.is_loopback())),
+    }
 }
 
 /// All figures in the text format of Prometheus.
@@ -140,4 +193,34 @@ fn put_times(text: &mut String, times: &Times) {
     }
     let (count, sum) = (times.count(), times.sum().as_secs_f64());
     let _ = write!(text, "{name}_bucket{{le=\"+Inf\"}} {count}\n{name}_sum {sum}\n{name}_count {count}\n");
+}
+
+#[cfg(test)]
+mod tests {
+    use super::*;
+
+    #[test]
+    fn hosts_are_of_this_machine() {
+        for host in ["127.0.0.1:9469", "127.9.9.9:9469", "[::1]:9469", "localhost:9469", "LocalHost:9469"] {
+            assert!(is_of_this_machine(host, 9469), "{host}");
+        }
+        let others =
+            ["", "a.example:9469", "127.0.0.1", "localhost", "127.0.0.1:9470", "localhost:80", "127.0.0.1.a.example:9469"];
+        for host in others.into_iter().chain(["192.0.2.1:9469", "[2001:db8::1]:9469", "localhost.a.example:9469", ":9469"]) {
+            assert!(!is_of_this_machine(host, 9469), "{host}");
+        }
+        assert!(
+            is_of_this_machine("127.0.0.1", 80) && is_of_this_machine("localhost", 80) && !is_of_this_machine("192.0.2.1", 80)
+        );
+    }
+
+    #[test]
+    fn one_host_is_named() {
+        let asked = |lines: &str| names_this_machine(format!("GET /metrics HTTP/1.1\r\n{lines}\r\n").as_bytes(), 9469);
+        assert!(asked("Accept: */*\r\nhOST: 127.0.0.1:9469\r\n"));
+        assert!(!asked("") && !asked("Host: a.example:9469\r\n"));
+        assert!(!asked("Host: 127.0.0.1:9469\r\nHost: a.example:9469\r\n"));
+        // behind the head it isn't one
+        assert!(!asked("Accept: */*\r\n\r\nHost: 127.0.0.1:9469\r\n"));
+    }
 }

@@ -1,11 +1,15 @@
 """What kfsctl prints, and the figures for Prometheus."""
+import concurrent.futures
+import contextlib
 import http.client
 import os
 import re
+import selectors
 import shutil
 import socket
 import subprocess
 import tempfile
+import threading
 import time
 import tomllib
 
@@ -74,6 +78,66 @@ def figures_are_told(made):
         for it in idle:
             it.close()
         assert daemon.stop()[0] == 0
+
+
+def status_of(address, head):
+    """The status line that answers such a head."""
+    with socket.create_connection(address.split(":"), timeout=30) as it:
+        it.sendall(b"GET /metrics HTTP/1.1\r\n" + head.encode() + b"\r\n")
+        return it.recv(12).decode()
+
+
+def figures_are_asked_of_this_machine(made):
+    """Who asks by another name isn't told: a page of the web could have a browser do so."""
+    with Daemon(*made, figures=free_address()).start() as daemon:
+        port = daemon.figures.partition(":")[2]
+        for host in (f"127.0.0.1:{port}", f"LOCALHOST:{port}", f"[::1]:{port}"):
+            assert status_of(daemon.figures, f"Host: {host}\r\n") == "HTTP/1.1 200", host
+        for head in (f"Host: rebound.invalid:{port}\r\n", f"Host: 192.0.2.1:{port}\r\n", "Host: 127.0.0.1\r\n", "", f"Host: 127.0.0.1:{port}\r\nHost: rebound.invalid\r\n"):
+            assert status_of(daemon.figures, head) == "HTTP/1.1 403", head
+
+
+def come_again(address, count, is_over):
+    """Keeps so many connections that ask nothing, and connects again as soon as one has ended. Returns how often it has connected."""
+    waiting, connected = selectors.DefaultSelector(), 0
+
+    def connect():
+        it = socket.socket()
+        it.setblocking(False)
+        with contextlib.suppress(BlockingIOError):
+            it.connect(address)
+        waiting.register(it, selectors.EVENT_READ)
+
+    for _ in range(count):
+        connect()
+    while not is_over.is_set():
+        for key, _ in waiting.select(0.1):
+            waiting.unregister(key.fileobj)
+            key.fileobj.close()
+            connect()
+            connected += 1
+    for key in list(waiting.get_map().values()):
+        key.fileobj.close()
+    return connected + count
+
+
+def who_asks_nothing_holds_nobody_up(made):
+    """Beside 100 connections that ask nothing, and come again as soon as they are ended, Prometheus is told within a second."""
+    with Daemon(*made, figures=free_address()).start() as daemon, concurrent.futures.ThreadPoolExecutor(1) as pool:
+        is_over, (host, port) = threading.Event(), daemon.figures.split(":")
+        coming = pool.submit(come_again, (host, int(port)), 100, is_over)
+        try:
+            time.sleep(0.5)
+            times = []
+            for _ in range(40):
+                began = time.monotonic()
+                assert get(daemon.figures)[0] == 200
+                times.append(time.monotonic() - began)
+                time.sleep(0.05)
+        finally:
+            is_over.set()
+        assert max(times) < 1, times
+        print(f"    a question took up to {max(times):.3f} s beside 100 idle connections that came {coming.result()} times")
 
 
 def figures_stay_on_this_machine(made):
@@ -154,4 +218,4 @@ def man_pages_are_whole(made):
             assert not wrong, wrong
 
 
-TESTS = [man_pages_are_whole, a_copy_is_looked_at, figures_are_told, figures_stay_on_this_machine, kfsctl_prints]
+TESTS = [man_pages_are_whole, a_copy_is_looked_at, figures_are_told, figures_are_asked_of_this_machine, who_asks_nothing_holds_nobody_up, figures_stay_on_this_machine, kfsctl_prints]
