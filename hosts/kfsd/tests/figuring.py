@@ -8,12 +8,13 @@ import selectors
 import shutil
 import socket
 import subprocess
+import sys
 import tempfile
 import threading
 import time
 import tomllib
 
-from running import TOP, Daemon, frame, lease, numbered
+from running import READY, TOP, Daemon, frame, lease, numbered, pretender
 
 
 def free_address():
@@ -196,6 +197,30 @@ def a_copy_is_looked_at(made):
         assert not [name for name in os.listdir(tempfile.gettempdir()) if name.startswith("kfsctl-")]
 
 
+def a_copy_has_a_folder_of_its_own(made):
+    """Nobody stands in the way of a copy by folders with the names of processes. Its folder is its owner's alone, and goes. A fifo isn't waited for."""
+    with pretender(Daemon(*made), READY + "sys.stdin.buffer.read()").start() as daemon:
+        room, program = f"{daemon.room}/tmp", f"{daemon.room}/looking"
+        os.mkdir(room)
+        last = subprocess.Popen(["true"])
+        last.wait()
+        for process in range(last.pid, last.pid + 2000):
+            os.mkdir(f"{room}/kfsctl-{process}")
+        before = set(os.listdir(room))
+        with open(program, "w", encoding="ascii") as it:
+            it.write(f"#!{sys.executable}\nimport os, sys\nassert os.path.dirname(sys.argv[2]) == {room!r} and os.stat(sys.argv[2]).st_mode & 0o777 == 0o700\n")
+        os.chmod(program, 0o755)
+        words = [f"{daemon.binaries}/kfsctl", "fsck", "--folder", daemon.folder, "--program", program]
+        environment = {**os.environ, "TMPDIR": room}
+        said = subprocess.run(words, check=False, capture_output=True, text=True, env=environment)
+        assert said.returncode == 0 and "breaks no rule" in said.stdout, said
+        os.rename(f"{daemon.folder}/second.kdjl", f"{daemon.room}/second.kdjl")
+        os.mkfifo(f"{daemon.folder}/second.kdjl")
+        said = subprocess.run(words, check=False, capture_output=True, text=True, env=environment, timeout=20)
+        assert said.returncode == 1 and "second.kdjl isn't a regular file" in said.stderr, said
+        assert set(os.listdir(room)) == before
+
+
 def man_pages_are_whole(made):
     """The man page has each name of the example and each command, and groff finds nothing wrong."""
     folder = f"{TOP}/hosts/kfsd"
@@ -218,4 +243,4 @@ def man_pages_are_whole(made):
             assert not wrong, wrong
 
 
-TESTS = [man_pages_are_whole, a_copy_is_looked_at, figures_are_told, figures_are_asked_of_this_machine, who_asks_nothing_holds_nobody_up, figures_stay_on_this_machine, kfsctl_prints]
+TESTS = [man_pages_are_whole, a_copy_is_looked_at, a_copy_has_a_folder_of_its_own, figures_are_told, figures_are_asked_of_this_machine, who_asks_nothing_holds_nobody_up, figures_stay_on_this_machine, kfsctl_prints]

@@ -5,10 +5,13 @@
 use anyhow::{bail, Context, Result};
 use clap::{Parser, Subcommand};
 use kfsd::cluster::listing::volumes;
-use kfsd::folder::FILES;
+use kfsd::folder::{self, FILES};
 use kfsd::status::Status;
+use std::collections::hash_map::RandomState;
+use std::fs::{DirBuilder, OpenOptions};
+use std::hash::{BuildHasher, Hasher};
 use std::io::{Read, Write};
-use std::os::unix::fs::DirBuilderExt;
+use std::os::unix::fs::{DirBuilderExt, OpenOptionsExt};
 use std::os::unix::net::UnixStream;
 use std::path::{Path, PathBuf};
 use std::process::{Command, ExitStatus, Stdio};
@@ -95,8 +98,7 @@ const COPIES: u32 = 5;
 
 /// Looks at a copy of the files, in a folder of its own that goes.
 fn fsck(folder: &Path, program: &Path) -> Result<()> {
-    let room = std::env::temp_dir().join(format!("kfsctl-{}", std::process::id()));
-    std::fs::DirBuilder::new().mode(0o700).create(&room).with_context(|| room.display().to_string())?;
+    let room = make_room()?;
     let found = (1..=COPIES).find_map(|at| match open_copy(folder, program, &room) {
         Ok(status) if !status.success() && at < COPIES => None,
         found => Some(found),
@@ -110,10 +112,19 @@ fn fsck(folder: &Path, program: &Path) -> Result<()> {
     }
 }
 
+/// Makes a folder for a copy. Nobody knows its name before, so nobody stands in its way.
+fn make_room() -> Result<PathBuf> {
+    let room = std::env::temp_dir().join(format!("kfsctl-{:016x}", RandomState::new().build_hasher().finish()));
+    DirBuilder::new().mode(0o700).create(&room).with_context(|| room.display().to_string())?;
+    Ok(room)
+}
+
 /// Copies the files, and has them opened with no frame.
 fn open_copy(folder: &Path, program: &Path, room: &Path) -> Result<ExitStatus> {
     for name in FILES {
-        std::fs::copy(folder.join(name), room.join(name)).with_context(|| folder.join(name).display().to_string())?;
+        let mut from = folder::open(&folder.join(name), OpenOptions::new().read(true))?;
+        let mut to = OpenOptions::new().create(true).truncate(true).write(true).mode(0o600).open(room.join(name))?;
+        std::io::copy(&mut from, &mut to).with_context(|| folder.join(name).display().to_string())?;
     }
     let mut opened = Command::new(program);
     opened.arg("open").arg(room).arg(u32::MAX.to_string()).stdin(Stdio::null()).stdout(Stdio::null());
