@@ -45,8 +45,7 @@ pub async fn serve(listener: TcpListener, shared: Arc<Shared>) {
             Ok((stream, _)) => {
                 make_room(&mut open);
                 open.push_back(tokio::spawn(answer_in_time(stream, Arc::clone(&shared))));
-                // Zero where it needn't wait. What has come is read meanwhile.
-                sleep(pace.wait()).await;
+                pace.pause().await;
             }
             Err(fault) => {
                 warn!("nobody is told figures: {fault}");
