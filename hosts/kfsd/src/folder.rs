@@ -1,5 +1,6 @@
 //! The folder of a desk: its two files, the list of its clients, and the lock that keeps other daemons out.
 
+use crate::cluster::base;
 use nix::errno::Errno;
 use nix::fcntl::{fcntl, flock, FcntlArg, FdFlag, FlockArg, OFlag};
 use nix::unistd::geteuid;
@@ -36,7 +37,7 @@ pub struct Folder {
 impl Folder {
     /// Locks a folder; none where another daemon has it, or the `kfs_serve` of one that was killed.
     pub fn lock(path: &Path) -> io::Result<Option<Folder>> {
-        for name in [CLIENTS, PART] {
+        for name in [CLIENTS, PART, base::NAME, base::PART] {
             is_there(&path.join(name))?;
         }
         let lock = open(&path.join("lock"), OpenOptions::new().create(true).truncate(false).write(true).mode(0o600))?;
@@ -200,8 +201,8 @@ pub mod tests {
         drop(folder);
         assert!(Folder::lock(&room.0).is_err());
         fs::remove_file(room.0.join(PART)).unwrap();
-        for name in [CLIENTS, "lock"] {
-            fs::remove_file(room.0.join(name)).unwrap();
+        for name in [CLIENTS, "lock", base::NAME] {
+            drop(fs::remove_file(room.0.join(name)));
             mkfifo(&room.0.join(name), Mode::S_IRWXU).unwrap();
             assert!(Folder::lock(&room.0).unwrap_err().to_string().ends_with(&format!("{name} isn't a regular file")));
             fs::remove_file(room.0.join(name)).unwrap();

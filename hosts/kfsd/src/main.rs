@@ -4,6 +4,7 @@
 
 use clap::Parser;
 use kfsd::log::Log;
+use std::io::Write;
 use std::path::PathBuf;
 use std::process::ExitCode;
 use tracing::{error, Level};
@@ -31,9 +32,14 @@ async fn main() -> ExitCode {
     let level = if words.verbose { Level::DEBUG } else { Level::INFO };
     let log = match Log::begin() {
         Ok(log) => log,
-        Err(_) => return ExitCode::FAILURE,
+        Err(fault) => {
+            let _ = writeln!(std::io::stderr(), "no log can be told: {fault}");
+            return ExitCode::FAILURE;
+        }
     };
-    tracing_subscriber::fmt().with_max_level(level).with_writer(log.clone()).with_target(false).init();
+    let told = tracing_subscriber::fmt().with_max_level(level).with_writer(log.clone()).with_target(false);
+    // It would tell by itself what it can't tell, and end where that can't be written either.
+    told.log_internal_errors(false).init();
     Log::tell_panics();
     let status = run(&words).await;
     log.end().await;

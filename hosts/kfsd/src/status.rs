@@ -15,6 +15,7 @@ const LISTED: usize = 10_000;
 #[derive(Debug, Deserialize, Serialize)]
 pub struct Status {
     /// Lines of the log that were dropped, since standard error wasn't read, couldn't be written, or was to have too many.
+    #[serde(default)]
     pub log_lines_dropped: u64,
     pub kfs_serve: DeskStatus,
     pub desk: Standing,

@@ -143,7 +143,7 @@ def kills_in_the_first_start(made):
 
 def what_is_no_file_is_told(made):
     """Where a fifo or a link stands at a name, kfsd says at which one, and waits for nothing."""
-    names = {"first.kdjl": FAILED, "second.kdjl": FAILED, "kfsd.sqlite": FAILED, "kfsd.sqlite-wal": FAILED, "lock": WRONG, "clients": WRONG, "clients.part": WRONG}
+    names = {"first.kdjl": FAILED, "second.kdjl": FAILED, "kfsd.sqlite": FAILED, "kfsd.sqlite-wal": FAILED, "lock": WRONG, "clients": WRONG, "clients.part": WRONG, "base": WRONG}
     for name, status in names.items():
         with Daemon(*made) as daemon:
             path = f"{daemon.folder}/{name}"

@@ -12,8 +12,8 @@ use std::os::unix::fs::OpenOptionsExt;
 use std::path::{Path, PathBuf};
 
 /// The file, and the one that becomes it.
-const NAME: &str = "base";
-const PART: &str = "base.part";
+pub const NAME: &str = "base";
+pub const PART: &str = "base.part";
 
 /// The end of the file: the length of what stands before it and behind the state (8), and a word.
 const END: u64 = 16;
