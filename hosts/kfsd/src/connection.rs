@@ -561,7 +561,12 @@ async fn write_replies(
                 break;
             }
         }
-        if timeout(shared.limits().reply_time(), to.write_all(&bytes)).await?.is_err() {
+        // With TLS bytes may stay behind that were written.
+        let writing = async {
+            to.write_all(&bytes).await?;
+            to.flush().await
+        };
+        if timeout(shared.limits().reply_time(), writing).await?.is_err() {
             break;
         }
         drop(written);

@@ -6,10 +6,13 @@ use crate::daemon::DaemonFault;
 use crate::frames::Refusal;
 use crate::pace::Pace;
 use crate::peer::{is_closed, uid_of};
+use crate::users::{Account, Place};
 use nix::errno::Errno;
 use nix::sys::socket::{connect, socket, AddressFamily, SockFlag, SockType, UnixAddr};
 use nix::unistd::{access, close, AccessFlags};
+use std::convert::Infallible;
 use std::fs::{self, Permissions};
+use std::future::Future;
 use std::io::{self, Write};
 use std::os::unix::fs::{FileTypeExt, MetadataExt, PermissionsExt};
 use std::os::unix::io::AsRawFd;
@@ -181,17 +184,54 @@ impl Sockets {
     }
 }
 
+/// How often connections may be refused.
+pub fn refusals() -> Pace {
+    Pace::new(REFUSALS, REFUSED_AT_ONCE)
+}
+
 /// Takes connections until kfsd stops, and returns when all have ended.
 pub async fn accept(sockets: Sockets, shared: Arc<Shared>) {
     let mut stopping = shared.stopping.clone();
     let mut tasks = JoinSet::new();
-    let (refusals, mut next) = (Pace::new(REFUSALS, REFUSED_AT_ONCE), Instant::now());
+    let serve = |stream: UnixStream, place| {
+        let shared = Arc::clone(&shared);
+        async move {
+            // It is open for as long as its connection is served.
+            let socket = stream.as_raw_fd();
+            let (from, to) = stream.into_split();
+            connection::serve(from, to, || is_closed(socket), place, shared).await;
+        }
+    };
+    tokio::select! {
+        never = take_all(&sockets, &shared, &mut tasks, serve) => match never {},
+        _ = stopping.changed() => {}
+    }
+    drop(sockets);
+    while tasks.join_next().await.is_some() {}
+}
+
+/// Takes connections until it is dropped, and has each one served whose user is listed and may have one more. Those of `kfsctl` are
+/// answered beside them.
+pub async fn take_all<Served>(
+    sockets: &Sockets,
+    shared: &Arc<Shared>,
+    tasks: &mut JoinSet<()>,
+    serve: impl Fn(UnixStream, Place) -> Served,
+) -> Infallible
+where
+    Served: Future<Output = ()> + Send + 'static,
+{
+    let (refusals, mut next) = (refusals(), Instant::now());
     loop {
         tokio::select! {
             taken = accept_at(&sockets.clients, next) => match taken {
                 Ok(stream) => {
-                    if !take(stream, &shared, &mut tasks) {
-                        next = Instant::now() + refusals.wait();
+                    match place_for(uid_of(&stream), shared) {
+                        Ok(place) => drop(tasks.spawn(in_turn(Arc::clone(&place.account), serve(stream, place)))),
+                        Err(refusal) => {
+                            turn_away(stream, refusal);
+                            next = Instant::now() + refusals.wait();
+                        }
                     }
                     // Where one comes after another, the tasks of those that were taken wait for this one else.
                     yield_now().await;
@@ -199,15 +239,12 @@ pub async fn accept(sockets: Sockets, shared: Arc<Shared>) {
                 Err(fault) => rest(fault).await,
             },
             taken = sockets.control.accept() => match taken {
-                Ok(stream) => drop(tokio::spawn(control::serve(stream, Arc::clone(&shared)))),
+                Ok(stream) => drop(tokio::spawn(control::serve(stream, Arc::clone(shared)))),
                 Err(fault) => rest(fault).await,
             },
             Some(_) = tasks.join_next() => {}
-            _ = stopping.changed() => break,
         }
     }
-    drop(sockets);
-    while tasks.join_next().await.is_some() {}
 }
 
 /// The next connection, from this moment on.
@@ -219,38 +256,33 @@ async fn accept_at(socket: &Socket, moment: Instant) -> io::Result<UnixStream> {
 }
 
 /// Rests where no connection can be taken.
-pub async fn rest(fault: io::Error) {
+async fn rest(fault: io::Error) {
     warn!("no connection is taken: {fault}");
     sleep(REST).await;
 }
 
-/// Has a connection served, where its user is listed and may have one more. Answers whether it is.
-fn take(stream: UnixStream, shared: &Arc<Shared>, tasks: &mut JoinSet<()>) -> bool {
-    match shared.place_of(uid_of(&stream)) {
-        Ok(place) => {
-            shared.figures.connections.add(1);
-            let (wait, shared) = (place.account.arrivals.wait(), Arc::clone(shared));
-            tasks.spawn(async move {
-                if !wait.is_zero() {
-                    sleep(wait).await;
-                }
-                // It is open for as long as its connection is served.
-                let socket = stream.as_raw_fd();
-                let (from, to) = stream.into_split();
-                connection::serve(from, to, || is_closed(socket), place, shared).await;
-            });
-            true
-        }
-        Err(refusal) => {
-            shared.figures.turned_away.add(1);
-            turn_away(stream, refusal);
-            false
-        }
-    }
+/// The place of a connection whose user is listed and may have one more. It is counted, and so is one that is turned away.
+pub fn place_for(uid: io::Result<u32>, shared: &Shared) -> Result<Place, Refusal> {
+    let place = shared.place_of(uid);
+    let count = if place.is_ok() { &shared.figures.connections } else { &shared.figures.turned_away };
+    count.add(1);
+    place
+}
+
+/// Returns when it is the turn of one more connection of a user.
+pub async fn turn_of(account: &Account) {
+    account.arrivals.pause().await;
+}
+
+/// Serves a connection of a user, once it is its turn.
+async fn in_turn(account: Arc<Account>, served: impl Future<Output = ()>) {
+    turn_of(&account).await;
+    drop(account);
+    served.await;
 }
 
 /// Tells why, and closes. A new connection has room for it.
-pub fn turn_away(stream: UnixStream, refusal: Refusal) {
+fn turn_away(stream: UnixStream, refusal: Refusal) {
     if let Ok(mut stream) = stream.into_std() {
         // It is told as far as it hears.
         let _ = stream.write_all(&refusal.reply(0));

@@ -4,7 +4,9 @@
 
 use anyhow::{bail, Context, Result};
 use clap::{Parser, Subcommand};
+use kfsd::cluster::etcd::Etcd;
 use kfsd::cluster::listing::volumes;
+use kfsd::config::Config;
 use kfsd::folder::{self, FILES};
 use kfsd::status::Status;
 use std::collections::hash_map::RandomState;
@@ -57,8 +59,11 @@ enum Asked {
     /// Prints a line for each volume in etcd: who leads it, its groups there, and what its members keep.
     Volumes {
         /// The members of etcd, each a host and a port, with commas between them.
-        #[arg(long, value_delimiter = ',', required = true)]
+        #[arg(long, value_delimiter = ',', required_unless_present = "config", conflicts_with = "config")]
         etcd: Vec<String>,
+        /// The configuration of a member: etcd is asked as that does, with its user and its certificates.
+        #[arg(long)]
+        config: Option<PathBuf>,
     },
     /// Prints a line now and then: calls a second, and what waits.
     Watch {
@@ -80,12 +85,19 @@ fn main() -> Result<()> {
         Asked::Free => "free",
         Asked::Checkpoint => "checkpoint",
         Asked::Fsck { folder, program } => return fsck(&folder, &program),
-        Asked::Volumes { etcd } => {
-            return print(&Builder::new_current_thread().enable_all().build()?.block_on(volumes(&etcd))?)
+        Asked::Volumes { etcd, config } => {
+            let etcd = config.map_or_else(|| Ok(Etcd::open(&etcd)), |config| etcd_of(&config))?;
+            return print(&Builder::new_current_thread().enable_all().build()?.block_on(volumes(&etcd))?);
         }
         Asked::Watch { seconds, count } => return watch(&words.control, Duration::from_secs(seconds), count),
     };
     print(&ask(&words.control, question)?)
+}
+
+/// etcd as a configuration has it.
+fn etcd_of(config: &Path) -> Result<Etcd> {
+    let settings = Config::read(config)?.cluster.context("the configuration has no table [cluster]")?;
+    Ok(Etcd::of(&settings)?)
 }
 
 fn print(text: &str) -> Result<()> {

@@ -22,7 +22,7 @@ const FIRST: u64 = 1;
 /// Begins the volume of a configuration with the desk in a folder, which stays as it is. This member keeps its state, and others have
 /// it sent. The folder may be the member's own, which is locked.
 pub async fn begin(settings: &Settings, config: &Config, own: &Folder, from: &Path) -> Result<(), ClusterFault> {
-    let (volume, bases) = (Volume::new(settings), Bases::new(own.path()));
+    let (volume, bases) = (Volume::new(settings)?, Bases::new(own.path()));
     let is_own = fs::canonicalize(from).and_then(|from| Ok(from == fs::canonicalize(own.path())?));
     let is_own = is_own.map_err(|fault| ClusterFault::Path(from.to_path_buf(), fault))?;
     if volume.origin().await?.is_some() {

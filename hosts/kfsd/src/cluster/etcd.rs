@@ -1,17 +1,29 @@
 //! etcd's version 3 over its JSON gateway: transactions. Questions go to one member after another until one answers.
 
 use super::http::Http;
+use super::tls::Connector;
+use super::{secret, ClusterFault, Settings};
 use serde_json::{json, Value};
 use std::fmt::Display;
+use std::io::{self, ErrorKind};
+use std::path::Path;
 use std::sync::atomic::{AtomicUsize, Ordering};
+use std::sync::Arc;
 use std::time::{Duration, Instant};
 use thiserror::Error;
+use tokio::sync::Mutex;
 use tokio::time::{sleep, timeout};
 use tracing::debug;
 
 /// How long one member may take for one answer, and how long where the question is a small one.
 const ATTEMPT: Duration = Duration::from_secs(1);
 const QUICK: Duration = Duration::from_millis(300);
+
+/// How long one member may take to look at the password, which it makes slow by intent.
+const LOGIN: Duration = Duration::from_secs(2);
+
+/// How many bytes a password may have.
+const PASSWORD: std::ops::RangeInclusive<u64> = 1..=1024;
 
 /// How many bytes of a question each member has a second more for.
 const BYTES_A_SECOND: u64 = 1 << 18;
@@ -30,6 +42,9 @@ pub enum EtcdFault {
     Refused(String),
     #[error("what etcd has answered isn't understood: {0}")]
     Nonsense(&'static str),
+    /// It wasn't done, and is where it is asked with another token.
+    #[error("etcd doesn't take the token that it gave: {0}")]
+    Stale(String),
 }
 
 /// A key, its value, and what etcd says of it.
@@ -74,18 +89,60 @@ pub struct Done {
     pub term: i64,
 }
 
+/// Who kfsd is to etcd.
+struct Login {
+    user: String,
+    password: String,
+    /// What etcd has given for that, and takes for some time.
+    token: Mutex<Option<Arc<str>>>,
+}
+
 /// The members of etcd.
 #[derive(Debug)]
 pub struct Etcd {
     members: Vec<Http>,
+    /// None where etcd asks nobody who it is.
+    login: Option<Login>,
     /// The place of the one that is asked first.
     first: AtomicUsize,
 }
 
+impl std::fmt::Debug for Login {
+    fn fmt(&self, to: &mut std::fmt::Formatter<'_>) -> std::fmt::Result {
+        write!(to, "user {}", self.user)
+    }
+}
+
+impl Login {
+    /// A user whose password is in a file. A line's end behind it isn't part of it.
+    fn read(user: &str, path: &Path) -> io::Result<Login> {
+        let text = String::from_utf8(secret::read(path, PASSWORD)?).map_err(|_| ErrorKind::InvalidData)?;
+        Ok(Login { user: user.to_string(), password: text.trim_end_matches('\n').to_string(), token: Mutex::default() })
+    }
+}
+
 impl Etcd {
-    /// The members at these addresses, each a host and a port. There is one at least.
-    pub fn new(endpoints: &[String]) -> Etcd {
-        Etcd { members: endpoints.iter().map(|address| Http::new(address)).collect(), first: AtomicUsize::new(0) }
+    /// The members at these addresses, each a host and a port, which ask nobody who it is. There is one at least.
+    pub fn open(endpoints: &[String]) -> Etcd {
+        Etcd::new(endpoints, &Connector::default(), None, None)
+    }
+
+    /// Those of these settings.
+    pub fn of(settings: &Settings) -> Result<Etcd, ClusterFault> {
+        let (mut connector, mut name) = (Connector::default(), None);
+        if let Some(tls) = &settings.etcd_tls {
+            connector = tls.connector().map_err(ClusterFault::Secret)?;
+            name = tls.name.as_deref();
+        }
+        let login = settings.etcd_user.as_deref().zip(settings.etcd_password_file.as_deref());
+        let login =
+            login.map(|(user, path)| Login::read(user, path).map_err(|fault| ClusterFault::Path(path.to_path_buf(), fault)));
+        Ok(Etcd::new(&settings.etcd, &connector, name, login.transpose()?))
+    }
+
+    fn new(endpoints: &[String], connector: &Connector, name: Option<&str>, login: Option<Login>) -> Etcd {
+        let members = endpoints.iter().map(|endpoint| Http::new(endpoint, connector, name)).collect();
+        Etcd { members, login, first: AtomicUsize::new(0) }
     }
 
     /// Does one list or the other, all of it at once. It may be done twice where a member's answer is lost or late.
@@ -128,11 +185,9 @@ impl Etcd {
             let left = end.saturating_duration_since(Instant::now()).min(most);
             let place = self.first.load(Ordering::Relaxed) % self.members.len();
             let member = &self.members[place];
-            let fault = match timeout(left, ask_one(member, path, &text)).await {
-                Ok(Ok(said)) => return Ok(said),
-                Ok(Err(EtcdFault::Unreached(fault))) => fault,
-                Ok(Err(fault)) => return Err(fault),
-                Err(_) => format!("{} takes too long", member.address()),
+            let fault = match self.ask_as_user(member, path, &text, left).await {
+                Err(EtcdFault::Unreached(fault) | EtcdFault::Stale(fault)) => fault,
+                other => return other,
             };
             debug!("etcd: {path}: {fault}");
             // Where another question has found out meanwhile, this one goes where that went.
@@ -149,18 +204,62 @@ impl Etcd {
     }
 }
 
+impl Etcd {
+    /// Asks one member, with a token where kfsd is a user of etcd. Where that isn't taken any more, another one is asked for at once.
+    async fn ask_as_user(&self, member: &Http, path: &str, text: &str, time: Duration) -> Result<Value, EtcdFault> {
+        let login = match &self.login {
+            None => return ask_one(member, path, text, None, time).await,
+            Some(login) => login,
+        };
+        let token = login.token(member, None).await?;
+        match ask_one(member, path, text, Some(&token), time).await {
+            Err(EtcdFault::Stale(fault)) => {
+                debug!("etcd: {fault}: another token is asked for");
+                let other = login.token(member, Some(&token)).await?;
+                ask_one(member, path, text, Some(&other), time).await
+            }
+            other => other,
+        }
+    }
+}
+
+impl Login {
+    /// A token of etcd; another one than this, which isn't taken any more. One at a time asks for it.
+    async fn token(&self, member: &Http, stale: Option<&Arc<str>>) -> Result<Arc<str>, EtcdFault> {
+        let mut kept = self.token.lock().await;
+        if let Some(token) = kept.as_ref().filter(|token| stale.map_or(true, |stale| !Arc::ptr_eq(token, stale))) {
+            return Ok(Arc::clone(token));
+        }
+        *kept = None;
+        let question = json!({ "name": self.user, "password": self.password }).to_string();
+        let said = ask_one(member, "auth/authenticate", &question, None, LOGIN).await?;
+        let token = said["token"].as_str().filter(|token| token.bytes().all(|byte| byte.is_ascii_graphic()));
+        let token: Arc<str> = token.ok_or(EtcdFault::Nonsense("it gives no token"))?.into();
+        *kept = Some(Arc::clone(&token));
+        Ok(token)
+    }
+}
+
 /// Asks one member once.
-async fn ask_one(member: &Http, path: &str, text: &str) -> Result<Value, EtcdFault> {
+async fn ask_one(member: &Http, path: &str, text: &str, token: Option<&str>, time: Duration) -> Result<Value, EtcdFault> {
     let unreached = |fault: &dyn Display| EtcdFault::Unreached(format!("{}: {fault}", member.address()));
-    let (status, bytes) = member.post(&format!("/v3/{path}"), text).await.map_err(|fault| unreached(&fault))?;
+    let path = format!("/v3/{path}");
+    let posted = timeout(time, member.post(&path, text, token)).await.map_err(|_| unreached(&"it takes too long"))?;
+    let (status, bytes) = posted.map_err(|fault| unreached(&fault))?;
     let said: Value = serde_json::from_slice(&bytes).unwrap_or(Value::Null);
     let why = said["error"].as_str().unwrap_or("without a word");
     match status {
         200 if said.is_object() => Ok(said),
-        400 | 404 => Err(EtcdFault::Refused(why.to_string())),
+        _ if is_stale(status, why) => Err(EtcdFault::Stale(format!("{}: {why}", member.address()))),
+        400 | 403 | 404 => Err(EtcdFault::Refused(why.to_string())),
         // It has no leader, it is short of something, or it is another program.
         _ => Err(unreached(&format!("status {status}, {why}"))),
     }
+}
+
+/// Whether another token helps: this one's time is over, the member that gave it was started anew, or users have changed since.
+fn is_stale(status: u16, why: &str) -> bool {
+    status == 401 || ["invalid auth token", "revision of auth store is old"].iter().any(|known| why.contains(known))
 }
 
 impl If {
@@ -244,6 +343,15 @@ mod tests {
         assert_eq!(Do::Put("a".into(), b"b".to_vec()).question()["request_put"]["value"], "Yg==");
         assert_eq!(Do::Get("a".into()).own_question()["request_range"]["serializable"], true);
         assert_eq!(Do::Range("a".into(), "b".into(), 5).question()["request_range"]["range_end"], "Yg==");
+    }
+
+    #[test]
+    fn another_token_is_asked_for_where_that_helps() {
+        assert!(is_stale(401, "etcdserver: invalid auth token"));
+        assert!(is_stale(400, "etcdserver: revision of auth store is old"));
+        for (status, why) in [(400, "etcdserver: user name is empty"), (403, "etcdserver: permission denied"), (503, "")] {
+            assert!(!is_stale(status, why), "{why}");
+        }
     }
 
     #[test]

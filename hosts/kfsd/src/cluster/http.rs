@@ -1,5 +1,6 @@
 //! As much of HTTP as etcd's gateway takes: texts are posted, and answered whole. Connections are kept open for the next question.
 
+use super::tls::{Connector, Stream};
 use std::io::{self, ErrorKind};
 use std::sync::{Mutex, PoisonError};
 use tokio::io::{AsyncBufRead, AsyncBufReadExt, AsyncReadExt, AsyncWriteExt, BufReader};
@@ -10,17 +11,31 @@ const LINE: u64 = 8192;
 const LINES: usize = 100;
 const MOST: usize = 1 << 28;
 
+/// What an address begins with where a server is asked with TLS.
+pub const HTTPS: &str = "https://";
+
 /// A server at a host and a port.
-#[derive(Debug)]
 pub struct Http {
     address: String,
+    connector: Connector,
+    /// The name that its certificate has.
+    name: String,
     /// Connections that nobody uses now.
-    idle: Mutex<Vec<BufReader<TcpStream>>>,
+    idle: Mutex<Vec<BufReader<Stream>>>,
+}
+
+impl std::fmt::Debug for Http {
+    fn fmt(&self, to: &mut std::fmt::Formatter<'_>) -> std::fmt::Result {
+        write!(to, "{} {:?}", self.address, self.connector)
+    }
 }
 
 impl Http {
-    pub fn new(address: &str) -> Http {
-        Http { address: address.to_string(), idle: Mutex::default() }
+    /// The server at this address. Its certificate has this name, or its host where there is none.
+    pub fn new(address: &str, connector: &Connector, name: Option<&str>) -> Http {
+        let address = address.strip_prefix(HTTPS).unwrap_or(address).to_string();
+        let host = address.rsplit_once(':').map_or(&address[..], |(host, _)| host);
+        Http { name: name.unwrap_or(host).to_string(), address, connector: connector.clone(), idle: Mutex::default() }
     }
 
     /// Where it is.
@@ -28,23 +43,26 @@ impl Http {
         &self.address
     }
 
-    /// Posts a text. Answers the status, and what stands behind the head. Dropped before that, the connection is closed.
-    pub async fn post(&self, path: &str, text: &str) -> io::Result<(u16, Vec<u8>)> {
+    /// Posts a text, with a token where there is one. Answers the status, and what stands behind the head. Dropped before that, the
+    /// connection is closed.
+    pub async fn post(&self, path: &str, text: &str, token: Option<&str>) -> io::Result<(u16, Vec<u8>)> {
         let kept = self.idle.lock().unwrap_or_else(PoisonError::into_inner).pop();
         let mut stream = match kept {
             Some(stream) => stream,
             None => {
                 let stream = TcpStream::connect(&self.address).await?;
                 stream.set_nodelay(true)?;
-                BufReader::new(stream)
+                BufReader::new(self.connector.connect(stream, &self.name).await?)
             }
         };
+        let token = token.map_or_else(String::new, |token| format!("Authorization: {token}\r\n"));
         let head = format!(
-            "POST {path} HTTP/1.1\r\nHost: {}\r\nContent-Type: application/json\r\nContent-Length: {}\r\n\r\n",
+            "POST {path} HTTP/1.1\r\nHost: {}\r\nContent-Type: application/json\r\n{token}Content-Length: {}\r\n\r\n",
             self.address,
             text.len()
         );
         stream.get_mut().write_all((head + text).as_bytes()).await?;
+        stream.get_mut().flush().await?;
         let answer = read_answer(&mut stream).await;
         let mut idle = self.idle.lock().unwrap_or_else(PoisonError::into_inner);
         match &answer {

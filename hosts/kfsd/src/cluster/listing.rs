@@ -12,9 +12,8 @@ const TIME: Duration = Duration::from_secs(5);
 const MOST: usize = 10_000;
 
 /// A line for each volume: who leads it, the numbers of its first group in etcd and of the next one, and what its members keep.
-pub async fn volumes(endpoints: &[String]) -> Result<String, EtcdFault> {
-    let etcd = Etcd::new(endpoints);
-    let names = read(&etcd, Do::Range(INDEX.to_string(), format!("{INDEX}~"), MOST)).await?;
+pub async fn volumes(etcd: &Etcd) -> Result<String, EtcdFault> {
+    let names = read(etcd, Do::Range(INDEX.to_string(), format!("{INDEX}~"), MOST)).await?;
     let mut text =
         String::from("volume           leader                           first       next members, and what they keep\n");
     for row in &names {

@@ -3,11 +3,11 @@
 use super::base::{Base, Bases, Since};
 use super::leading::{self, Kept, Leading};
 use super::origin::Origin;
-use super::peer::{self, Key};
+use super::peer::{self, Credentials};
 use super::portion::Portion;
 use super::relay::relay;
 use super::replica::{begin_anew, Replica};
-use super::volume::{Lead, Seen, Sign, Volume};
+use super::volume::{Lead, Peer, Seen, Sign, Volume};
 use super::{blocking, ClusterFault, Settings};
 use crate::calls::Note;
 use crate::config::Config;
@@ -40,7 +40,7 @@ pub struct Member {
     settings: Settings,
     volume: Arc<Volume>,
     origin: Origin,
-    key: Key,
+    own: Credentials,
     bases: Bases,
     /// Where other members ask.
     listener: Arc<TcpListener>,
@@ -81,9 +81,9 @@ struct Watch {
 impl Member {
     /// Finds the volume in etcd, or begins it as the configuration says, with the lines of these clients. Waits until etcd answers.
     pub async fn join(settings: &Settings, config: &Config, folder: Folder, clients: &str) -> Result<Member, ClusterFault> {
-        let key = Key::read(&settings.key_file).map_err(|fault| ClusterFault::Path(settings.key_file.clone(), fault))?;
+        let own = Credentials::of(settings)?;
         let listener = TcpListener::bind(settings.peer).await.map_err(|fault| ClusterFault::Peer(settings.peer, fault))?;
-        let volume = Arc::new(Volume::new(settings));
+        let volume = Arc::new(Volume::new(settings)?);
         let wanted = Origin::new(config.tiers, clients).map_err(ClusterFault::Folder)?.text();
         let origin = loop {
             match begin(&volume, &wanted, &folder).await {
@@ -98,7 +98,7 @@ impl Member {
             settings: settings.clone(),
             volume,
             origin: Origin::of(&origin).ok_or(ClusterFault::Unread("the origin"))?,
-            key,
+            own,
             bases: Bases::new(folder.path()),
             listener: Arc::new(listener),
             socket: config.socket.clone(),
@@ -122,11 +122,11 @@ impl Member {
         let sockets = Sockets::bind(&self.socket, &self.control);
         let sockets = sockets.map_err(|fault| ClusterFault::Socket(fault.to_string()))?;
         let mut serving = JoinSet::new();
-        let (listener, key, bases) = (Arc::clone(&self.listener), self.key.clone(), self.bases.clone());
-        serving.spawn(peer::serve(listener, key, bases, Arc::clone(shared)));
+        let (listener, own, bases) = (Arc::clone(&self.listener), self.own.clone(), self.bases.clone());
+        serving.spawn(peer::serve(listener, own, bases, Arc::clone(shared)));
         let followed = tokio::select! {
             followed = self.follow(shared, &tell) => followed?,
-            never = relay(&sockets, shared, leader, &self.key) => match never {},
+            never = relay(&sockets, shared, leader, &self.own) => match never {},
             () = turned_away(&shared.queue) => return Ok(()),
         };
         drop(sockets);
@@ -137,7 +137,7 @@ impl Member {
     async fn follow(
         &self,
         shared: &Shared,
-        leader: &watch::Sender<Option<String>>,
+        leader: &watch::Sender<Option<Peer>>,
     ) -> Result<(Replica, Follower, Lead), ClusterFault> {
         self.have_state(leader).await?;
         let (mut replica, mut follower) = self.begin(shared).await?;
@@ -147,7 +147,7 @@ impl Member {
         loop {
             watch.see(&seen);
             if *leader.borrow() != seen.leader {
-                let who = seen.leader.as_deref().unwrap_or("nobody");
+                let who = seen.leader.as_ref().map_or("nobody", |peer| &peer.address);
                 debug!("{who} leads, and group {} of {} is next here", follower.next, seen.next);
                 leader.send_replace(seen.leader.clone());
             }
@@ -220,7 +220,7 @@ impl Member {
     }
 
     /// Sees to it that the state that is kept here, or the beginning, and the groups of etcd lead to now.
-    async fn have_state(&self, leader: &watch::Sender<Option<String>>) -> Result<(), ClusterFault> {
+    async fn have_state(&self, leader: &watch::Sender<Option<Peer>>) -> Result<(), ClusterFault> {
         loop {
             let number = self.own_base()?.map_or(0, |base| base.number);
             match self.volume.look(number, 1).await {
@@ -262,9 +262,9 @@ impl Member {
             }
             other => other?,
         };
-        let own = self.settings.peer.to_string();
-        for (_, address) in kept.into_iter().filter(|(its, address)| *its > number && *address != own) {
-            if let Err(fault) = peer::fetch(&address, &self.key, &self.bases).await {
+        for (_, peer) in kept.into_iter().filter(|(its, peer)| *its > number && peer.name != self.settings.member) {
+            let address = &peer.address;
+            if let Err(fault) = peer::fetch(&peer, &self.own, &self.bases).await {
                 warn!("no state comes from {address}: {fault}");
                 continue;
             }

@@ -5,6 +5,7 @@
 
 pub mod base;
 pub mod beginning;
+pub mod door;
 pub mod etcd;
 pub mod group;
 pub mod http;
@@ -14,12 +15,17 @@ pub mod member;
 pub mod origin;
 pub mod peer;
 pub mod portion;
+pub mod proof;
 pub mod relay;
 pub mod replica;
+pub mod secret;
 pub mod term;
+pub mod tls;
 pub mod volume;
 
 use self::etcd::EtcdFault;
+use self::http::HTTPS;
+use self::tls::{name_of, EtcdTls, PeerTls};
 use serde::{Deserialize, Serialize};
 use std::io;
 use std::net::SocketAddr;
@@ -62,6 +68,8 @@ pub enum ClusterFault {
     #[error("{0}: {1}")]
     Path(PathBuf, io::Error),
     #[error("{0}")]
+    Secret(io::Error),
+    #[error("{0}")]
     Socket(String),
     #[error("{0}: {1}")]
     Peer(SocketAddr, io::Error),
@@ -89,6 +97,7 @@ impl ClusterFault {
             ClusterFault::Another(_) => 6,
             ClusterFault::Begun(_) | ClusterFault::Kept(..) | ClusterFault::NoDesk(..) | ClusterFault::Unused(_) => 1,
             ClusterFault::Process(..) | ClusterFault::Path(..) | ClusterFault::Peer(..) | ClusterFault::Socket(_) => 1,
+            ClusterFault::Secret(_) => 1,
         }
     }
 }
@@ -103,8 +112,11 @@ async fn blocking<T: Send + 'static>(work: impl FnOnce() -> io::Result<T> + Send
 #[derive(Clone, Debug, Deserialize, Serialize, PartialEq, Eq)]
 #[serde(deny_unknown_fields)]
 pub struct Settings {
-    /// The members of etcd, each a host and a port.
+    /// The members of etcd, each a host and a port, with `https://` before them where they are asked with TLS.
     pub etcd: Vec<String>,
+    /// Who kfsd is to etcd, and the file with the password; both of them or none.
+    pub etcd_user: Option<String>,
+    pub etcd_password_file: Option<PathBuf>,
     /// The name of the volume.
     pub volume: String,
     /// The name of this kfsd, which no other one of the volume has.
@@ -124,6 +136,24 @@ pub struct Settings {
     /// A leader gives up where `kfs_serve` takes longer than this for the calls of a group.
     #[serde(default = "hang_seconds")]
     pub hang_seconds: u64,
+    /// The certificates of etcd, and of the members; none where TLS isn't used.
+    pub etcd_tls: Option<EtcdTls>,
+    pub peer_tls: Option<PeerTls>,
+}
+
+/// Whether a text may be the name of a volume or of a member.
+fn is_name(text: &str) -> bool {
+    let is_right = |byte: u8| byte.is_ascii_alphanumeric() || matches!(byte, b'-' | b'_' | b'.');
+    !text.is_empty() && text.len() <= 255 && text.bytes().all(is_right)
+}
+
+/// The host of an endpoint of etcd; none where it is no host with a port.
+fn host_of(endpoint: &str) -> Option<&str> {
+    let address = endpoint.strip_prefix(HTTPS).unwrap_or(endpoint);
+    let is_right = |byte: u8| byte.is_ascii_alphanumeric() || b"-.[]:".contains(&byte);
+    let (host, port) = address.rsplit_once(':')?;
+    let port: u16 = port.parse().ok()?;
+    (address.bytes().all(is_right) && !host.is_empty() && port != 0).then_some(host)
 }
 
 fn hang_seconds() -> u64 {
@@ -146,23 +176,42 @@ impl Settings {
 
     /// Why they aren't taken.
     pub fn fault(&self) -> Option<&'static str> {
-        let is_name = |text: &str| {
-            let is_right = |byte: u8| byte.is_ascii_alphanumeric() || matches!(byte, b'-' | b'_' | b'.');
-            !text.is_empty() && text.len() <= 255 && text.bytes().all(is_right)
-        };
-        let is_address = |text: &String| {
-            let is_right = |byte: u8| byte.is_ascii_alphanumeric() || b"-.[]:".contains(&byte);
-            let port = text.rsplit_once(':').filter(|(host, _)| !host.is_empty()).and_then(|(_, port)| port.parse().ok());
-            text.bytes().all(is_right) && matches!(port, Some(1..=u16::MAX))
-        };
-        if self.etcd.is_empty() || !self.etcd.iter().all(is_address) {
+        if self.etcd.is_empty() || self.etcd.iter().any(|endpoint| host_of(endpoint).is_none()) {
             return Some("cluster.etcd has no address, or one without a port");
         }
         if !is_name(&self.volume) || !is_name(&self.member) {
             return Some("names of a volume and of a member have letters, digits, and the signs - _ . alone");
         }
-        let has_none = self.lease_seconds == 0 || self.hang_seconds == 0;
-        has_none.then_some("cluster.lease_seconds and cluster.hang_seconds are 1 at least")
+        if self.lease_seconds == 0 || self.hang_seconds == 0 {
+            return Some("cluster.lease_seconds and cluster.hang_seconds are 1 at least");
+        }
+        if self.etcd_user.is_some() != self.etcd_password_file.is_some() {
+            return Some("of cluster.etcd_user and cluster.etcd_password_file one is there without the other");
+        }
+        if self.peer_tls.is_some() && name_of(&self.member).is_none() {
+            return Some("with cluster.peer_tls the member's name is one that a certificate may have, as a host has it");
+        }
+        self.etcd_tls_fault()
+    }
+
+    /// What is wrong with TLS to etcd.
+    fn etcd_tls_fault(&self) -> Option<&'static str> {
+        let is_asked = |endpoint: &String| endpoint.starts_with(HTTPS);
+        let tls = match &self.etcd_tls {
+            None if self.etcd.iter().any(is_asked) => return Some("https:// of cluster.etcd needs cluster.etcd_tls"),
+            None => return None,
+            Some(tls) => tls,
+        };
+        if !self.etcd.iter().all(is_asked) {
+            return Some("with cluster.etcd_tls each address of cluster.etcd begins with https://");
+        }
+        if tls.certificate.is_some() != tls.private_key.is_some() {
+            return Some("cluster.etcd_tls has a certificate without a private key, or the other way round");
+        }
+        let hosts = self.etcd.iter().filter_map(|endpoint| host_of(endpoint));
+        let is_right = |host| name_of(tls.name.as_deref().unwrap_or(host)).is_some();
+        let is_wrong = !hosts.into_iter().all(is_right);
+        is_wrong.then_some("cluster.etcd_tls.name is needed where an address of cluster.etcd has no name of a host")
     }
 }
 
@@ -182,6 +231,10 @@ mod tests {
             replica_folder: None,
             state_bytes: 1,
             hang_seconds: 1,
+            etcd_user: None,
+            etcd_password_file: None,
+            etcd_tls: None,
+            peer_tls: None,
         };
         assert_eq!(right.fault(), None);
         for endpoint in ["127.0.0.1", "http://127.0.0.1:2379", "", "a b:1"] {
@@ -193,6 +246,31 @@ mod tests {
         }
         assert!(Settings { etcd: vec![], ..right.clone() }.fault().is_some());
         assert!(Settings { lease_seconds: 0, ..right.clone() }.fault().is_some());
-        assert!(Settings { hang_seconds: 0, ..right }.fault().is_some());
+        assert!(Settings { hang_seconds: 0, ..right.clone() }.fault().is_some());
+        assert!(Settings { etcd_user: Some("kfsd".into()), ..right.clone() }.fault().is_some());
+        assert!(Settings { etcd: vec!["https://127.0.0.1:2379".into()], ..right }.fault().is_some());
+    }
+
+    /// The settings of a table without what each one has.
+    fn settings(etcd: &str, member: &str, tls: &str) -> Settings {
+        let text = format!("etcd = [{etcd}]\nvolume = 'v'\nmember = '{member}'\npeer = '127.0.0.1:1'\nkey_file = '/k'\n{tls}");
+        toml::from_str(&text).unwrap()
+    }
+
+    #[test]
+    fn tls_has_names() {
+        let etcd_tls = |more: &str| format!("[etcd_tls]\nauthority = '/a'\n{more}");
+        let is_right = |etcd: &str, tls: &str| settings(etcd, "a", tls).fault().is_none();
+        assert!(is_right("'https://one.example:1', 'https://two.example:1'", &etcd_tls("")));
+        assert!(!is_right("'https://one.example:1', 'two.example:1'", &etcd_tls("")));
+        assert!(!is_right("'https://127.0.0.1:1'", &etcd_tls("")) && !is_right("'https://[::1]:1'", &etcd_tls("")));
+        assert!(is_right("'https://127.0.0.1:1'", &etcd_tls("name = 'etcd'")));
+        assert!(!is_right("'https://127.0.0.1:1'", &etcd_tls("name = '127.0.0.1'")));
+        assert!(!is_right("'https://one.example:1'", &etcd_tls("certificate = '/c'")));
+        assert!(is_right("'https://one.example:1'", &etcd_tls("certificate = '/c'\nprivate_key = '/k'")));
+        assert!(!is_right("'one.example:1'", &etcd_tls("")));
+        let peer_tls = "[peer_tls]\nauthority = '/a'\ncertificate = '/c'\nprivate_key = '/k'";
+        assert!(is_right("'one.example:1'", peer_tls));
+        assert!(settings("'one.example:1'", "10.0.0.1", peer_tls).fault().is_some());
     }
 }

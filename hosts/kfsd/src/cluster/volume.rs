@@ -10,6 +10,7 @@ use super::etcd::{Do, Done, Etcd, EtcdFault, If, Row};
 use super::group::{Group, Held, PART};
 use super::origin::random;
 use super::{ClusterFault, Settings};
+use std::cmp::Reverse;
 use std::net::SocketAddr;
 use std::time::{Duration, Instant};
 use tracing::warn;
@@ -38,13 +39,21 @@ pub struct Volume {
     address: SocketAddr,
 }
 
+/// A member, as others find it.
+#[derive(Clone, Debug, PartialEq, Eq)]
+pub struct Peer {
+    pub name: String,
+    /// Where it is.
+    pub address: String,
+}
+
 /// How a volume stands.
 #[derive(Debug)]
 pub struct Seen {
     /// When etcd had answered that.
     pub when: Instant,
-    /// Where the member is that leads it.
-    pub leader: Option<String>,
+    /// The member that leads it.
+    pub leader: Option<Peer>,
     pub sign: Sign,
     /// The term of etcd's own leader. Before a new one there was none, so no sign could be given.
     pub term: i64,
@@ -80,14 +89,14 @@ impl Seen {
 
 impl Volume {
     /// The volume of these settings.
-    pub fn new(settings: &Settings) -> Volume {
-        Volume {
-            etcd: Etcd::new(&settings.etcd),
+    pub fn new(settings: &Settings) -> Result<Volume, ClusterFault> {
+        Ok(Volume {
+            etcd: Etcd::of(settings)?,
             name: settings.volume.clone(),
             prefix: format!("kfsd/{}", settings.volume),
             member: settings.member.clone(),
             address: settings.peer,
-        }
+        })
     }
 
     fn key(&self, name: &str) -> String {
@@ -148,7 +157,7 @@ impl Volume {
         if next < from {
             return Err(ClusterFault::Ahead { own: from, next });
         }
-        let leader = first(&done, 0).and_then(|row| Some(second_word(row)?.to_string()));
+        let leader = first(&done, 0).and_then(leader_of);
         let revision = |step| first(&done, step).map_or(0, |row| row.revision);
         let sign = Sign { leader: revision(0), sign: revision(1) };
         let mut groups = Vec::new();
@@ -215,15 +224,15 @@ impl Volume {
     }
 
     /// What all members keep: the number of each state and where it is, the latest first.
-    pub async fn kept(&self) -> Result<Vec<(u64, String)>, ClusterFault> {
+    pub async fn kept(&self) -> Result<Vec<(u64, Peer)>, ClusterFault> {
         let range = [Do::Range(self.key("base/"), self.key("base0"), MEMBERS)];
         let done = self.etcd.transact(&[], &range, &[], Instant::now() + LOOK).await?;
         let wrong = || ClusterFault::Unread("the number of a state");
-        let one = |row: &Row| Some((number_of(row)?, second_word(row)?.to_string()));
+        let name = |row: &Row| row.key.rsplit('/').next().map(str::to_string);
+        let one = |row: &Row| Some((number_of(row)?, Peer { name: name(row)?, address: second_word(row)?.to_string() }));
         let rows = done.found.iter().flatten();
         let mut found = rows.map(|row| one(row).ok_or_else(wrong)).collect::<Result<Vec<_>, _>>()?;
-        found.sort();
-        found.reverse();
+        found.sort_by_key(|(number, _)| Reverse(*number));
         Ok(found)
     }
 
@@ -302,6 +311,12 @@ pub(super) fn number_of(row: &Row) -> Option<u64> {
 /// A value's second word.
 pub(super) fn second_word(row: &Row) -> Option<&str> {
     std::str::from_utf8(&row.value).ok()?.split(' ').nth(1)
+}
+
+/// The member that a leader's key names.
+fn leader_of(row: &Row) -> Option<Peer> {
+    let name = std::str::from_utf8(&row.value).ok()?.split(' ').next()?.to_string();
+    Some(Peer { name, address: second_word(row)?.to_string() })
 }
 
 /// The text of an origin.

@@ -1,0 +1,174 @@
+//! Connections to the port for other members that haven't proved the key yet. Each user of these machines may begin one.
+//!
+//! There are so many of them at once, and where one more comes, the one that has been there longest goes. So silent ones keep no member
+//! out: a member needs a moment. What is refused is told by a line a second, with its count.
+
+use crate::pace::Pace;
+use crate::sockets::refusals;
+use std::collections::BTreeMap;
+use std::io;
+use std::net::SocketAddr;
+use std::sync::{Arc, Mutex, MutexGuard, PoisonError};
+use std::time::{Duration, Instant};
+use tokio::net::{TcpListener, TcpStream};
+use tokio::sync::oneshot;
+use tokio::time::{sleep_until, timeout};
+use tracing::warn;
+
+/// How many may be there at once, and how long each may take.
+pub const AT_ONCE: usize = 256;
+const TIME: Duration = Duration::from_secs(3);
+
+/// How often a line tells what was refused.
+pub const TELLING: Duration = Duration::from_secs(1);
+
+#[derive(Debug, Default)]
+struct State {
+    /// Those that are there by the order in which they came. Where its sender is dropped, one has to go.
+    inside: BTreeMap<u64, oneshot::Sender<()>>,
+    /// The number of the next one.
+    next: u64,
+    /// How many were refused since that was told, and the last one of them.
+    refused: u64,
+    last: String,
+    /// Before this moment no other one is taken.
+    rests_until: Option<Instant>,
+}
+
+/// Those that haven't proved the key.
+#[derive(Debug)]
+pub struct Door {
+    state: Mutex<State>,
+    most: usize,
+    refusals: Pace,
+}
+
+/// One of them.
+#[derive(Debug)]
+pub struct Inside {
+    door: Arc<Door>,
+    number: u64,
+    has_to_go: oneshot::Receiver<()>,
+}
+
+impl Drop for Inside {
+    fn drop(&mut self) {
+        self.door.state().inside.remove(&self.number);
+    }
+}
+
+impl Door {
+    /// For so many at once.
+    pub fn new(most: usize) -> Arc<Door> {
+        Arc::new(Door { state: Mutex::default(), most, refusals: refusals() })
+    }
+
+    fn state(&self) -> MutexGuard<'_, State> {
+        self.state.lock().unwrap_or_else(PoisonError::into_inner)
+    }
+
+    /// The next connection, once another one may be taken.
+    pub async fn accept(&self, listener: &TcpListener) -> io::Result<(TcpStream, SocketAddr)> {
+        let until = self.state().rests_until.take();
+        if let Some(until) = until.filter(|until| *until > Instant::now()) {
+            // Where it is dropped meanwhile, the rest of it is left out.
+            sleep_until(until.into()).await;
+        }
+        listener.accept().await
+    }
+
+    /// One more is there. Where they are too many, the first one goes.
+    pub fn enter(self: &Arc<Door>) -> Inside {
+        let (stays, has_to_go) = oneshot::channel();
+        let mut state = self.state();
+        let number = state.next;
+        state.next += 1;
+        state.inside.insert(number, stays);
+        if state.inside.len() > self.most {
+            let first = state.inside.keys().next().copied();
+            first.and_then(|first| state.inside.remove(&first));
+        }
+        drop(state);
+        Inside { door: Arc::clone(self), number, has_to_go }
+    }
+
+    /// One is refused, and the next ones wait where that is so too often.
+    pub fn refuse(&self, from: SocketAddr, fault: &io::Error) {
+        let mut state = self.state();
+        state.refused += 1;
+        state.last = format!("{from}: {fault}");
+        state.rests_until = Some(Instant::now() + self.refusals.wait());
+    }
+
+    /// What is to be told of those that were refused since that was told last; none where none was.
+    fn told(&self) -> Option<String> {
+        let mut state = self.state();
+        let (count, last) = (std::mem::take(&mut state.refused), std::mem::take(&mut state.last));
+        match count {
+            0 => None,
+            1 => Some(format!("a connection to the port for members is refused: {last}")),
+            _ => Some(format!("{count} connections to the port for members are refused, {last} as the last one")),
+        }
+    }
+
+    /// Tells it.
+    pub fn tell(&self) {
+        if let Some(line) = self.told() {
+            warn!("{line}");
+        }
+    }
+}
+
+impl Inside {
+    /// What this one proves, within its time and as long as it needn't go.
+    pub async fn prove<T>(mut self, proving: impl std::future::Future<Output = io::Result<T>>) -> io::Result<T> {
+        let gone = || io::Error::new(io::ErrorKind::TimedOut, "others have come meanwhile, and it has proved nothing");
+        tokio::select! {
+            proved = timeout(TIME, proving) => proved.unwrap_or_else(|_| Err(io::ErrorKind::TimedOut.into())),
+            _ = &mut self.has_to_go => Err(gone()),
+        }
+    }
+}
+
+#[cfg(test)]
+mod tests {
+    use super::*;
+    use std::future::pending;
+
+    #[tokio::test]
+    async fn the_one_that_is_there_longest_goes() {
+        let door = Door::new(2);
+        let silent = || pending::<io::Result<()>>();
+        let (first, second) = (tokio::spawn(door.enter().prove(silent())), tokio::spawn(door.enter().prove(silent())));
+        tokio::task::yield_now().await;
+        assert!(!first.is_finished());
+        let third = door.enter();
+        assert!(first.await.unwrap().is_err());
+        assert!(!second.is_finished());
+        assert_eq!(third.prove(async { Ok(7) }).await.unwrap(), 7);
+        assert_eq!(door.state().inside.len(), 1);
+        second.abort();
+        assert!(second.await.is_err());
+        assert_eq!(door.state().inside.len(), 0);
+    }
+
+    #[tokio::test]
+    async fn a_silent_one_has_its_time() {
+        let door = Door::new(2);
+        let began = Instant::now();
+        assert!(door.enter().prove(pending::<io::Result<()>>()).await.is_err());
+        assert!((TIME..TIME * 3).contains(&began.elapsed()));
+    }
+
+    #[test]
+    fn a_line_has_a_count() {
+        let (door, from) = (Door::new(2), "127.0.0.1:5".parse().unwrap());
+        assert_eq!(door.told(), None);
+        door.refuse(from, &io::Error::new(io::ErrorKind::Other, "why"));
+        assert_eq!(door.told().unwrap(), "a connection to the port for members is refused: 127.0.0.1:5: why");
+        (0..300).for_each(|_| door.refuse(from, &io::Error::new(io::ErrorKind::Other, "why")));
+        assert!(door.told().unwrap().starts_with("300 connections"));
+        assert_eq!(door.told(), None);
+        assert!(door.state().rests_until > Some(Instant::now()), "it rests behind so many");
+    }
+}
