@@ -24,10 +24,49 @@ LOST = 5
 LONGEST_LINE = 16 << 20
 # The files of a desk.
 FILES = ("first.kdjl", "second.kdjl")
+# The user of etcd that kfsd is where etcd asks who it is, and the passwords of that and of etcd's superuser.
+ETCD_USER, PASSWORD, ROOT_PASSWORD = "kfsd", "a-password", "another-password"
+# The name that all certificates of etcd have.
+ETCD_NAME = "etcd.example"
 
 
 def ip(*words, check=True):
     return subprocess.run(["ip", *words], check=check, capture_output=True, text=True)
+
+
+def toml(value):
+    """A value of a configuration."""
+    if isinstance(value, dict):
+        return "{ " + ", ".join(f"{name} = {toml(it)}" for name, it in value.items()) + " }"
+    return json.dumps(value)
+
+
+class Authority:
+    """One that signs certificates, with its files in a folder."""
+
+    def __init__(self, room, name="authority"):
+        self.room, self.name = room, name
+        self.openssl("req", "-x509", "-newkey", "ec", "-pkeyopt", "ec_paramgen_curve:prime256v1", "-nodes", "-days", "2", "-subj", f"/O={name}", "-keyout", self.file(name, "key"), "-out", self.file(name, "pem"))
+
+    def openssl(self, *words):
+        subprocess.run(["openssl", *words], check=True, capture_output=True)
+
+    def file(self, name, kind):
+        return f"{self.room}/{name}.{kind}"
+
+    @property
+    def own(self):
+        return self.file(self.name, "pem")
+
+    def sign(self, file, *names):
+        """Makes a certificate that has these names, for either end of a connection. Returns what a table of the configuration says of it."""
+        certificate, key, request, words = (self.file(file, kind) for kind in ("pem", "key", "csr", "ext"))
+        self.openssl("req", "-new", "-newkey", "ec", "-pkeyopt", "ec_paramgen_curve:prime256v1", "-nodes", "-subj", "/O=kfsd", "-keyout", key, "-out", request)
+        os.chmod(key, 0o600)
+        with open(words, "w", encoding="ascii") as it:
+            it.write(f"subjectAltName = {', '.join(names)}\nextendedKeyUsage = serverAuth, clientAuth\nbasicConstraints = CA:FALSE\n")
+        self.openssl("x509", "-req", "-in", request, "-CA", self.own, "-CAkey", self.file(self.name, "key"), "-CAcreateserial", "-days", "2", "-extfile", words, "-out", certificate)
+        return {"authority": self.own, "certificate": certificate, "private_key": key}
 
 
 def state_of(data):
@@ -65,6 +104,7 @@ class Machine(Daemon):
 
     def __init__(self, cluster, name, made, volume=VOLUME, port=KFSD_PORT, **settings):
         super().__init__(*made, **settings)
+        self.certificate = cluster.authority.sign(f"member-{name}", f"DNS:{name}") if cluster.authority else None
         self.volume, self.port = volume, port
         self.cluster, self.name = cluster, name
         at = NAMES.index(name)
@@ -81,13 +121,27 @@ class Machine(Daemon):
     def put_config(self):
         super().put_config()
         settings = {
-            "etcd": [f"{it.address}:{CLIENTS_PORT}" for it in self.cluster.in_order(self)], "volume": self.volume, "member": self.name,
-            "peer": f"{self.address}:{self.port}", "key_file": f"{self.cluster.room}/key", **self.cluster.settings,
+            "etcd": [it.endpoint for it in self.cluster.in_order(self)], "volume": self.volume, "member": self.name,
+            "peer": f"{self.address}:{self.port}", "key_file": f"{self.cluster.room}/key", **self.cluster.settings, **self.secrets(),
         }
         if self.memory:
             settings["replica_folder"] = self.memory
         with open(f"{self.room}/kfsd.toml", "a", encoding="utf-8") as it:
-            it.write("\n".join(["[cluster]", *(f"{name} = {json.dumps(value)}" for name, value in settings.items())]) + "\n")
+            it.write("\n".join(["[cluster]", *(f"{name} = {toml(value)}" for name, value in settings.items())]) + "\n")
+
+    @property
+    def endpoint(self):
+        """Where its member of etcd answers."""
+        return ("https://" if self.cluster.authority else "") + f"{self.address}:{CLIENTS_PORT}"
+
+    def secrets(self):
+        """What kfsd shows etcd and other members."""
+        found = {}
+        if self.cluster.is_guarded:
+            found |= {"etcd_user": ETCD_USER, "etcd_password_file": f"{self.cluster.room}/password"}
+        if self.cluster.authority:
+            found |= {"etcd_tls": {**self.cluster.shown, "name": ETCD_NAME}, "peer_tls": self.certificate}
+        return found
 
     def link(self):
         """Makes the namespace, and its wire to the others."""
@@ -105,8 +159,9 @@ class Machine(Daemon):
 
     def start_etcd(self):
         own = f"http://{self.address}"
+        clients = f"{'https' if self.cluster.authority else 'http'}://{self.address}:{CLIENTS_PORT}"
         words = {
-            "name": self.name, "data-dir": f"{self.room}/etcd", "listen-client-urls": f"{own}:{CLIENTS_PORT}", "advertise-client-urls": f"{own}:{CLIENTS_PORT}",
+            "name": self.name, "data-dir": f"{self.room}/etcd", "listen-client-urls": clients, "advertise-client-urls": clients,
             "listen-peer-urls": f"{own}:{PEERS_PORT}", "initial-advertise-peer-urls": f"{own}:{PEERS_PORT}", "initial-cluster-token": self.cluster.space,
             # as docs/CLUSTER.md has it for a local network
             "heartbeat-interval": "50", "election-timeout": "500",
@@ -114,6 +169,9 @@ class Machine(Daemon):
             "auto-compaction-mode": "revision", "auto-compaction-retention": "1000",
             "initial-cluster": ",".join(f"{it.name}=http://{it.address}:{PEERS_PORT}" for it in self.cluster.machines),
         }
+        if self.cluster.authority:
+            shown = self.cluster.shown
+            words |= {"cert-file": shown["certificate"], "key-file": shown["private_key"], "trusted-ca-file": shown["authority"], "client-cert-auth": "true"}
         with open(f"{self.room}/etcd.log", "ab") as log:
             self.etcd = subprocess.Popen(["ip", "netns", "exec", self.space, "etcd", *(f"--{name}={value}" for name, value in words.items())], stdout=log, stderr=log)
 
@@ -210,13 +268,17 @@ class Machine(Daemon):
 class Cluster:
     """Three machines and the wire between them. Threads connect to whichever leads."""
 
-    def __init__(self, made, settings=None, is_watched=True, is_begun=True, is_in_memory=False, **words):
+    def __init__(self, made, settings=None, is_watched=True, is_begun=True, is_in_memory=False, is_guarded=False, has_tls=False, **words):
         self.space = f"kfsd-{os.getpid()}"
         self.settings, self.is_watched, self.is_begun, self.watchers = settings or {}, is_watched, is_begun, []
         self.is_in_memory = is_in_memory
         # The number of the first group.
         self.first = 0
         self.room = tempfile.mkdtemp(prefix="kfsd-cluster-")
+        # Whether etcd asks who it is; who signs certificates where TLS is used, and what etcd shows, and is shown by kfsd and etcdctl.
+        self.is_guarded, self.authority = is_guarded, Authority(self.room) if has_tls else None
+        addresses = [f"IP:{NETWORK}.{at + 1}" for at in range(len(NAMES))]
+        self.shown = self.authority.sign("etcd", f"DNS:{ETCD_NAME}", *addresses) if has_tls else None
         self.lock = threading.Lock()
         # The revision at which the leader's key that was found last was put.
         self.term = 0
@@ -241,8 +303,7 @@ class Cluster:
         """Makes the namespaces, and starts all in them. Returns when one leads, or etcd answers."""
         assert shutil.which("etcd") and shutil.which("etcdctl"), "hosts/setup installs etcd"
         self.held.callback(self.unlink)
-        with open(f"{self.room}/key", "wb", opener=lambda path, flags: os.open(path, flags, 0o600)) as it:
-            it.write(os.urandom(32))
+        self.put_secret("key", os.urandom(32))
         ip("netns", "add", self.space)
         ip("-n", self.space, "link", "add", "hub", "type", "bridge")
         ip("-n", self.space, "addr", "add", f"{NETWORK}.{HUB}/24", "dev", "hub")
@@ -253,10 +314,39 @@ class Cluster:
         for it in self.machines:
             it.start_etcd()
         self.wait_for(lambda: self.etcdctl("endpoint", "health").returncode == 0)
+        if self.is_guarded:
+            self.guard()
         if self.is_watched:
             self.watch()
         if self.is_begun:
             self.begin()
+
+    def put_secret(self, name, data):
+        """Puts what its owner alone may read into a file."""
+        with open(f"{self.room}/{name}", "wb", opener=lambda path, flags: os.open(path, flags, 0o600)) as it:
+            it.write(data)
+
+    def guard(self):
+        """Has etcd ask who it is, as docs/CLUSTER.md says."""
+        self.put_secret("password", PASSWORD.encode() + b"\n")
+        self.is_guarded = False
+        for words in (
+            ("user", "add", f"root:{ROOT_PASSWORD}"), ("user", "grant-role", "root", "root"), ("role", "add", "kfsd"),
+            ("role", "grant-permission", "kfsd", "readwrite", "--prefix=true", "kfsd/"), ("role", "grant-permission", "kfsd", "readwrite", "--prefix=true", "kfsd-volumes/"),
+            ("user", "add", f"{ETCD_USER}:{PASSWORD}"), ("user", "grant-role", ETCD_USER, "kfsd"), ("auth", "enable"),
+        ):
+            said = self.etcdctl(*words)
+            assert said.returncode == 0, said.stderr
+        self.is_guarded = True
+
+    def etcdctl_words(self, endpoints):
+        """The command that asks these members of etcd, as its superuser."""
+        words = ["ip", "netns", "exec", self.space, "etcdctl", "--endpoints", endpoints]
+        if self.is_guarded:
+            words += ["--user", f"root:{ROOT_PASSWORD}"]
+        if self.authority:
+            words += ["--cacert", self.shown["authority"], "--cert", self.shown["certificate"], "--key", self.shown["private_key"]]
+        return words
 
     def begin(self):
         """Starts each kfsd. Returns when one leads."""
@@ -282,7 +372,7 @@ class Cluster:
 
     def watcher(self, it, revision):
         """Has a member of etcd tell all that is put from a revision on."""
-        words = ["ip", "netns", "exec", self.space, "etcdctl", "--endpoints", f"{it.address}:{CLIENTS_PORT}", "watch", "--rev", str(revision), "--prefix", f"kfsd/{VOLUME}/", "-w", "json"]
+        words = [*self.etcdctl_words(it.endpoint), "watch", "--rev", str(revision), "--prefix", f"kfsd/{VOLUME}/", "-w", "json"]
         with open(f"{self.room}/{it.name}", "ab") as to:
             return subprocess.Popen(words, stdout=to, stderr=subprocess.DEVNULL, env={**os.environ, "ETCDCTL_API": "3"})
 
@@ -344,8 +434,8 @@ class Cluster:
 
     def etcdctl(self, *words, data=None):
         """Asks the members of etcd that can be reached."""
-        endpoints = ",".join(f"{it.address}:{CLIENTS_PORT}" for it in self.machines if not it.is_cut and it.etcd.poll() is None)
-        words = ["ip", "netns", "exec", self.space, "etcdctl", "--endpoints", endpoints, "--command-timeout=2s", *words]
+        endpoints = ",".join(it.endpoint for it in self.machines if not it.is_cut and it.etcd.poll() is None)
+        words = [*self.etcdctl_words(endpoints), "--command-timeout=2s", *words]
         return subprocess.run(words, check=False, input=data, capture_output=True, env={**os.environ, "ETCDCTL_API": "3"})
 
     def asked(self, first, *words):

@@ -107,7 +107,7 @@ impl Door {
         match count {
             0 => None,
             1 => Some(format!("a connection to the port for members is refused: {last}")),
-            _ => Some(format!("{count} connections to the port for members are refused, {last} as the last one")),
+            _ => Some(format!("{count} connections to the port for members are refused, the last one {last}")),
         }
     }
 
