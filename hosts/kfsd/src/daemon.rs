@@ -2,6 +2,7 @@
 
 use crate::clients::Clients;
 use crate::cluster::beginning;
+use crate::cluster::door::AT_ONCE;
 use crate::cluster::member::Member;
 use crate::cluster::term::Term;
 use crate::config::{Config, ConfigFault};
@@ -55,7 +56,9 @@ pub enum DaemonFault {
     NotASocket(PathBuf),
     #[error("{0}: another program listens there, as another kfsd would")]
     InUse(PathBuf),
-    #[error("at most {0} files may be open, and {1} connections are allowed: raise the one or lower connections_a_user")]
+    #[error(
+        "at most {0} files may be open, and connections that are allowed need {1}: raise the one or lower connections_a_user"
+    )]
     Files(u64, u64),
     #[error("signals: {0}")]
     Signals(io::Error),
@@ -377,7 +380,11 @@ fn raise_files(config: &Config) -> Result<(), DaemonFault> {
     let failed = |errno: nix::errno::Errno| DaemonFault::Io("RLIMIT_NOFILE".into(), errno.into());
     let (_, most) = getrlimit(Resource::RLIMIT_NOFILE).map_err(failed)?;
     setrlimit(Resource::RLIMIT_NOFILE, most, most).map_err(failed)?;
-    let wanted = config.users.len() as u64 * u64::from(config.limits.connections_a_user);
+    let mut wanted = config.users.len() as u64 * u64::from(config.limits.connections_a_user);
+    if config.cluster.is_some() {
+        // Each may be handed on by another one, and others come that haven't proved the key.
+        wanted = 2 * wanted + AT_ONCE as u64;
+    }
     if wanted + OTHER_FILES > most {
         return Err(DaemonFault::Files(most, wanted));
     }

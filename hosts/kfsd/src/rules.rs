@@ -145,4 +145,17 @@ mod tests {
         assert_eq!(changes(&text).waiting, ["socket", "tiers", "figures"]);
         assert_eq!(changes(&text).taken, Vec::<String>::new());
     }
+
+    #[test]
+    fn what_members_and_etcd_are_shown_waits() {
+        let cluster = "\n[cluster]\netcd = ['e:1']\nvolume = 'v'\nmember = 'a'\npeer = '127.0.0.1:1'\nkey_file = '/k'";
+        let read = |more: &str| Config::of_text(&format!("{SMALL}{cluster}\n{more}"), Path::new("kfsd.toml")).unwrap();
+        let login = "etcd_user = 'kfsd'\netcd_password_file = '/p'";
+        let tls = "[cluster.peer_tls]\nauthority = '/a'\ncertificate = '/c'\nprivate_key = '/k'";
+        for more in [login, tls] {
+            let found = Changes::between(&read(""), &read(more)).unwrap();
+            assert_eq!(found, Changes { taken: vec![], waiting: vec!["cluster".to_string()] });
+        }
+        assert_eq!(Changes::between(&read(tls), &read(tls)).unwrap(), Changes::default());
+    }
 }

@@ -109,6 +109,7 @@ def a_stranger_in_place_of_a_leader(made):
             if len(killed) == len(NAMES) and how == "between":
                 break
         assert killed == set(NAMES)
+        assert any(re.search("WARN .*isn't believed: it hasn't proved that it is member", it.said()) for it in cluster.machines)
         assert not [it for it in heard if key in it], "the key was heard"
         for it in heard:
             assert not [uid for uid in (1000, 1001, 1002) if struct.pack(">I", uid) in it] and MARK not in it, it
