@@ -210,8 +210,8 @@ pub async fn accept(sockets: Sockets, shared: Arc<Shared>) {
     while tasks.join_next().await.is_some() {}
 }
 
-/// Takes connections until it is dropped, and has each one served whose user is listed and may have one more. Those of `kfsctl` are
-/// answered beside them.
+/// Takes connections until it is dropped, and has each one served whose user is listed and may have one more. Those of `kfsctl`
+/// are answered beside them.
 pub async fn take_all<Served>(
     sockets: &Sockets,
     shared: &Arc<Shared>,

@@ -149,7 +149,7 @@ def main():
         say(address, port, *map(bytes.fromhex, words))
     else:
         key, volume, caller, listener, data = words
-        member(address, port, bytes.fromhex(key), [it.encode() for it in (volume, caller, listener)], bytes.fromhex(data))
+        member(address, port, bytes.fromhex(key), [it.encode() for it in (volume, caller, listener, f"{address}:{port}")], bytes.fromhex(data))
 
 
 if __name__ == "__main__":

@@ -1,7 +1,7 @@
 //! Connections to the port for other members that haven't proved the key yet. Each user of these machines may begin one.
 //!
-//! There are so many of them at once, and where one more comes, the one that has been there longest goes. So silent ones keep no member
-//! out: a member needs a moment. What is refused is told by a line a second, with its count.
+//! There are so many of them at once, and where one more comes, the one that has been there longest goes. So silent ones keep no
+//! member out: a member needs a moment. What is refused is told by a line a second, with its count.
 
 use crate::pace::Pace;
 use crate::sockets::refusals;

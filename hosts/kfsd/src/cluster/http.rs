@@ -43,8 +43,8 @@ impl Http {
         &self.address
     }
 
-    /// Posts a text, with a token where there is one. Answers the status, and what stands behind the head. Dropped before that, the
-    /// connection is closed.
+    /// Posts a text, with a token where there is one. Answers the status, and what stands behind the head. Dropped before that,
+    /// the connection is closed.
     pub async fn post(&self, path: &str, text: &str, token: Option<&str>) -> io::Result<(u16, Vec<u8>)> {
         let kept = self.idle.lock().unwrap_or_else(PoisonError::into_inner).pop();
         let mut stream = match kept {

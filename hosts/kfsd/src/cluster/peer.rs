@@ -1,7 +1,7 @@
 //! What members of a volume ask each other, over TCP: the state that one keeps, and that a leader serves a connection of a user.
 //!
-//! Each end proves to the other one that it knows the key before anything is asked (`proof.rs`). Who has done that is believed. Without
-//! TLS nothing is encrypted, so the wire between the machines has to be theirs alone then.
+//! Each end proves to the other one that it knows the key before anything is asked (`proof.rs`). Who has done that is believed.
+//! Without TLS nothing is encrypted, so the wire between the machines has to be theirs alone then.
 
 use super::base::Bases;
 use super::door::{Door, AT_ONCE, TELLING};
@@ -74,7 +74,7 @@ async fn connect(peer: &Peer, own: &Credentials) -> io::Result<Stream> {
         let stream = TcpStream::connect(&peer.address).await?;
         watch_over(&stream)?;
         let mut stream = own.connector.connect(stream, &peer.name).await?;
-        proof::call(&mut stream, &own.identity, &peer.name).await?;
+        proof::call(&mut stream, &own.identity, peer).await?;
         Ok(stream)
     };
     timeout(TIME, connecting).await.unwrap_or_else(|_| Err(ErrorKind::TimedOut.into()))

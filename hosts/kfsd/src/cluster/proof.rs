@@ -1,18 +1,20 @@
 //! How two members prove to each other that they know the key of their volume, which neither of them sends.
 //!
-//! Who connects knows whom it means to reach, and says its own name and a nonce. Who listens proves itself first, and then who connects
-//! does: so one without the key, wherever it listens, hears a name and a nonce alone. Each answer stands for its direction, both nonces,
-//! the volume and both names, and so for nothing else. docs/CLUSTER.md has the bytes.
+//! Who connects knows whom it means to reach, and says its own name and a nonce. Who listens proves itself first, and then who
+//! connects does: so one without the key, wherever it listens, hears a name and a nonce alone. Each answer stands for its direction,
+//! both nonces, the volume, both names, and where the one that listens does so. Who stands between two members listens elsewhere, so
+//! what it hands on is believed at neither end. docs/CLUSTER.md has the bytes.
 
+use super::volume::Peer;
 use super::{secret, Settings};
 use hmac::{Hmac, Mac};
 use sha2::Sha256;
 use std::io::{self, ErrorKind};
-use std::path::Path;
 use thiserror::Error;
 use tokio::io::{AsyncRead, AsyncReadExt, AsyncWrite, AsyncWriteExt};
 
-/// What stands before all else, and the version behind it. An older kfsd takes the first two bytes for the length of a key, and closes.
+/// What stands before all else, and the version behind it. An older kfsd takes the first two bytes for the length of a key, and
+/// closes.
 const GREETING: [u8; 6] = *b"\0\0KFSM";
 const VERSION: u8 = 2;
 
@@ -60,6 +62,8 @@ pub struct Identity {
     key: Vec<u8>,
     volume: String,
     member: String,
+    /// Where it listens.
+    address: String,
 }
 
 impl std::fmt::Debug for Identity {
@@ -71,30 +75,32 @@ impl std::fmt::Debug for Identity {
 impl Identity {
     /// That of these settings, with the key of their file: 16 bytes at least, and 1,024 at most.
     pub fn of(settings: &Settings) -> io::Result<Identity> {
-        Identity::read(&settings.key_file, &settings.volume, &settings.member)
-    }
-
-    fn read(path: &Path, volume: &str, member: &str) -> io::Result<Identity> {
-        Ok(Identity { key: secret::read(path, LENGTHS)?, volume: volume.to_string(), member: member.to_string() })
+        Ok(Identity {
+            key: secret::read(&settings.key_file, LENGTHS)?,
+            volume: settings.volume.clone(),
+            member: settings.member.clone(),
+            address: settings.peer.to_string(),
+        })
     }
 }
 
 /// What an answer stands for, as one end sees it.
 struct Meeting<'a> {
     of: &'a Identity,
-    /// The names of both.
+    /// The names of both, and where the one listens.
     caller: &'a str,
     listener: &'a str,
+    address: &'a str,
     /// What each has drawn.
     called: Nonce,
     listened: Nonce,
 }
 
 impl Meeting<'_> {
-    /// The answer of a direction, before it is told or compared. Each text stands behind its length, and nonces have always the same.
+    /// The answer of a direction, before it is told or compared. Each text stands behind its length, and all nonces are as long.
     fn answer(&self, direction: &str) -> io::Result<Hmac<Sha256>> {
         let mut answer = Hmac::<Sha256>::new_from_slice(&self.of.key).map_err(|_| ErrorKind::InvalidInput)?;
-        for text in [direction, &self.of.volume, self.caller, self.listener] {
+        for text in [direction, &self.of.volume, self.caller, self.listener, self.address] {
             let length = u8::try_from(text.len()).map_err(|_| ErrorKind::InvalidInput)?;
             answer.update(&[length]);
             answer.update(text.as_bytes());
@@ -121,12 +127,8 @@ fn nonce() -> io::Result<Nonce> {
     Ok(bytes)
 }
 
-/// At the end that connects: has the member of this name prove itself, and does the same then. Nothing else is sent before.
-pub async fn call(
-    stream: &mut (impl AsyncRead + AsyncWrite + Unpin),
-    own: &Identity,
-    listener: &str,
-) -> Result<(), ProofFault> {
+/// At the end that connects: has this member prove itself, and does the same then. Nothing else is sent before.
+pub async fn call(stream: &mut (impl AsyncRead + AsyncWrite + Unpin), own: &Identity, peer: &Peer) -> Result<(), ProofFault> {
     let called = nonce()?;
     let length = u8::try_from(own.member.len()).map_err(|_| io::Error::from(ErrorKind::InvalidInput))?;
     let greeting = [&GREETING[..], &[VERSION], &called, &[length], own.member.as_bytes()].concat();
@@ -141,20 +143,21 @@ pub async fn call(
         ErrorKind::UnexpectedEof | ErrorKind::ConnectionReset => ProofFault::Silent,
         _ => ProofFault::Io(fault),
     })?;
-    let meeting = Meeting { of: own, caller: &own.member, listener, called, listened };
+    let meeting = Meeting { of: own, caller: &own.member, listener: &peer.name, address: &peer.address, called, listened };
     if !meeting.is_right(LISTENS, &answer)? {
-        return Err(ProofFault::Unproved(listener.to_string()));
+        return Err(ProofFault::Unproved(peer.name.clone()));
     }
     stream.write_all(&meeting.told(CONNECTS)?).await?;
     stream.flush().await?;
     Ok(())
 }
 
-/// At the end that listens: proves itself to whoever connects, and has it do the same. Tells the other one's name. What is read has
-/// 327 bytes at most.
+/// At the end that listens: proves itself to whoever connects, and has it do the same. Tells the other one's name. What is read
+/// has 327 bytes at most.
 pub async fn listen(stream: &mut (impl AsyncRead + AsyncWrite + Unpin), own: &Identity) -> Result<String, ProofFault> {
     let (called, caller) = read_greeting(stream).await?;
-    let meeting = Meeting { of: own, caller: &caller, listener: &own.member, called, listened: nonce()? };
+    let (listener, address, listened) = (&own.member, &own.address, nonce()?);
+    let meeting = Meeting { of: own, caller: &caller, listener, address, called, listened };
     stream.write_all(&[meeting.listened, meeting.told(LISTENS)?].concat()).await?;
     stream.flush().await?;
     let mut answer = [0; ANSWER];
@@ -199,14 +202,22 @@ mod tests {
     use tokio::io::{duplex, DuplexStream};
     use tokio::time::timeout;
 
+    /// All listen there, so that nothing but what a test changes differs.
+    const ADDRESS: &str = "127.0.0.1:1";
+
     fn identity(key: u8, volume: &str, member: &str) -> Identity {
-        Identity { key: vec![key; 32], volume: volume.to_string(), member: member.to_string() }
+        let address = ADDRESS.to_string();
+        Identity { key: vec![key; 32], volume: volume.to_string(), member: member.to_string(), address }
+    }
+
+    fn peer(name: &str) -> Peer {
+        Peer { name: name.to_string(), address: ADDRESS.to_string() }
     }
 
     /// How both ends of a connection fare, where the one that connects means to reach this member.
     async fn meet(caller: Identity, meant: &str, listener: Identity) -> (Result<(), ProofFault>, Result<String, ProofFault>) {
         let (mut here, mut there) = duplex(1024);
-        let meant = meant.to_string();
+        let meant = peer(meant);
         let calling = async move { call(&mut here, &caller, &meant).await };
         let listening = async move { listen(&mut there, &listener).await };
         tokio::join!(calling, listening)
@@ -254,6 +265,8 @@ mod tests {
             (identity(1, "v", "b"), "b", identity(1, "v", "a")),
             // the same letters, otherwise divided
             (identity(1, "va", "b"), "c", identity(1, "v", "c")),
+            // the right member, by one that listens elsewhere and hands all on
+            (identity(1, "v", "a"), "b", Identity { address: "127.0.0.1:2".to_string(), ..identity(1, "v", "b") }),
         ];
         for (caller, meant, listener) in wrong {
             let told = format!("{caller:?} {meant} {listener:?}");
@@ -267,7 +280,7 @@ mod tests {
     #[tokio::test]
     async fn a_listener_without_the_key_hears_a_name_and_a_nonce() {
         let (mut here, mut there) = duplex(1024);
-        let calling = tokio::spawn(async move { call(&mut here, &identity(1, "v", "a"), "b").await });
+        let calling = tokio::spawn(async move { call(&mut here, &identity(1, "v", "a"), &peer("b")).await });
         let mut said = heard(&mut there).await;
         assert_eq!(said.split_off(7 + NONCE), b"\x01a");
         assert_eq!(said[..7], *b"\0\0KFSM\x02");
@@ -280,7 +293,7 @@ mod tests {
     async fn what_was_recorded_serves_at_no_other_connection() {
         let (mut here, mut one) = duplex(1024);
         let (mut other, mut there) = duplex(1024);
-        let calling = tokio::spawn(async move { call(&mut here, &identity(1, "v", "a"), "b").await });
+        let calling = tokio::spawn(async move { call(&mut here, &identity(1, "v", "a"), &peer("b")).await });
         let listening = tokio::spawn(async move { listen(&mut there, &identity(1, "v", "b")).await });
         let [by_caller, by_listener] = record(&mut one, &mut other).await;
         assert!(calling.await.unwrap().is_ok() && listening.await.unwrap().is_ok());
@@ -293,7 +306,7 @@ mod tests {
 
         let (mut from, mut to) = duplex(1024);
         from.write_all(&by_listener).await.unwrap();
-        let again = call(&mut to, &identity(1, "v", "a"), "b").await;
+        let again = call(&mut to, &identity(1, "v", "a"), &peer("b")).await;
         assert!(matches!(again, Err(ProofFault::Unproved(name)) if name == "b"));
     }
 
@@ -309,7 +322,7 @@ mod tests {
         // One that listens, and asks a member for what it is to answer: the member is another one.
         let (mut here, mut one) = duplex(1024);
         let (mut other, mut there) = duplex(1024);
-        let calling = tokio::spawn(async move { call(&mut here, &identity(1, "v", "a"), "b").await });
+        let calling = tokio::spawn(async move { call(&mut here, &identity(1, "v", "a"), &peer("b")).await });
         let listening = tokio::spawn(async move { listen(&mut there, &identity(1, "v", "c")).await });
         let [by_caller, _] = record(&mut one, &mut other).await;
         assert_eq!(by_caller.len(), 7 + NONCE + 2);
@@ -318,7 +331,7 @@ mod tests {
         assert!(listening.await.unwrap().is_err());
         // One that sends back what it hears.
         let (mut here, mut echo) = duplex(1024);
-        let calling = tokio::spawn(async move { call(&mut here, &identity(1, "v", "a"), "a").await });
+        let calling = tokio::spawn(async move { call(&mut here, &identity(1, "v", "a"), &peer("a")).await });
         let said = heard(&mut echo).await;
         echo.write_all(&[&said[7..7 + NONCE], &[0; ANSWER]].concat()).await.unwrap();
         assert!(matches!(calling.await.unwrap(), Err(ProofFault::Unproved(_))));
@@ -329,7 +342,8 @@ mod tests {
         let greeting = [&b"\0\0KFSM\x02"[..], &[5; NONCE], b"\x01a"].concat();
         let whole = |listened: Nonce| {
             let own = identity(1, "v", "b");
-            let meeting = Meeting { of: &own, caller: "a", listener: "b", called: [5; NONCE], listened };
+            let address = &own.address;
+            let meeting = Meeting { of: &own, caller: "a", listener: "b", address, called: [5; NONCE], listened };
             meeting.told(CONNECTS).unwrap()
         };
         // each end of the answer, and of the greeting, with and without one wrong bit
@@ -367,6 +381,6 @@ mod tests {
         assert!(matches!(fault(b"\0\0KFSM\x03").await, ProofFault::Version(3)));
         let (mut here, there) = duplex(1024);
         drop(there);
-        assert!(call(&mut here, &identity(1, "v", "a"), "b").await.is_err());
+        assert!(call(&mut here, &identity(1, "v", "a"), &peer("b")).await.is_err());
     }
 }
