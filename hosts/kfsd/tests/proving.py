@@ -74,11 +74,12 @@ def connections_at(machines):
     return found
 
 
-def heard_in_place_of(leader, others, how):
-    """What a stranger hears at the port of a leader that was killed, until another one leads, while users connect to the others."""
+def heard_in_place_of(leader, others, how, wait):
+    """What a stranger hears at the port of a leader that was killed so long ago, until another one leads, while users connect to the others."""
     leader.is_wanted = False
     leader.process.kill()
     leader.process.wait()
+    time.sleep(wait)
     with beginning(leader, b"bound", "listen", leader.address, KFSD_PORT, how, others[0].address) as it:
         connections = []
         for _ in range(6):
@@ -96,11 +97,12 @@ def a_stranger_in_place_of_a_leader(made):
     """A stranger takes the port of each leader that is killed, until another one leads: it hears names and nonces, and they open no other port."""
     with Cluster(made) as cluster:
         key, killed, heard = key_of(cluster), set(), []
-        for how in ("silent", "garbage", "echo", "between") * 3:
+        for at, how in enumerate(("silent", "garbage", "echo", "between") * 3):
             leader = cluster.leader()
             others = [it for it in cluster.machines if it is not leader]
-            found = heard_in_place_of(leader, others, how)
-            assert found, "nobody has connected"
+            wait = (0, 0.5, 0, 1)[(at + at // 4) % 4]
+            found = heard_in_place_of(leader, others, how, wait)
+            assert found or wait, "nobody has connected"
             heard += found
             killed.add(leader.name)
             follows = leader.said().count("follows volume")
@@ -122,6 +124,31 @@ def a_stranger_in_place_of_a_leader(made):
                     assert len(said_to(machine, machine, first, then)) == 64
         assert not [call for call, _ in calls_of(ends_alike(cluster)) if call[0] != 2]
         print(f"    {len(heard)} connections to a stranger in place of {len(killed)} leaders")
+
+
+def a_stranger_in_place_of_a_kept_state(made):
+    """A stranger takes the port of a member that etcd says keeps the latest state: a member without one asks there, and says nothing."""
+    with Cluster(made, settings={"state_bytes": 20_000}) as cluster:
+        leader = cluster.leader()
+        other, third = (it for it in cluster.machines if it is not leader)
+        assert leader.connect(7).ask(1, struct.pack(">BII", 1, 7, 2_000_000) + bytes(2_000_004)).answer is not None
+        cluster.wait_for(lambda: "are removed from etcd" in leader.said())
+        for it in (other, third):
+            it.is_wanted = False
+            assert it.stop()[0] == 0
+        shutil.rmtree(third.folder)
+        os.mkdir(third.folder, 0o700)
+        with beginning(other, b"bound", "listen", other.address, KFSD_PORT, "between", leader.address) as it:
+            row = f"{1 << 40:016x} {other.address}:{KFSD_PORT}"
+            assert cluster.etcdctl("put", f"kfsd/{VOLUME}/base/{other.name}", row).returncode == 0
+            third.begin()
+            third.wait_for(lambda: f"has come from {leader.address}" in third.said())
+            it.kill()
+            heard = [bytes.fromhex(line) for line in it.stdout.read().split()]
+        assert heard and all(GREETING.fullmatch(it) for it in heard), heard
+        assert f"no state comes from {other.address}" in third.said()
+        other.begin()
+        ends_alike(cluster)
 
 
 def a_stranger_at_a_members_port(made):
@@ -284,5 +311,5 @@ def limits_where_connections_are_handed_on(made):
         ends_alike(cluster)
 
 
-TESTS = [a_stranger_in_place_of_a_leader, a_stranger_at_a_members_port, etcd_asks_who_it_is, tls_between_all, certificates_of_others, limits_where_connections_are_handed_on]
+TESTS = [a_stranger_in_place_of_a_leader, a_stranger_in_place_of_a_kept_state, a_stranger_at_a_members_port, etcd_asks_who_it_is, tls_between_all, certificates_of_others, limits_where_connections_are_handed_on]
 assert STRANGER not in (1000, 1001, 1002)
