@@ -4,6 +4,7 @@ import json
 import os
 import re
 import shutil
+import statistics
 import struct
 import subprocess
 import sys
@@ -295,15 +296,18 @@ def limits_where_connections_are_handed_on(made):
             it.close()
         alone = max(connecting_times(other))
         for uid in (1000, 4242):
-            before, began = came(other), time.monotonic()
+            before, began, taken = came(other), time.monotonic(), leader.status()["connections"]["taken"]
             children = [connecting_on(other, uid) for _ in range(2)]
             try:
                 cluster.wait_for(lambda count=before: came(other) > count + 2000)
-                rate = (came(other) - before - 1000) / (time.monotonic() - began)
                 times = connecting_times(other)
-                print(f"    beside connections of user {uid} without end, {rate:.0f} a second, a connection and a call took at most {1e3 * max(times):.0f} ms; alone {1e3 * alone:.0f}")
+                seconds = time.monotonic() - began
+                # 1,000 of a user, and 10 refusals, are at once
+                handed_on = (leader.status()["connections"]["taken"] - taken - 1000) / seconds
+                refused = (came(other) - before) / seconds
+                print(f"    beside connections of user {uid} without end, {refused:.0f} a second, a connection and a call took {1e3 * statistics.median(times):.0f} ms, at most {1e3 * max(times):.0f} ms; alone at most {1e3 * alone:.0f} ms")
                 assert max(times) < 5 + 10 * alone, times
-                assert uid == 1000 or rate < 4_400, rate
+                assert handed_on < 1_100 and (uid == 1000 or refused < 4_400), (handed_on, refused)
             finally:
                 for child in children:
                     os.kill(child, 9)

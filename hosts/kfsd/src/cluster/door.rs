@@ -1,7 +1,8 @@
 //! Connections to the port for other members that haven't proved the key yet. Each user of these machines may begin one.
 //!
-//! There are so many of them at once, and where one more comes, the one that has been there longest goes. So silent ones keep no
-//! member out: a member needs a moment. What is refused is told by a line a second, with its count.
+//! There are so many of them at once. Where one more comes, the one that has been there longest goes, once it has had the time that
+//! a member needs. So silent ones keep no member out, and members that come together don't drive each other away. What is refused is
+//! told by a line a second, with its count.
 
 use crate::pace::Pace;
 use crate::sockets::refusals;
@@ -11,21 +12,22 @@ use std::net::SocketAddr;
 use std::sync::{Arc, Mutex, MutexGuard, PoisonError};
 use std::time::{Duration, Instant};
 use tokio::net::{TcpListener, TcpStream};
-use tokio::sync::oneshot;
+use tokio::sync::{oneshot, Notify};
 use tokio::time::{sleep_until, timeout};
 use tracing::warn;
 
-/// How many may be there at once, and how long each may take.
-pub const AT_ONCE: usize = 256;
+/// How many may be there at once, how long each may take, and how long each may take where others wait.
+pub const AT_ONCE: usize = 1024;
 const TIME: Duration = Duration::from_secs(3);
+const LEAST: Duration = Duration::from_millis(500);
 
 /// How often a line tells what was refused.
 pub const TELLING: Duration = Duration::from_secs(1);
 
 #[derive(Debug, Default)]
 struct State {
-    /// Those that are there by the order in which they came. Where its sender is dropped, one has to go.
-    inside: BTreeMap<u64, oneshot::Sender<()>>,
+    /// Those that are there by the order in which they came, and when each did. Where its sender is dropped, one has to go.
+    inside: BTreeMap<u64, (Instant, oneshot::Sender<()>)>,
     /// The number of the next one.
     next: u64,
     /// How many were refused since that was told, and the last one of them.
@@ -40,6 +42,8 @@ struct State {
 pub struct Door {
     state: Mutex<State>,
     most: usize,
+    /// One has gone.
+    left: Notify,
     refusals: Pace,
 }
 
@@ -54,13 +58,14 @@ pub struct Inside {
 impl Drop for Inside {
     fn drop(&mut self) {
         self.door.state().inside.remove(&self.number);
+        self.door.left.notify_one();
     }
 }
 
 impl Door {
     /// For so many at once.
     pub fn new(most: usize) -> Arc<Door> {
-        Arc::new(Door { state: Mutex::default(), most, refusals: refusals() })
+        Arc::new(Door { state: Mutex::default(), most, left: Notify::new(), refusals: refusals() })
     }
 
     fn state(&self) -> MutexGuard<'_, State> {
@@ -77,19 +82,35 @@ impl Door {
         listener.accept().await
     }
 
-    /// One more is there. Where they are too many, the first one goes.
-    pub fn enter(self: &Arc<Door>) -> Inside {
+    /// One more is there. Where they are too many, it waits until one has gone, or the first one has had its time and has to go.
+    pub async fn enter(self: &Arc<Door>) -> Inside {
+        loop {
+            let room_at = match self.try_enter() {
+                Ok(inside) => return inside,
+                Err(moment) => moment,
+            };
+            tokio::select! {
+                () = sleep_until(room_at.into()) => {}
+                () = self.left.notified() => {}
+            }
+        }
+    }
+
+    /// One more is there, or when the first one has to go.
+    fn try_enter(self: &Arc<Door>) -> Result<Inside, Instant> {
+        let (now, mut state) = (Instant::now(), self.state());
+        let first = state.inside.iter().next().map(|(number, (came, _))| (*number, *came + LEAST));
+        if let Some((first, end)) = first.filter(|_| state.inside.len() >= self.most) {
+            if end > now {
+                return Err(end);
+            }
+            state.inside.remove(&first);
+        }
         let (stays, has_to_go) = oneshot::channel();
-        let mut state = self.state();
         let number = state.next;
         state.next += 1;
-        state.inside.insert(number, stays);
-        if state.inside.len() > self.most {
-            let first = state.inside.keys().next().copied();
-            first.and_then(|first| state.inside.remove(&first));
-        }
-        drop(state);
-        Inside { door: Arc::clone(self), number, has_to_go }
+        state.inside.insert(number, (now, stays));
+        Ok(Inside { door: Arc::clone(self), number, has_to_go })
     }
 
     /// One is refused, and the next ones wait where that is so too often.
@@ -137,12 +158,12 @@ mod tests {
 
     #[tokio::test]
     async fn the_one_that_is_there_longest_goes() {
-        let door = Door::new(2);
+        let (door, began) = (Door::new(2), Instant::now());
         let silent = || pending::<io::Result<()>>();
-        let (first, second) = (tokio::spawn(door.enter().prove(silent())), tokio::spawn(door.enter().prove(silent())));
-        tokio::task::yield_now().await;
-        assert!(!first.is_finished());
-        let third = door.enter();
+        let first = tokio::spawn(door.enter().await.prove(silent()));
+        let second = tokio::spawn(door.enter().await.prove(silent()));
+        let third = door.enter().await;
+        assert!((LEAST..TIME).contains(&began.elapsed()), "the first one had its time");
         assert!(first.await.unwrap().is_err());
         assert!(!second.is_finished());
         assert_eq!(third.prove(async { Ok(7) }).await.unwrap(), 7);
@@ -153,10 +174,23 @@ mod tests {
     }
 
     #[tokio::test]
+    async fn where_one_has_gone_another_needn_t_wait() {
+        let (door, began) = (Door::new(1), Instant::now());
+        for _ in 0..100 {
+            let inside = door.enter().await;
+            tokio::spawn(inside.prove(async {
+                tokio::task::yield_now().await;
+                Ok(())
+            }));
+        }
+        assert!(began.elapsed() < LEAST);
+    }
+
+    #[tokio::test]
     async fn a_silent_one_has_its_time() {
         let door = Door::new(2);
         let began = Instant::now();
-        assert!(door.enter().prove(pending::<io::Result<()>>()).await.is_err());
+        assert!(door.enter().await.prove(pending::<io::Result<()>>()).await.is_err());
         assert!((TIME..TIME * 3).contains(&began.elapsed()));
     }
 

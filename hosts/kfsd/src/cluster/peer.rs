@@ -117,7 +117,7 @@ pub async fn serve(listener: Arc<TcpListener>, own: Credentials, bases: Bases, s
             taken = door.accept(&listener) => match taken {
                 Ok((stream, from)) => {
                     let (own, bases, shared) = (own.clone(), bases.clone(), Arc::clone(&shared));
-                    let (door, inside) = (Arc::clone(&door), door.enter());
+                    let (door, inside) = (Arc::clone(&door), door.enter().await);
                     tokio::spawn(async move {
                         match inside.prove(asked(stream, &own)).await {
                             Ok((stream, asked)) => answer(stream, asked, &bases, shared).await,
