@@ -44,6 +44,7 @@ async fn said_by(answer: oneshot::Receiver<Answer>) -> Result<Reply, Instead> {
     match answer.await {
         Ok(Answer::Said(said)) => Ok(said),
         Ok(Answer::NeverSent) => Err(Instead::Refused(Refusal::Stopping)),
+        Ok(Answer::NoSpace) => Err(Instead::Refused(Refusal::NoSpace)),
         Err(_) => Err(Instead::Refused(Refusal::Unknown)),
     }
 }

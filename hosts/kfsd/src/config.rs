@@ -84,6 +84,8 @@ pub struct Limits {
     /// Bytes of a connection, and of a user, in frames that come or wait for `kfs_serve`.
     pub bytes_a_connection: u32,
     pub bytes_a_user: u32,
+    /// Blocks of 4,096 bytes that the files of a user may take; 0 where that isn't limited.
+    pub blocks_a_user: u64,
     /// Calls of a user a second. More of them wait.
     pub calls_a_second: u32,
     /// How long a frame may take from its first byte to its last.
@@ -137,6 +139,7 @@ impl Default for Limits {
             frames_a_user: 1024,
             bytes_a_connection: 8 << 20,
             bytes_a_user: 32 << 20,
+            blocks_a_user: 0,
             calls_a_second: 20_000,
             frame_seconds: 30,
             reply_seconds: 30,

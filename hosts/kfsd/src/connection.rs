@@ -219,6 +219,7 @@ fn reply_of(number: u32, answer: Option<Answer>) -> Vec<u8> {
     match answer {
         Some(Answer::Said(found)) => reply(number, &found.said),
         Some(Answer::NeverSent) => Refusal::Stopping.reply(number),
+        Some(Answer::NoSpace) => Refusal::NoSpace.reply(number),
         None => Refusal::Unknown.reply(number),
     }
 }

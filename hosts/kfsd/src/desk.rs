@@ -308,7 +308,7 @@ impl Desk {
         tokio::pin!(are_new);
         loop {
             // Where this is dropped it has taken nothing.
-            let next = async { shared.queue.next(flight.room().await).await };
+            let next = async { shared.next_batch(flight.room().await).await };
             let batch = tokio::select! {
                 batch = next, if anew.has_room() => batch,
                 () = &mut are_new => return Ok(Why::NewClients),
@@ -539,6 +539,7 @@ pub fn take_over(sent: &Sent, reply: &Reply, time: i64, shared: &Shared) {
     if let Some(own) = sent.numbered {
         shared.following.outcomes.end(sent.client, own, reply.answer());
     }
+    shared.following.space().ended(sent.number, reply.answer().map(Told::of) == Some(Told::Landed));
     shared.queue.answered(sent);
     if sent.is_long() {
         let is_done = matches!(reply.answer().map(Told::of), Some(Told::Landed | Told::Leased(_)));

@@ -5,6 +5,7 @@ use crate::clock::Clock;
 use crate::journal::{self, Part};
 use crate::leases::Leases;
 use crate::outcomes::{Finder, Outcomes, KEPT};
+use crate::space::{Held, Space};
 use crate::store::{Changes, Outcome};
 use crate::times::Times;
 use crate::wants::Wants;
@@ -64,6 +65,7 @@ pub struct Following {
     leases: Mutex<Leases>,
     wants: Mutex<Wants>,
     times: Mutex<Times>,
+    space: Mutex<Space>,
     /// Changes with each new want.
     is_wanted: watch::Sender<()>,
     /// Leases whose clients may not be allowed them. Each want puts one here once a second at most.
@@ -81,6 +83,7 @@ impl Default for Following {
             leases: Mutex::default(),
             wants: Mutex::default(),
             times: Mutex::default(),
+            space: Mutex::default(),
             is_wanted: watch::channel(()).0,
             doubts: Mutex::default(),
             is_doubtful: Notify::new(),
@@ -103,6 +106,11 @@ impl Following {
     /// When nodes were changed.
     pub fn times(&self) -> MutexGuard<'_, Times> {
         self.times.lock().unwrap_or_else(PoisonError::into_inner)
+    }
+
+    /// What the files of each owner take.
+    pub fn space(&self) -> MutexGuard<'_, Space> {
+        self.space.lock().unwrap_or_else(PoisonError::into_inner)
     }
 
     /// Takes what isn't kept yet.
@@ -153,14 +161,16 @@ impl Following {
     /// asked for. No `kfs_serve` may run.
     pub fn read(&self, folder: &Path, is_asked: impl Fn(u32, u64) -> bool) -> io::Result<Found> {
         let (mut leases, mut found, mut finder) = (Leases::default(), Found::default(), Finder::default());
-        let (mut lengths, mut length) = (VecDeque::new(), 0);
+        let (mut lengths, mut length, mut space) = (VecDeque::new(), 0, Space::default());
         journal::read(folder, |part| match part {
-            Part::State(state) => leases = state,
+            Part::State(state) => (leases, space) = (state, Space::default()),
+            Part::Node { number, owner, size } => space.put(number, Held::new(owner, size)),
             Part::Call(call, answer) => {
                 let (note, told) = (Note::of(call), Told::of(answer));
                 let changes = changes_of(&note, told);
                 leases.apply(&note, told);
                 leases.landed(&changes);
+                space.made(call, answer);
                 if let Some(outcome) = finder.next(call, answer).filter(|one| is_asked(one.client, one.number)) {
                     found.put(outcome);
                 }
@@ -175,6 +185,7 @@ impl Following {
         })?;
         self.clock.at_least(leases.moment);
         *self.leases() = leases;
+        *self.space() = space;
         found.recent.retain(|changes| !changes.is_empty());
         Ok(found)
     }

@@ -137,6 +137,8 @@ pub enum Refusal {
     Wanted = 135,
     /// The user is listed, and the desk has no such client. The connection ends.
     NoClient = 136,
+    /// The log would have the files of a user take more than they may. Nothing was done.
+    NoSpace = 137,
 }
 
 impl Refusal {

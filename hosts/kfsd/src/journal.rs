@@ -14,11 +14,17 @@ use std::path::{Path, PathBuf};
 pub const HEAD: usize = 21;
 const BUFFER: usize = 1 << 20;
 
+/// The bytes of an image's head, and of a node in it.
+const IMAGE_HEAD: usize = 29;
+const NODE: usize = 25;
+
 /// What the files tell, in its order.
 #[derive(Debug)]
 pub enum Part<'a> {
     /// The moment and the leases of the state that the file which counts begins with. Calls before it are part of it.
     State(Leases),
+    /// A node of that state, behind it.
+    Node { number: u32, owner: u32, size: u64 },
     /// A call that is kept, and its answer without the position.
     Call(&'a [u8], &'a [u8]),
 }
@@ -47,6 +53,7 @@ pub fn read(folder: &Path, mut tell: impl FnMut(Part<'_>)) -> io::Result<()> {
         before.tell_calls(&mut tell)?;
     }
     tell(Part::State(counts.state()?));
+    counts.tell_nodes(&mut tell)?;
     counts.tell_calls(&mut tell)
 }
 
@@ -162,6 +169,25 @@ impl Whole {
         Ok(found)
     }
 
+    /// Tells each node of the image, as far as it has them. The file stands at the image, behind the leases.
+    fn tell_nodes(&mut self, tell: &mut impl FnMut(Part<'_>)) -> io::Result<()> {
+        let room = self.records.saturating_sub(self.file.stream_position()?);
+        if room < IMAGE_HEAD as u64 {
+            return Ok(());
+        }
+        let head = self.take(IMAGE_HEAD)?;
+        let count = Bytes(&head[17..]).word().unwrap_or(0);
+        // Of more than are there `kfs_serve` says what is wrong.
+        for _ in 0..u64::from(count).min((room - IMAGE_HEAD as u64) / NODE as u64) {
+            let row = self.take(NODE)?;
+            let (mut bytes, mut size) = (Bytes(&row), Bytes(&row[17..]));
+            if let (Some(number), Some(_), Some(owner), Some(size)) = (bytes.word(), bytes.take(3), bytes.word(), size.long()) {
+                tell(Part::Node { number, owner, size });
+            }
+        }
+        Ok(())
+    }
+
     /// Tells each call, up to the first record that isn't whole.
     fn tell_calls(&mut self, tell: &mut impl FnMut(Part<'_>)) -> io::Result<()> {
         let mut at = self.records;
@@ -207,14 +233,19 @@ mod tests {
     use super::*;
     use crate::folder::tests::Room;
 
-    /// A file with this number, a state with a client and a lease, and a group for each of these calls.
+    /// A file with this number, a state with a client, a lease and no image, and a group for each of these calls.
     fn file(number: u64, gate: u8, calls: &[&[u8]]) -> Vec<u8> {
+        file_with(number, gate, calls, &[99])
+    }
+
+    fn file_with(number: u64, gate: u8, calls: &[&[u8]], image: &[u8]) -> Vec<u8> {
         let mut state = b"KDSK\x01".to_vec();
         state.extend_from_slice(&[0, 0, 0, 0, 0, 0, 0, 50, 0, 0, 0, 1, 0, 0, 0, 1]);
         // client 7 with one group
         state.extend_from_slice(&[0, 0, 0, 7, 0, 0, 0, 1, 0, 0, 0, 1, 0, 0, 0, 0, 2, 0, 0, 0, 9, 1, 0, 0, 0, 5]);
-        // its lease on node 3 up to 60, and an image
-        state.extend_from_slice(&[0, 0, 0, 3, 0, 0, 0, 7, 1, 0, 0, 0, 0, 0, 0, 0, 60, 99]);
+        // its lease on node 3 up to 60
+        state.extend_from_slice(&[0, 0, 0, 3, 0, 0, 0, 7, 1, 0, 0, 0, 0, 0, 0, 0, 60]);
+        state.extend_from_slice(image);
         let mut bytes = b"KDJL".to_vec();
         bytes.extend_from_slice(&number.to_be_bytes());
         bytes.push(gate);
@@ -239,6 +270,7 @@ mod tests {
         let mut found = Vec::new();
         read(&room.0, |part| match part {
             Part::State(leases) => found.push(format!("{} {:?}", leases.moment, leases.all().map(|(key, _)| key).next())),
+            Part::Node { number, owner, size } => found.push(format!("{number} of {owner}: {size}")),
             Part::Call(call, answer) => found.push(format!("{}{answer:?}", String::from_utf8_lossy(call))),
         })
         .unwrap();
@@ -284,6 +316,24 @@ mod tests {
             std::fs::write(room.0.join(FILES[1]), &wrong).unwrap();
             let fault = read(&room.0, |_| {}).unwrap_err().to_string();
             assert!(fault.contains("second.kdjl: its state is damaged"), "{fault}");
+        }
+    }
+
+    #[test]
+    fn nodes_are_told_behind_the_state() {
+        let mut image = b"KIMG\x02\0\0\0\x08\0\0\0\x08\0\0\0\x08\0\0\0\x02\0\0\0\0\0\0\0\0".to_vec();
+        image.extend_from_slice(&[0, 0, 0, 1, 1, 1, 0xff, 0, 0, 0, 0, 0, 0, 0, 9, 0, 1, 0, 0, 0, 0, 0, 0, 0, 0]);
+        image.extend_from_slice(&[0, 0, 1, 0, 0, 1, 0xa4, 0, 0, 3, 0xe8, 0, 0, 0, 9, 0, 2, 0, 0, 0, 1, 0, 0, 0, 5]);
+        let nodes = ["50 Some((3, 7))", "1 of 0: 0", "256 of 1000: 4294967301", "a[1, 1]"];
+        assert_eq!(told(&file_with(5, 1, &[b"a"], &image), &[]), nodes);
+        // what stands behind them isn't read
+        let longer = [&image[..], &[7; 90]].concat();
+        assert_eq!(told(&file_with(5, 1, &[b"a"], &longer), &file(4, 1, &[b"b"])), [&["b[1, 1]"], &nodes[..]].concat());
+        // nor what isn't there
+        for cut in 1..=image.len() {
+            let found = told(&file_with(5, 1, &[b"a"], &image[..image.len() - cut]), &[]);
+            let whole = (image.len() - cut).saturating_sub(IMAGE_HEAD) / NODE;
+            assert_eq!(found, [&nodes[..=whole], &nodes[3..]].concat(), "{cut}");
         }
     }
 

@@ -38,6 +38,7 @@ pub mod peer;
 pub mod queue;
 pub mod rules;
 pub mod sockets;
+pub mod space;
 pub mod status;
 pub mod store;
 pub mod thread;

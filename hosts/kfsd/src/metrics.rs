@@ -3,7 +3,7 @@
 use crate::connection::Shared;
 use crate::figures::{Times, BOUNDS};
 use crate::pace::Pace;
-use crate::status::{status, Status};
+use crate::status::{status, Status, UserStatus};
 use std::collections::VecDeque;
 use std::fmt::Write as _;
 use std::io;
@@ -166,7 +166,8 @@ fn text_of(status: &Status, times: &Times) -> String {
         put(&mut text, "kfsd_leads", "Whether this kfsd leads its volume.", "gauge", u64::from(volume.leads));
         put(&mut text, "kfsd_next_group", "The number of the next group of the volume.", "gauge", volume.next_group);
     }
-    put_users(&mut text, status);
+    put_users(&mut text, status, "kfsd_user_connections", "Connections of a user.", |user| user.connections.into());
+    put_users(&mut text, status, "kfsd_user_blocks", "Blocks that the files of a user take.", |user| user.blocks);
     put_times(&mut text, times);
     text
 }
@@ -176,11 +177,10 @@ fn put(text: &mut String, name: &str, help: &str, kind: &str, value: u64) {
     let _ = write!(text, "# HELP {name} {help}\n# TYPE {name} {kind}\n{name} {value}\n");
 }
 
-fn put_users(text: &mut String, status: &Status) {
-    let name = "kfsd_user_connections";
-    let _ = write!(text, "# HELP {name} Connections of a user.\n# TYPE {name} gauge\n");
+fn put_users(text: &mut String, status: &Status, name: &str, help: &str, value: impl Fn(&UserStatus) -> u64) {
+    let _ = write!(text, "# HELP {name} {help}\n# TYPE {name} gauge\n");
     for user in &status.user {
-        let _ = writeln!(text, "{name}{{uid=\"{}\",client=\"{}\"}} {}", user.uid, user.client, user.connections);
+        let _ = writeln!(text, "{name}{{uid=\"{}\",client=\"{}\"}} {}", user.uid, user.client, value(user));
     }
 }
 

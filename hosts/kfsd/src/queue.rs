@@ -6,6 +6,7 @@ use crate::calls::Note;
 use crate::cost::{expected, measured, Account, Part};
 use crate::frames::{is_look_up, Head, Reply, CHECKPOINT, HEAD};
 use crate::outcomes::{Marker, MARKER};
+use crate::space::{Gate, Ruling};
 use crate::users::FRONT;
 use std::collections::{HashMap, HashSet, VecDeque};
 use std::sync::{Mutex, MutexGuard, PoisonError};
@@ -44,6 +45,8 @@ pub enum Answer {
     Said(Reply),
     /// It never got the call.
     NeverSent,
+    /// Nor did it get this one, whose log would take too much space.
+    NoSpace,
 }
 
 /// A call that waits.
@@ -97,6 +100,11 @@ impl Call {
 
     fn is_long(&self) -> bool {
         HEAD + self.body.len() > LONG
+    }
+
+    /// The number of its frame, where the next one that is sent has this number: its marker is before it.
+    fn frame_from(&self, next: u32) -> u32 {
+        next.wrapping_add(u32::from(self.number.is_some()))
     }
 }
 
@@ -176,6 +184,10 @@ enum Turn {
     Rests,
     /// As much of it is at `kfs_serve` as may be.
     Full,
+    /// The gate has its next call wait.
+    Waits,
+    /// It doesn't let it go.
+    Refused,
 }
 
 #[derive(Debug, Default)]
@@ -183,12 +195,14 @@ struct Lines {
     /// Calls of kfsd's own that go before all others.
     first: VecDeque<Call>,
     of: HashMap<u32, Line>,
-    /// The clients that have a call, in the order of their turns; but for those that rest, and those that are full.
+    /// The clients that have a call, in the order of their turns; but for those that rest, are full, or wait.
     turns: VecDeque<u32>,
     /// Those whose next call is held back for a time, or until a long one is answered.
     resting: Vec<u32>,
     /// Those that have a share of the window at `kfs_serve`.
     full: HashSet<u32>,
+    /// Those whose next call the gate has wait, in the order in which they came to it.
+    waiting: Vec<u32>,
     holds: HashMap<u32, Hold>,
     accounts: HashMap<u32, Account>,
     /// The two clients that were answered last, the last one first.
@@ -328,6 +342,7 @@ impl Queue {
         lines.turns.clear();
         lines.resting.clear();
         lines.full.clear();
+        lines.waiting.clear();
         lines.count = 0;
         drop(lines);
         first.into_iter().chain(left.into_values().flat_map(|line| line.calls)).for_each(never_sent);
@@ -336,11 +351,16 @@ impl Queue {
 
     /// The next calls, at most `most` bytes of them or a single one; none once the queue is closed and empty. One task takes.
     pub async fn next(&self, most: usize) -> Option<Batch> {
+        self.next_by(most, &()).await
+    }
+
+    /// The same of calls that a gate lets go. One that has to wait is looked at again before all others.
+    pub async fn next_by(&self, most: usize, gate: &dyn Gate) -> Option<Batch> {
         loop {
             let until = {
                 let (mut lines, now) = (self.lines(), Instant::now());
                 lines.wake(now);
-                let batch = lines.batch(most, now);
+                let batch = lines.batch(most, now, gate);
                 if !batch.sent.is_empty() {
                     return Some(batch);
                 }
@@ -452,9 +472,11 @@ impl Lines {
         self.window = (self.window * 7 + wanted) / 8;
     }
 
-    fn batch(&mut self, most: usize, now: Instant) -> Batch {
+    fn batch(&mut self, most: usize, now: Instant, gate: &dyn Gate) -> Batch {
         let mut batch = Batch::default();
-        while let Some(call) = self.pop(most.saturating_sub(batch.bytes.len()), batch.sent.is_empty(), now) {
+        std::mem::take(&mut self.waiting).into_iter().rev().for_each(|client| self.turns.push_front(client));
+        gate.begin();
+        while let Some(call) = self.pop(most.saturating_sub(batch.bytes.len()), batch.sent.is_empty(), now, gate) {
             if let Some(number) = call.number {
                 self.put_marker(&mut batch, &call, number);
             }
@@ -506,7 +528,7 @@ impl Lines {
     }
 
     /// The next call, where there is one and it fits in so many bytes or is the first.
-    fn pop(&mut self, room: usize, is_first: bool, now: Instant) -> Option<Call> {
+    fn pop(&mut self, room: usize, is_first: bool, now: Instant, gate: &dyn Gate) -> Option<Call> {
         if matches!(self.first.front(), Some(call) if is_first || !call.is_alone()) {
             self.count -= 1;
             return self.first.pop_front();
@@ -516,7 +538,7 @@ impl Lines {
         }
         while self.sent < self.window.max(LEAST_WINDOW) {
             let client = *self.turns.front()?;
-            match self.turn_of(client, room, is_first, now)? {
+            match self.turn_of(client, room, is_first, now, gate)? {
                 Turn::Call => {
                     let call = self.take(client)?;
                     if call.is_long() && !self.is_closed {
@@ -525,6 +547,8 @@ impl Lines {
                     return Some(call);
                 }
                 Turn::InVain => drop(self.take(client)),
+                // Where the connection is gone nobody hears it.
+                Turn::Refused => drop(self.take(client)?.asker.to.send(Answer::NoSpace)),
                 Turn::Over => self.turns.rotate_left(1),
                 Turn::Rests => {
                     self.turns.pop_front();
@@ -534,13 +558,17 @@ impl Lines {
                     self.turns.pop_front();
                     self.full.insert(client);
                 }
+                Turn::Waits => {
+                    self.turns.pop_front();
+                    self.waiting.push(client);
+                }
             }
         }
         None
     }
 
     /// What becomes of the turn of a client; none where its call doesn't fit in so many bytes.
-    fn turn_of(&mut self, client: u32, room: usize, is_first: bool, now: Instant) -> Option<Turn> {
+    fn turn_of(&mut self, client: u32, room: usize, is_first: bool, now: Instant, gate: &dyn Gate) -> Option<Turn> {
         let call = self.of.get(&client).and_then(|line| line.calls.front())?;
         if call.is_in_vain() {
             return Some(Turn::InVain);
@@ -563,8 +591,12 @@ impl Lines {
         if is_too_long && !is_first {
             return None;
         }
+        let ruling = line.calls.front().map(|call| gate.rule(call, call.frame_from(self.next_number)))?;
+        if ruling == Ruling::Waits {
+            return Some(Turn::Waits);
+        }
         line.credit = line.credit.saturating_sub(cost);
-        Some(Turn::Call)
+        Some(if ruling == Ruling::Goes { Turn::Call } else { Turn::Refused })
     }
 
     /// Takes the next call of a client, whose turn it is.

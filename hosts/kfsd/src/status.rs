@@ -75,6 +75,8 @@ pub struct UserStatus {
     pub connections: u32,
     pub frames_left: u64,
     pub bytes_left: u64,
+    /// What the files that it owns take.
+    pub blocks: u64,
 }
 
 /// How kfsd stands now.
@@ -86,6 +88,7 @@ pub fn status(shared: &Shared) -> Status {
         connections: account.connections(),
         frames_left: account.frames.left(),
         bytes_left: account.bytes.left(),
+        blocks: shared.following.space().of(account.user.uid),
     });
     let micros = figures.times.sum().as_micros() as u64;
     Status {
@@ -128,11 +131,11 @@ fn standing(shared: &Shared) -> Standing {
 
 /// A line for each user that may connect, and then one for each that is listed and may not.
 pub fn users(shared: &Shared) -> String {
-    let mut text = String::from("     uid   client connections frames_left bytes_left\n");
+    let mut text = String::from("     uid   client connections frames_left bytes_left     blocks\n");
     for user in status(shared).user {
-        let UserStatus { uid, client, connections, frames_left, bytes_left } = user;
+        let UserStatus { uid, client, connections, frames_left, bytes_left, blocks } = user;
         // Nothing is refused where a String is written to, here and below.
-        let _ = writeln!(text, "{uid:>8} {client:>8} {connections:>11} {frames_left:>11} {bytes_left:>10}");
+        let _ = writeln!(text, "{uid:>8} {client:>8} {connections:>11} {frames_left:>11} {bytes_left:>10} {blocks:>10}");
     }
     for user in shared.rules.borrow().table.strangers() {
         let _ = writeln!(text, "{:>8} {:>8} is kept out: the desk has no such client", user.uid, user.client);

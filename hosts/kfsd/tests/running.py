@@ -21,7 +21,7 @@ import frames  # noqa: E402
 from frames import FRONT, frame  # noqa: E402,F401
 
 # What kfsd refuses by itself (docs/KFSD.md).
-frames.REFUSALS |= {128: "Unknown", 129: "Stopping", 130: "Unlisted", 131: "TooMany", 132: "TooFar", 133: "UnderWay", 134: "NotThere", 135: "Wanted", 136: "NoClient"}
+frames.REFUSALS |= {128: "Unknown", 129: "Stopping", 130: "Unlisted", 131: "TooMany", 132: "TooFar", 133: "UnderWay", 134: "NotThere", 135: "Wanted", 136: "NoClient", 137: "NoSpace"}
 HELLO, MOMENT = b"\xf0", b"\xf1"
 # The tags of calls that are the front's.
 FRONTS = (4, 5)

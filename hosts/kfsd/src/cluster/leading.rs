@@ -80,7 +80,7 @@ async fn make(
     to: Sender<Made>,
     shared: &Shared,
 ) -> Result<(), ClusterFault> {
-    while let Some(Batch { bytes, sent }) = shared.queue.next(MOST).await {
+    while let Some(Batch { bytes, sent }) = shared.next_batch(MOST).await {
         count_sent(&sent, shared);
         let began = Instant::now();
         let talking = timeout(leading.most, replica.talk(&bytes, sent.len())).await;

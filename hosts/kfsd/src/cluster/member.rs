@@ -418,6 +418,7 @@ impl Follower {
         let following = &shared.following;
         for (call, answer) in &group.calls {
             following.answered(&Note::of(call), answer, group.time);
+            following.space().made(call, answer);
             if let Some(outcome) = self.finder.next(call, answer) {
                 following.outcomes.end(outcome.client, outcome.number, Some(answer));
             }
