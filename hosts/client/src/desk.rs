@@ -98,6 +98,8 @@ pub enum Answer {
         /// How many are free.
         free: u32,
     },
+    /// Nothing is done: the log would have the files of a user take more than they may.
+    NoSpace,
     /// Nothing is done: the rules don't allow this entry.
     Entry(usize, Reason),
     /// Nothing is done: this row of the plan isn't the log's, in the tree as it is now.

@@ -49,6 +49,9 @@ pub enum HandInFault {
         /// How many are free.
         free: u32,
     },
+    /// The files of a user would take more than they may. Nothing is done, and the log stays as it is.
+    #[error("the files of a user would take more than they may")]
+    NoSpace,
     /// The server says that the bytes aren't a log and a plan of this client. The log stays as it is.
     #[error("the server doesn't take the bytes: {0:?}")]
     Wrong(Wrong),
@@ -71,6 +74,7 @@ impl HandInFault {
     pub fn errno(&self) -> Errno {
         match self {
             HandInFault::NoRoom { .. } => Errno::ENOSPC,
+            HandInFault::NoSpace => Errno::EDQUOT,
             HandInFault::Lease(_, refusal) => refusal.errno(),
             HandInFault::Unanswered(fault) => fault.errno(),
             HandInFault::Refused { .. } | HandInFault::Wrong(_) => Errno::EIO,

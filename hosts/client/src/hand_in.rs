@@ -42,6 +42,7 @@ impl<D: Desk> Session<D> {
                     return Ok(());
                 }
                 Answer::NoRoom { need, free } => return Err(HandInFault::NoRoom { need, free }),
+                Answer::NoSpace => return Err(HandInFault::NoSpace),
                 Answer::Wrong(wrong) => return Err(HandInFault::Wrong(wrong)),
                 said => said,
             };

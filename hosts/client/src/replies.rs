@@ -109,6 +109,7 @@ pub(crate) fn answer_in(reply: Reply, body: &[u8]) -> Result<Told, Unanswered> {
         Reply::Refused(132) => Ok(Told::TooFar),
         Reply::Refused(133) => Err(Unanswered::Unknown),
         Reply::Refused(135) => Ok(Told::Wanted),
+        Reply::Refused(137) => Ok(Told::Of(Answer::NoSpace)),
         _ => Err(nonsense(body).into()),
     }
 }

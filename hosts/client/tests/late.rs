@@ -5,6 +5,7 @@ use kfs_client::desk::{Answer, Desk, LeaseKind, LeaseRefusal, Unanswered, Wanted
 use kfs_client::memory::Memory;
 use kfs_client::node::ROOT;
 use kfs_client::{Client, Draft, Entry, HandInFault, Header, Kind, Name, Options, Reason, Session, Shown, Unshown};
+use nix::errno::Errno;
 use std::collections::VecDeque;
 use std::time::Duration;
 
@@ -159,6 +160,23 @@ fn all_leases_of_a_log_are_asked_for_before_it_is_handed_in_again() {
     assert!(!asked.contains(&created));
     assert_eq!(mine.desk().at_once, [6]);
     assert!(kept(&mut mine, "44").is_some() && kept(&mut mine, "new").is_some());
+}
+
+#[test]
+fn a_log_that_takes_too_much_stays() {
+    let mut mine = session(quick());
+    let file = mine.open(b"/a", Some(0o644)).unwrap();
+    mine.write(file, 0, b"x").unwrap();
+    mine.desk().answers = [Answer::NoSpace; 2].into();
+    let failure = mine.sync().unwrap_err();
+    assert!(matches!(failure, HandInFault::NoSpace) && !failure.may_pass(), "{failure}");
+    assert_eq!(failure.errno(), Errno::EDQUOT);
+    let failure = mine.close().unwrap_err();
+    assert_eq!(failure.errno(), Errno::EDQUOT);
+    assert_eq!(mine.draft().log().len(), 2);
+    mine.write(file, 1, b"y").unwrap();
+    mine.sync().unwrap();
+    assert_eq!(kept(&mut mine, "a").unwrap(), b"xy");
 }
 
 #[test]

@@ -127,6 +127,16 @@ fn a_log_has_one_number_until_it_is_answered() {
 }
 
 #[test]
+fn a_log_that_takes_too_much_is_told() {
+    let kfsd = Pretender::start("space");
+    let mut connection = Connection::open(&kfsd.path, 7).unwrap();
+    kfsd.told().replies = vec![vec![2, 137, 0, 0, 0, 0]];
+    assert_eq!(connection.submit(b"log", b"plan").unwrap(), Answer::NoSpace);
+    assert_eq!(connection.submit(b"log", b"plan").unwrap(), Answer::Yes);
+    assert_eq!(kfsd.told().bodies.len(), 2);
+}
+
+#[test]
 fn wants_are_told_one_after_another() {
     let kfsd = Pretender::start("wants");
     let mut connection = Connection::open(&kfsd.path, 7).unwrap();
