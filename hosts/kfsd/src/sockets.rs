@@ -39,11 +39,11 @@ const REFUSED_AT_ONCE: u32 = 10;
 pub struct Socket {
     path: PathBuf,
     mode: u32,
-    place: Mutex<Place>,
+    bound: Mutex<Bound>,
 }
 
 /// What stands at the path of a socket.
-struct Place {
+struct Bound {
     listener: Arc<UnixListener>,
     /// The device and the number of its file. The listener keeps the number from being another one's.
     file: (u64, u64),
@@ -88,9 +88,9 @@ fn file_at(path: &Path) -> io::Result<(u64, u64)> {
     fs::symlink_metadata(path).map(|found| (found.dev(), found.ino()))
 }
 
-impl Place {
+impl Bound {
     /// Binds a path. A socket where nobody listens was left there.
-    fn bind(path: &Path, mode: u32) -> Result<Place, DaemonFault> {
+    fn bind(path: &Path, mode: u32) -> Result<Bound, DaemonFault> {
         let failed = |fault| DaemonFault::Io(path.to_path_buf(), fault);
         look_at(path)?;
         match fs::remove_file(path) {
@@ -99,7 +99,7 @@ impl Place {
         }
         let listener = Arc::new(UnixListener::bind(path).map_err(failed)?);
         fs::set_permissions(path, Permissions::from_mode(mode)).map_err(failed)?;
-        Ok(Place { listener, file: file_at(path).map_err(failed)?, due: Instant::now() + LOOK, fault: None })
+        Ok(Bound { listener, file: file_at(path).map_err(failed)?, due: Instant::now() + LOOK, fault: None })
     }
 
     /// Looks whether the socket is there still, where that is due, and makes it anew where it isn't.
@@ -112,7 +112,7 @@ impl Place {
             self.fault = None;
             return;
         }
-        match Place::bind(path, mode) {
+        match Bound::bind(path, mode) {
             Ok(place) => {
                 warn!("{} was removed, and is made anew", path.display());
                 *self = place;
@@ -130,18 +130,18 @@ impl Place {
 
 impl Socket {
     fn bind(path: &Path, mode: u32) -> Result<Socket, DaemonFault> {
-        Ok(Socket { path: path.to_path_buf(), mode, place: Mutex::new(Place::bind(path, mode)?) })
+        Ok(Socket { path: path.to_path_buf(), mode, bound: Mutex::new(Bound::bind(path, mode)?) })
     }
 
-    fn place(&self) -> MutexGuard<'_, Place> {
-        self.place.lock().unwrap_or_else(PoisonError::into_inner)
+    fn bound(&self) -> MutexGuard<'_, Bound> {
+        self.bound.lock().unwrap_or_else(PoisonError::into_inner)
     }
 
     /// The next connection.
     pub async fn accept(&self) -> io::Result<UnixStream> {
         loop {
             let (listener, due) = {
-                let mut place = self.place();
+                let mut place = self.bound();
                 place.look(&self.path, self.mode);
                 (Arc::clone(&place.listener), place.due)
             };
@@ -155,7 +155,7 @@ impl Socket {
 impl Drop for Socket {
     fn drop(&mut self) {
         // Another one may have it by now. Where it stays, the next start removes it.
-        if file_at(&self.path).ok() == Some(self.place().file) {
+        if file_at(&self.path).ok() == Some(self.bound().file) {
             let _ = fs::remove_file(&self.path);
         }
     }
