@@ -113,9 +113,9 @@ impl Bound {
             return;
         }
         match Bound::bind(path, mode) {
-            Ok(place) => {
+            Ok(bound) => {
                 warn!("{} was removed, and is made anew", path.display());
-                *self = place;
+                *self = bound;
             }
             Err(fault) => {
                 let fault = Some(fault.to_string());
@@ -141,9 +141,9 @@ impl Socket {
     pub async fn accept(&self) -> io::Result<UnixStream> {
         loop {
             let (listener, due) = {
-                let mut place = self.bound();
-                place.look(&self.path, self.mode);
-                (Arc::clone(&place.listener), place.due)
+                let mut bound = self.bound();
+                bound.look(&self.path, self.mode);
+                (Arc::clone(&bound.listener), bound.due)
             };
             if let Ok(taken) = timeout_at(due.into(), listener.accept()).await {
                 return Ok(taken?.0);
