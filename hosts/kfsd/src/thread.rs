@@ -155,6 +155,6 @@ mod tests {
         let had = share(&thread, 7).await;
         assert!(had < Duration::from_millis(45), "{had:?}");
         // for the other one nothing has changed
-        assert!(thread.has_others(7, Instant::now()) && !Usage::default().rests_until(Instant::now()).is_some());
+        assert!(thread.has_others(7, Instant::now()) && Usage::default().rests_until(Instant::now()).is_none());
     }
 }
