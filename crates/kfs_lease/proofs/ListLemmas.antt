@@ -7,4 +7,5 @@ pub mod LastRow
 pub mod Lawful
 pub mod OfClients
 pub mod OneList
+pub mod OwnRows
 pub mod WalkedRows

@@ -3,6 +3,7 @@ pub mod Edits
 pub mod Endings
 pub mod KeyOrder
 pub mod Least
+pub mod OfClients
 pub mod RowSteps
 pub mod RowTables
 pub mod Walks

@@ -1,5 +1,5 @@
 -- Leases as a list of rows, ascending by node and client: which lists a lawful table has.
-use Rattle.std.specs.Prelude.{◌≡◌, ℕ, ◌==◌, ◌&&◌, ◌||◌, not, nat_le, nat_lt, Bool, true, false, List, [], ◌∷◌, ◌++◌, length, Option, Some, None, is_none, is_some, IsTrue, if◌then◌else◌}
+use Rattle.std.specs.Prelude.{◌≡◌, ℕ, ◌<◌, ◌≤◌, ◌==◌, ◌&&◌, ◌||◌, not, nat_le, nat_lt, Bool, true, false, List, [], ◌∷◌, ◌++◌, filter, length, Option, Some, None, is_none, is_some, IsTrue, if◌then◌else◌}
 use Rattle.std.specs.List.{list_all, list_any}
 use Rattle.kfs_model.specs.Access.{Client}
 use Rattle.kfs_model.specs.FirstAnswer.{first_answer}
@@ -88,6 +88,22 @@ module _ (clients : List Client) (heads : ℕ → Option Header) where
 -- each row comes behind all before it
 abbrev pub Ascend : List LeaseRow → Type 0
 Ascend rows = (before : List LeaseRow) (row : LeaseRow) (rest : List LeaseRow) → rows ≡ before ++ row ∷ rest → list_all (λ other. is_before other row) before ≡ true
+
+-- ---- the leases of one client
+
+-- whether the row is the client's, on a node from this number on
+abbrev pub is_own : (client first : ℕ) → LeaseRow → Bool
+is_own client first row = (row.client == client) && nat_le first row.number
+
+-- The rows are the client's on nodes from this number on, so many of them or all. `all` has all leases; there is one such list.
+pub record AreFirstOf (leases : Leases) (client first at_most : ℕ) (rows : List LeaseRow) : Type 0 where
+  pub all : List LeaseRow
+  pub ascend : Ascend all
+  pub same : listed_leases leases.moment all ≡ leases
+  pub left : List LeaseRow
+  pub parts : filter (is_own client first) all ≡ rows ++ left
+  pub most : length rows ≤ at_most
+  pub whole : length rows < at_most → left ≡ []
 
 -- ---- laws
 

@@ -38,13 +38,13 @@ pub struct Leases<A: Allocator> {
 impl<A: Allocator> Model for Leases<A> {
     ghost use Rattle.kfs_model.specs.Lease.{Leases as LeaseTable};
     ghost use Rattle.kfs_lease.specs.InForce.{AreInForce};
-    ghost use Rattle.kfs_lease.specs.Rows.Rows.{table_in, EndsAreExact};
+    ghost use Rattle.kfs_lease.specs.Rows.Rows.{table_in, IndexesAreExact};
 
     ghost Value = { LeaseTable };
 
     ghost view = { λ l. record { rows = table_in l.rows; moment = l.moment } };
 
-    ghost invariant = { λ l. EndsAreExact l.rows × AreInForce (record { rows = table_in l.rows; moment = l.moment }) };
+    ghost invariant = { λ l. IndexesAreExact l.rows × AreInForce (record { rows = table_in l.rows; moment = l.moment }) };
 }
 
 impl<A: Allocator + Copy> Clone for Leases<A> {

@@ -21,7 +21,7 @@ pub shown-append : (xs ys : List LeaseRow) → rows_shown (xs ++ ys) ≡ rows_sh
 shown-append [] ys = refl
 shown-append (x ∷ xs) ys = ap (λ rows. row_shown x ∷ rows) (shown-append xs ys)
 
-length-shown : (xs : List LeaseRow) → length (rows_shown xs) ≡ length xs
+pub length-shown : (xs : List LeaseRow) → length (rows_shown xs) ≡ length xs
 length-shown [] = refl
 length-shown (x ∷ xs) = let later = length-shown xs in omega arith
 

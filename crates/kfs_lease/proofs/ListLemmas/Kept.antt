@@ -8,7 +8,7 @@ use Rattle.kfs_model.specs.Access.{Client}
 use Rattle.kfs_model.specs.Check.{is_some_and}
 use Rattle.kfs_model.specs.Header.{Header}
 use Rattle.kfs_model.specs.Judgement.{State, Verdict, Yes, No, Reply, Accepted, NoRoom, Refused, reply_to, verdict_on}
-use Rattle.kfs_model.specs.Lease.{Lease, LeaseFault, LeaseHeld, LeaseKind, LeaseOutcome, LeaseTable, Leases, NoLeaseHeld, Backwards, Past, UnknownClient, dropped, granted, granted_at, granted_by_number, granted_by_walk, granted_to_node, may_lease, NoSuchNode, NotAllowed, granted_on, in_conflict, is_live, live_at, names_of, no_leases, on_those, refused, row_of, ticked, walked, without_gone}
+use Rattle.kfs_model.specs.Lease.{Lease, LeaseFault, LeaseHeld, LeaseKind, LeaseOutcome, LeaseTable, Leases, NoLeaseHeld, Backwards, Past, UnknownClient, dropped, granted, granted_at, granted_by_number, granted_by_walk, granted_to_node, may_lease, NotAllowed, granted_on, in_conflict, is_live, live_at, names_of, no_leases, on_those, refused, row_of, ticked, walked, without_gone}
 use Rattle.kfs_model.specs.Machine.{Call, Submit, Drop, Tick, Migrate, LeaseAt, CallAnswer, CallOutcome, Done, IsRead, LeaseRefused, MovesRefused, NotDone, Replied, Row, are_chosen, landed, leased, migrated, next, outcome_of, replied, unplaced}
 use Rattle.kfs_model.specs.Machine as machine
 use Rattle.kfs_model.specs.Migration.{Move, MoveFault, fault_of_moves, moved_by}

@@ -59,7 +59,7 @@ abbrev key_of : LeaseRow → ℕ × ℕ
 key_of row = (row.number, row.client)
 
 -- what comes before by its key comes before
-before_by_key : (one other : LeaseRow) → by_node.compare (key_of one) (key_of other) ≡ Less → is_before one other ≡ true
+pub before_by_key : (one other : LeaseRow) → by_node.compare (key_of one) (key_of other) ≡ Less → is_before one other ≡ true
 before_by_key one other less = at (nat_cmp one.number other.number) refl less
   where
     at : (o : Ordering) → o ≡ nat_cmp one.number other.number → ordering_then o (nat_cmp one.client other.client) ≡ Less → is_before one other ≡ true

@@ -41,7 +41,7 @@ module _ {K X : Type 0} (R : K → K → Ordering) where
   below k [] t = tt
   below k (e ∷ es) t = (is_less (R k e.0) (left_part (is_lt (R k e.0)) (sorted_entries.below_all R k es) t), below k es (right_part (is_lt (R k e.0)) (sorted_entries.below_all R k es) t))
 
-  sorted_keys : (es : List (K × X)) → T (sorted_entries.is_sorted R es) → IsStrictlySortedBy R (keys_of es)
+  pub sorted_keys : (es : List (K × X)) → T (sorted_entries.is_sorted R es) → IsStrictlySortedBy R (keys_of es)
   unfolding IsStrictlySortedBy
   sorted_keys [] t = tt
   sorted_keys (e ∷ es) t = (below e.0 es (left_part (sorted_entries.below_all R e.0 es) (sorted_entries.is_sorted R es) t), sorted_keys es (right_part (sorted_entries.below_all R e.0 es) (sorted_entries.is_sorted R es) t))

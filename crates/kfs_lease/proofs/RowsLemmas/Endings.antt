@@ -15,10 +15,10 @@ use Rattle.kfs_lease.specs.declared.rows.rows.RowEnd.{RowEnd}
 use Rattle.kfs_lease.specs.declared.rows.rows.Lease.{Lease}
 use Rattle.kfs_lease.specs.declared.rows.rows.LeaseRows.{LeaseRows}
 use Rattle.kfs_lease.specs.declared.rows.rows.Ending.{Ending}
-use Rattle.kfs_lease.specs.Rows.Ending.{AreLater, AreLeft, AreListed, HasPart, NoneOn, rows_left, ends_left, start_on}
-use Rattle.kfs_lease.specs.Rows.Rows.{by_node, by_end, row_end, ends_at, row_table, end_table, shown, without_node, AreEndsOf, EndsAreExact, RowTable, EndTable}
+use Rattle.kfs_lease.specs.Rows.Ending.{AreLater, AreLeft, AreListed, HasPart, NoneOn, rows_left, ends_left, clients_left, start_on}
+use Rattle.kfs_lease.specs.Rows.Rows.{by_node, by_end, row_end, ends_at, row_table, end_table, client_table, shown, without_node, AreEndsOf, IndexesAreExact, RowTable, EndTable, ClientTable}
 use Rattle.kfs_lease.proofs.RowsLemmas.KeyOrder.{first_part, from_first, from_node}
-use Rattle.kfs_lease.proofs.RowsLemmas.RowSteps.{exact_without, only_end}
+use Rattle.kfs_lease.proofs.RowsLemmas.RowSteps.{exact_without, keys_set, only_end}
 use Rattle.kfs_lease.proofs.RowsLemmas.RowTables.{all_live, none_on_node}
 use Rattle.kfs_lease.proofs.RowsLemmas.Walks.{gone_in_part, part_without, passed_gone}
 
@@ -29,24 +29,27 @@ module _ {A : Type 0} (rows : LeaseRows A) (ending : Ending A) where
   pub all_rows_left : ending.rows.latest.entries ≡ [] → rows_left rows ending ≡ row_table rows
   all_rows_left none = overlaid_none (row_table rows) ending.rows.latest.entries none
 
-  pub none_listed : EndsAreExact rows → ending.rows.latest.entries ≡ [] → ending.ends.latest.entries ≡ [] → AreListed rows ending
-  none_listed exact no_row no_end =
-      subst (λ left. AreLeft (row_table rows) (end_table rows) left (ends_left rows ending)) (sym (all_rows_left no_row))
-      (subst (AreLeft (row_table rows) (end_table rows) (row_table rows)) (sym (overlaid_none (end_table rows) ending.ends.latest.entries no_end))
-      (record { exact = exact.ends; rows_part = λ key value is. is; ends_part = λ key value is. is }))
+  pub none_listed : IndexesAreExact rows → ending.rows.latest.entries ≡ [] → ending.ends.latest.entries ≡ [] → ending.of_clients.latest.entries ≡ [] → AreListed rows ending
+  none_listed exact no_row no_end no_key =
+      subst (λ left. AreLeft (row_table rows) (end_table rows) left (ends_left rows ending) (clients_left rows ending)) (sym (all_rows_left no_row))
+      (subst (λ left. AreLeft (row_table rows) (end_table rows) (row_table rows) left (clients_left rows ending)) (sym (overlaid_none (end_table rows) ending.ends.latest.entries no_end))
+      (subst (AreLeft (row_table rows) (end_table rows) (row_table rows) (end_table rows)) (sym (overlaid_none (client_table rows) ending.of_clients.latest.entries no_key))
+      (record { exact = exact.ends; clients = exact.clients; rows_part = λ key value is. is; ends_part = λ key value is. is })))
 
 -- ---- one more
 
-module _ (rows : RowTable) (ends : EndTable) (left : RowTable) (left_ends : EndTable) (are : AreLeft rows ends left left_ends) (key : ℕ × ℕ) (end : ℕ) where
-  pub listed_more : ((other : ℕ) → ends_at (get left key) other ≡ true → end ≡ other) → (new : RowTable) (new_ends : EndTable) → new ≡ changed left key None → new_ends ≡ changed left_ends (row_end end key) None
-      → AreLeft rows ends new new_ends
-  listed_more only new new_ends less ends_less =
-      subst (λ t. AreLeft rows ends t new_ends) (sym less) (subst (AreLeft rows ends (changed left key None)) (sym ends_less)
+module _ (rows : RowTable) (ends : EndTable) (left : RowTable) (left_ends : EndTable) (left_keys : ClientTable) (are : AreLeft rows ends left left_ends left_keys) (key : ℕ × ℕ) (end : ℕ) where
+  pub listed_more : ((other : ℕ) → ends_at (get left key) other ≡ true → end ≡ other) → (new : RowTable) (new_ends : EndTable) (new_keys : ClientTable) → new ≡ changed left key None → new_ends ≡ changed left_ends (row_end end key) None
+      → new_keys ≡ changed left_keys (key.1, key.0) None → AreLeft rows ends new new_ends new_keys
+  listed_more only new new_ends new_keys less ends_less keys_less =
+      subst (λ t. AreLeft rows ends t new_ends new_keys) (sym less) (subst (λ t. AreLeft rows ends (changed left key None) t new_keys) (sym ends_less)
+      (subst (AreLeft rows ends (changed left key None) (changed left_ends (row_end end key) None)) (sym keys_less)
       (record {
         exact = exact_without left left_ends are.exact key end only;
+        clients = keys_set left left_keys are.clients key None None refl;
         rows_part = part_without rows left key are.rows_part;
         ends_part = part_without ends left_ends (row_end end key) are.ends_part;
-      }))
+      })))
 
   -- the end of a row that is there is its only one, as long as it is left
   pub only_of_row : (lease : Lease) → lease.end ≡ end → get rows key ≡ Some lease → (other : ℕ) → ends_at (get left key) other ≡ true → end ≡ other
@@ -72,12 +75,12 @@ AreGone number after left = (client : ℕ) → is_from by_node.compare (start_on
 pub none_gone : (number : ℕ) (left : RowTable) → AreGone number None left
 none_gone number left client out = absurd (both_ways _ out (from_first number client))
 
-module _ (leases : List ((ℕ × ℕ) × Lease)) (number : ℕ) (after : Option ℕ) where
-  -- where the next row is another node's, none is left on the node
-  pub other_node : (key : ℕ × ℕ) (lease : Lease) → IsNextEntry by_node.compare (start_on number after) leases key lease → (key.0 ≡ number → ⊥) → NoneOn leases number after
-  other_node key lease next other client from = at (find by_node.compare (number, client) leases) refl
+module _ {V : Type 0} (leases : List ((ℕ × ℕ) × V)) (number : ℕ) (after : Option ℕ) where
+  -- where the next entry has another first part, none is left with this one
+  pub other_node : (key : ℕ × ℕ) (value : V) → IsNextEntry by_node.compare (start_on number after) leases key value → (key.0 ≡ number → ⊥) → NoneOn leases number after
+  other_node key value next other client from = at (find by_node.compare (number, client) leases) refl
     where
-      at : (o : Option Lease) → find by_node.compare (number, client) leases ≡ o → find by_node.compare (number, client) leases ≡ None
+      at : (o : Option V) → find by_node.compare (number, client) leases ≡ o → find by_node.compare (number, client) leases ≡ None
       at None none = none
       at (Some held) there =
           let at_most : key.0 ≤ number = first_part number key.0 _ (next.least (number, client) from (ap is_some there)) in
@@ -85,6 +88,7 @@ module _ (leases : List ((ℕ × ℕ) × Lease)) (number : ℕ) (after : Option 
           let here : key.0 ≡ number = omega (arith, at_most, at_least) in
           absurd (other here)
 
+module _ (leases : List ((ℕ × ℕ) × Lease)) (number : ℕ) (after : Option ℕ) where
   module _ (left : RowTable) (has : HasPart (table by_node leases) left) where
     pub gone_further : AreGone number after left → (next : ℕ) (lease : Lease) → IsNextEntry by_node.compare (start_on number after) leases (number, next) lease
         → (new : RowTable) → new ≡ changed left (number, next) None → AreGone number (Some next) new

@@ -8,7 +8,7 @@ use Rattle.std.specs.Cmp.{nat_cmp_is}
 use Rattle.std.proofs.lemmas.Cmp.{ranked}
 use Rattle.kfs_maps.specs.Chunks.Starts.{is_from}
 use Rattle.kfs_lease.specs.Rows.Ending.{start_on}
-use Rattle.kfs_lease.specs.Rows.Rows.{by_node}
+use Rattle.kfs_lease.specs.Rows.Rows.{by_client, by_node}
 
 -- a pair that isn't below another begins with no lesser part
 pub first_part : (a b : ℕ) (o : Ordering) → is_lt (ordering_then (nat_cmp a b) o) ≡ false → b ≤ a
@@ -20,8 +20,17 @@ first_part a b o not_below = at (nat_cmp a b) refl not_below
     at Greater is n = let h : b < a = ranked a b Greater is in omega arith
 
 -- of pairs with one first part the second parts decide
-same_first : (n : ℕ) (o : Ordering) → ordering_then (nat_cmp n n) o ≡ o
+pub same_first : (n : ℕ) (o : Ordering) → ordering_then (nat_cmp n n) o ≡ o
 same_first n o = ap (λ r. ordering_then r o) (sym (nat_cmp_is n n Equal refl))
+
+-- of pairs with one second part the first parts decide, either way round
+pub turned_compare : (m n c : ℕ) → by_node.compare (m, c) (n, c) ≡ by_client.compare (c, m) (c, n)
+turned_compare m n c = ap (ordering_then (nat_cmp m n)) (sym (nat_cmp_is c c Equal refl)) ∙ alone (nat_cmp m n) ∙ sym (same_first c (nat_cmp m n))
+  where
+    alone : (o : Ordering) → ordering_then o Equal ≡ o
+    alone Less = refl
+    alone Equal = refl
+    alone Greater = refl
 
 pub less_first : (m n : ℕ) (o : Ordering) → m < n → ordering_then (nat_cmp m n) o ≡ Less
 less_first m n o less = ap (λ r. ordering_then r o) (sym (nat_cmp_is m n Less less))

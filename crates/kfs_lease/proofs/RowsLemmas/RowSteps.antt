@@ -1,4 +1,4 @@
--- The ends stay those of the rows.
+-- Both indexes stay those of the rows.
 use Rattle.std.proofs.Common.{◌≡◌, ℕ, ◌<◌, Bool, true, false, cond, ◌&&◌, ◌==◌, Option, Some, None, refl, sym, ap, subst, ◌∙◌, eq-eqb, arith}
 use Rattle.std.specs.Prelude.{is_some}
 use Rattle.std.specs.Ordering.{nat_cmp, eq_by_cmp}
@@ -8,8 +8,8 @@ use borrow.Author.Tests.{eqb-true}
 use Rattle.kfs_model.specs.Table.{Order, Table, get, changed}
 use Rattle.kfs_model.proofs.TableLaws.{get-changed, same_table}
 use Rattle.kfs_lease.specs.declared.rows.rows.Lease.{Lease}
-use Rattle.kfs_lease.specs.Rows.Rows.{by_node, by_end, row_end, ends_at, AreEndsOf, RowTable, EndTable}
-use Rattle.kfs_lease.proofs.RowsLemmas.RowTables.{both_equal, tied}
+use Rattle.kfs_lease.specs.Rows.Rows.{by_node, by_end, row_end, ends_at, AreEndsOf, AreKeysOf, RowTable, EndTable, ClientTable}
+use Rattle.kfs_lease.proofs.RowsLemmas.RowTables.{both_equal, tied, turned_ties}
 
 -- two ends are one where they are one moment of one row
 end_ties : (end end' : ℕ) (key key' : ℕ × ℕ) → eq_by_cmp by_end.compare (row_end end key) (row_end end' key') ≡ ((end == end') && eq_by_cmp by_node.compare key key')
@@ -107,6 +107,31 @@ module _ (rows : RowTable) (ends : EndTable) (exact : AreEndsOf rows ends) (key 
       at : (end : ℕ) (q : ℕ × ℕ) (b : Bool) → eq_by_cmp by_node.compare q key ≡ b → is_some (get ends (row_end end q)) ≡ cond b (new.end == end) (is_some (get ends (row_end end q)))
       at end q true is = exact end q ∙ ap (λ k. ends_at (get rows k) end) (tied by_node q key is) ∙ ap (λ o. ends_at o end) there ∙ ap (λ n. n == end) same
       at end q false is = refl
+
+-- ---- the turned keys
+
+module _ (rows : RowTable) (clients : ClientTable) (exact : AreKeysOf rows clients) (key : ℕ × ℕ) where
+  -- a row comes or goes with its turned key
+  pub keys_set : (row : Option Lease) (listed : Option (Unit {0})) → is_some listed ≡ is_some row → AreKeysOf (changed rows key row) (changed clients (key.1, key.0) listed)
+  keys_set row listed same q =
+      ap is_some (get-changed clients (key.1, key.0) listed (q.1, q.0))
+      ∙ ap (λ b. is_some (cond b listed (get clients (q.1, q.0)))) (turned_ties (q.1, q.0) key)
+      ∙ at (eq_by_cmp by_node.compare q key)
+      ∙ sym (ap is_some (get-changed rows key row q))
+    where
+      at : (b : Bool) → is_some (cond b listed (get clients (q.1, q.0))) ≡ is_some (cond b row (get rows q))
+      at true = same
+      at false = exact q
+
+  -- a row comes in place of another
+  pub keys_same : (old new : Lease) → get rows key ≡ Some old → AreKeysOf (changed rows key (Some new)) clients
+  keys_same old new there q = exact q ∙ at (eq_by_cmp by_node.compare q key) refl ∙ sym (ap is_some (get-changed rows key (Some new) q))
+    where
+      at : (b : Bool) → eq_by_cmp by_node.compare q key ≡ b → is_some (get rows q) ≡ is_some (cond b (Some new) (get rows q))
+      at true is = ap (λ k. is_some (get rows k)) (tied by_node q key is) ∙ ap is_some there
+      at false is = refl
+
+-- ---- the end of a row
 
 -- the end of a row that is there
 pub only_end : (row : Option Lease) (lease : Lease) → row ≡ Some lease → (end : ℕ) → ends_at row end ≡ true → lease.end ≡ end

@@ -1,4 +1,4 @@
--- Rows that are to go with their ends, and what is left without them.
+-- Rows that are to go with what both indexes have of them, and what is left without them.
 use Rattle.std.specs.Prelude.{◌≡◌, ◌≢◌, ℕ, ◌<◌, ◌≤◌, true, List, Option, Some, None, IsSome}
 use Rattle.std.specs.Borrow.{MutBor}
 use Rattle.std.specs.FinMap.Entries.{find}
@@ -11,16 +11,17 @@ use Rattle.kfs_lease.specs.declared.rows.rows.Ending.{Ending}
 use Rattle.kfs_lease.specs.declared.rows.rows.RowEnd.{RowEnd}
 use Rattle.kfs_lease.specs.declared.rows.rows.Lease.{Lease}
 use Rattle.kfs_lease.specs.declared.rows.rows.LeaseRows.{LeaseRows}
-use Rattle.kfs_lease.specs.Rows.Rows.{by_node, by_end, row_end, RowTable, EndTable, AreEndsOf, row_table, end_table}
+use Rattle.kfs_lease.specs.Rows.Rows.{by_node, by_end, row_end, RowTable, EndTable, ClientTable, AreEndsOf, AreKeysOf, row_table, end_table, client_table}
 
 module _ {K X : Type 0} {R : Order K} where
   -- what the second table has at a key, the first one has there, too
   abbrev pub HasPart : (table part : Table R X) → Type 0
   HasPart table part = (key : K) (value : X) → get part key ≡ Some value → get table key ≡ Some value
 
--- rows and ends that are left: the ends are those of the rows, and all of them were there before
-pub record AreLeft (rows : RowTable) (ends : EndTable) (rows_left : RowTable) (ends_left : EndTable) : Type 0 where
+-- rows, ends and turned keys that are left: the ends and the keys are those of the rows, and all rows and ends were there before
+pub record AreLeft (rows : RowTable) (ends : EndTable) (rows_left : RowTable) (ends_left : EndTable) (clients_left : ClientTable) : Type 0 where
   pub exact : AreEndsOf rows_left ends_left
+  pub clients : AreKeysOf rows_left clients_left
   pub rows_part : HasPart rows rows_left
   pub ends_part : HasPart ends ends_left
 
@@ -33,25 +34,33 @@ module _ {A : Type 0} where
   abbrev pub ends_left : LeaseRows A → Ending A → EndTable
   ends_left rows ending = overlaid (end_table rows) ending.ends.latest.entries
 
-  -- each row that is to go has its end listed, and nothing else is
-  abbrev pub AreListed : LeaseRows A → Ending A → Type 0
-  AreListed rows ending = AreLeft (row_table rows) (end_table rows) (rows_left rows ending) (ends_left rows ending)
+  -- their turned keys
+  abbrev pub clients_left : LeaseRows A → Ending A → ClientTable
+  clients_left rows ending = overlaid (client_table rows) ending.of_clients.latest.entries
 
-  -- an ending with one more: whatever the rows were, they are left without this one, and the ends without its end
+  -- each row that is to go has its end and its turned key listed, and nothing else is
+  abbrev pub AreListed : LeaseRows A → Ending A → Type 0
+  AreListed rows ending = AreLeft (row_table rows) (end_table rows) (rows_left rows ending) (ends_left rows ending) (clients_left rows ending)
+
+  -- an ending with one more: whatever the rows were, they are left without this one, the ends without its end, and the turned keys
+  -- without its key
   abbrev pub AddsRow : (key : ℕ × ℕ) → (before after : Ending A) → Type 0
   AddsRow key before after = (t : RowTable) → overlaid t after.rows.latest.entries ≡ changed (overlaid t before.rows.latest.entries) key None
 
   abbrev pub AddsEnd : RowEnd → (before after : Ending A) → Type 0
   AddsEnd end before after = (t : EndTable) → overlaid t after.ends.latest.entries ≡ changed (overlaid t before.ends.latest.entries) end None
 
--- where the rows of a node begin that come behind a client, or all of its rows
-abbrev pub start_on : (node : ℕ) → (after : Option ℕ) → Bound (ℕ × ℕ)
-start_on node None = Included (node, 0)
-start_on node (Some client) = Excluded (node, client)
+  abbrev pub AddsOfClient : (key : ℕ × ℕ) → (before after : Ending A) → Type 0
+  AddsOfClient key before after = (t : ClientTable) → overlaid t after.of_clients.latest.entries ≡ changed (overlaid t before.of_clients.latest.entries) (key.1, key.0) None
 
--- no row of the node comes from there on
-abbrev pub NoneOn : List ((ℕ × ℕ) × Lease) → (node : ℕ) → (after : Option ℕ) → Type 0
-NoneOn leases node after = (client : ℕ) → is_from by_node.compare (start_on node after) (node, client) ≡ true → find by_node.compare (node, client) leases ≡ None
+-- where the entries begin whose keys have this first part, behind a second part, or all of them
+abbrev pub start_on : (first : ℕ) → (after : Option ℕ) → Bound (ℕ × ℕ)
+start_on first None = Included (first, 0)
+start_on first (Some second) = Excluded (first, second)
+
+-- no entry with this first part comes from there on
+abbrev pub NoneOn : {V : Type 0} → List ((ℕ × ℕ) × V) → (first : ℕ) → (after : Option ℕ) → Type 0
+NoneOn entries first after = (second : ℕ) → is_from by_node.compare (start_on first after) (first, second) ≡ true → find by_node.compare (first, second) entries ≡ None
 
 -- no other client than this one has a lease on the node
 abbrev pub NoOtherOn : List ((ℕ × ℕ) × Lease) → (node client : ℕ) → Type 0

@@ -1,4 +1,4 @@
--- The table of leases that the code's rows show, and how the ends belong to them.
+-- The table of leases that the code's rows show, and how both indexes belong to them.
 use Rattle.std.specs.Prelude.{◌≡◌, ℕ, Bool, ◌==◌, not, List, [], ◌∷◌, Option, option_map, is_some}
 use Rattle.std.specs.Ordering.{on, then_cmp}
 use Rattle.std.specs.Cmp.{on_total, then_total}
@@ -42,6 +42,10 @@ by_end = record {
 abbrev pub row_end : (end : ℕ) → (key : ℕ × ℕ) → RowEnd
 row_end end key = record { end = end; key = key }
 
+-- the order of the turned keys of rows: by client, then by node number
+abbrev pub by_client : Order (ℕ × ℕ)
+by_client = pairs numbers numbers
+
 -- rows by their keys
 abbrev pub RowTable : Type 0
 RowTable = Table by_node Lease
@@ -49,6 +53,10 @@ RowTable = Table by_node Lease
 -- ends, each with its row's key
 abbrev pub EndTable : Type 0
 EndTable = Table by_end (Unit {0})
+
+-- the turned keys of rows
+abbrev pub ClientTable : Type 0
+ClientTable = Table by_client (Unit {0})
 
 unfoldable pub table_of : List ((ℕ × ℕ) × Lease) → model.LeaseTable
 table_of [] = empty
@@ -75,6 +83,10 @@ ends_at row end = is_some_and row (λ (lease : Lease). lease.end == end)
 abbrev pub AreEndsOf : RowTable → EndTable → Type 0
 AreEndsOf rows ends = (end : ℕ) (key : ℕ × ℕ) → is_some (get ends (row_end end key)) ≡ ends_at (get rows key) end
 
+-- the turned keys are exactly those of the rows
+abbrev pub AreKeysOf : RowTable → ClientTable → Type 0
+AreKeysOf rows clients = (key : ℕ × ℕ) → is_some (get clients (key.1, key.0)) ≡ is_some (get rows key)
+
 module _ {A : Type 0} where
   abbrev pub row_table : LeaseRows A → RowTable
   row_table rows = table by_node rows.leases
@@ -82,9 +94,13 @@ module _ {A : Type 0} where
   abbrev pub end_table : LeaseRows A → EndTable
   end_table rows = table by_end rows.ends
 
+  abbrev pub client_table : LeaseRows A → ClientTable
+  client_table rows = table by_client rows.of_clients
+
   abbrev pub table_in : LeaseRows A → model.LeaseTable
   table_in rows = shown (row_table rows)
 
-  -- the ends listed are exactly those of the rows
-  pub record EndsAreExact (rows : LeaseRows A) : Type 0 where
+  -- what both indexes list is exactly what the rows have
+  pub record IndexesAreExact (rows : LeaseRows A) : Type 0 where
     pub ends : AreEndsOf (row_table rows) (end_table rows)
+    pub clients : AreKeysOf (row_table rows) (client_table rows)

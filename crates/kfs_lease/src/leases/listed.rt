@@ -1,13 +1,13 @@
-//! Leases as a list of rows: let in, listed, and those of some clients alone.
+//! Leases as a list of rows: let in, listed, one client's alone, and those of some clients alone.
 ghost use Rattle.std.specs.Prelude.{◌≡◌, ◌⊎◌, IfOk, IfErr, IfSome, IfNone, OnOk, List, None, Option, Some, option_map, if◌then◌else◌, is_some, is_none, not, ℕ, true};
 ghost use Rattle.kfs_model.specs.Access.{Client as ClientRow};
 ghost use Rattle.kfs_model.specs.Header.{Header};
 ghost use Rattle.kfs_model.specs.Lease.{row_of};
 ghost use Rattle.kfs_model.specs.Table.{get, remove};
 ghost use Rattle.kfs_lease.specs.LeaseLists as model;
-ghost use Rattle.kfs_lease.specs.LeaseLists.{Ascend, AreLawful};
+ghost use Rattle.kfs_lease.specs.LeaseLists.{AreFirstOf, Ascend, AreLawful};
 ghost use Rattle.kfs_lease.specs.OfClients.{of_clients};
-ghost use Rattle.kfs_lease.specs.Rows.Rows.{kind_of, table_in, EndsAreExact};
+ghost use Rattle.kfs_lease.specs.Rows.Rows.{kind_of, table_in, IndexesAreExact};
 ghost use Rattle.kfs_lease.specs.ShownLists.{row_fault_of, row_shown, rows_shown};
 ghost use Rattle.kfs_lease.specs.declared.leases.listed.LeaseRowFault.TheVariants.{OutOfMemory};
 
@@ -122,6 +122,34 @@ impl<A: Allocator + Copy> Leases<A> {
         Ok(rows)
     }
 
+    /// The client's leases on nodes from the number `first` on, as rows: `at_most` of them, or all where
+    /// there are fewer. Takes time and memory for these alone. `Err` where memory is refused.
+    #[doc(hidden)]
+    pub fn rows_of(
+        &self,
+        client: u32,
+        first: u32,
+        at_most: usize,
+    ) -> Result<Vec<LeaseRow, A>, AllocError>
+        ensures { IfOk result (λ rows. AreFirstOf self.now client first at_most (rows_shown rows.items)) }
+    {
+        let mut rows = Vec::new(*self.rows.leases.allocator());
+        let mut after = first.checked_sub(1);
+        while rows.len() < at_most {
+            let Some((number, lease)) = self.rows.next_of(client, after) else {
+                return Ok(rows);
+            };
+            rows.push(LeaseRow {
+                number,
+                client,
+                kind: lease.kind,
+                end: lease.end,
+            })?;
+            after = Some(number);
+        }
+        Ok(rows)
+    }
+
     /// The leases of the clients that are among these, at the same moment. Those of the others have
     /// ended. A client is known by its number, so one whose ids or grant are others keeps its leases.
     /// `Err` where memory is refused.
@@ -149,8 +177,8 @@ fn end_if_gone<A: Allocator + Copy>(
     clients: &[Client],
     row: &LeaseRow,
 ) -> Result<(), AllocError>
-    requires indexed { EndsAreExact left.old }
-    ensures indexed { EndsAreExact left.new }
+    requires indexed { IndexesAreExact left.old }
+    ensures indexed { IndexesAreExact left.new }
     ensures table { OnOk result (table_in left.new ≡ (if is_some (row_of clients.now row.now.client) then table_in left.old else remove (table_in left.old) (row.now.client, row.now.number))) }
 {
     if is_client(clients, row.client) {

@@ -1,7 +1,7 @@
 //! Leases of one client alone, made for a log.
 ghost use Rattle.std.specs.Prelude.{◌≡◌, IfOk, OnOk};
 ghost use Rattle.kfs_lease.specs.Writer.{leases_of_writer, with_write};
-ghost use Rattle.kfs_lease.specs.Rows.Rows.{table_in, EndsAreExact};
+ghost use Rattle.kfs_lease.specs.Rows.Rows.{table_in, IndexesAreExact};
 
 use crate::leases::Leases;
 use crate::rows::{Lease, LeaseKind, LeaseRows};
@@ -29,8 +29,8 @@ fn add_write<A: Allocator + Copy>(
     client: u32,
     number: u32,
 ) -> Result<(), AllocError>
-    requires indexed { EndsAreExact rows.old }
-    ensures indexed { EndsAreExact rows.new }
+    requires indexed { IndexesAreExact rows.old }
+    ensures indexed { IndexesAreExact rows.new }
     ensures table { OnOk result (table_in rows.new ≡ with_write (table_in rows.old) client number) }
 {
     if rows.lease(client, number).is_some() {

@@ -1,14 +1,16 @@
-//! The rows of leases, kept by node and client, and their ends, kept in order. The ends of leases, in
-//! their order. Rows that are to go, listed before the first of them goes.
-ghost use Rattle.std.specs.Prelude.{◌≡◌, ◌&&◌, ◌||◌, IfOk, IfErr, OnOk, OnErr, Some, None, option_map, is_some, false, refl, []};
+//! The rows of leases, kept by node and client, with two indexes: their ends, kept in order, and their
+//! keys by client. The ends of leases, in their order. Rows that are to go, listed before the first of
+//! them goes.
+ghost use Rattle.std.specs.Prelude.{◌≡◌, ◌&&◌, ◌||◌, IfOk, IfErr, IfSome, IfNone, OnOk, OnErr, Some, None, option_map, is_some, false, refl, []};
 ghost use Rattle.kfs_model.specs.Table.{empty, get, insert, remove};
 ghost use Rattle.kfs_model.specs.Lease as model;
 ghost use Rattle.kfs_lease.specs.InForce.{AreInForce};
-ghost use Rattle.kfs_lease.specs.Rows.Rows.{kind_of, lease_of, conflicting, row_end, row_table, table_in, without_nodes, EndsAreExact, by_end};
-ghost use Rattle.kfs_lease.specs.Rows.Ending.{AddsRow, AddsEnd};
+ghost use Rattle.kfs_lease.specs.Rows.Rows.{kind_of, lease_of, conflicting, row_end, row_table, table_in, without_nodes, IndexesAreExact, by_end};
+ghost use Rattle.kfs_lease.specs.Rows.Ending.{AddsRow, AddsEnd, AddsOfClient};
+ghost use Rattle.kfs_lease.specs.Rows.OfClients.{IsNextOf, NoneOf};
 
 use crate::rows::change::EndEdit;
-use crate::rows::walk::first_other;
+use crate::rows::walk::{first_other, next_on};
 use kfs_maps::{Chunks, Key, KeyEdit, Overlay};
 use kfs_types::{Change, Nothing};
 use std::alloc::{AllocError, Allocator};
@@ -54,21 +56,28 @@ impl Lease {
 }
 
 /// The rows of a table: each client has at most one lease on a node. Copies share chunks of rows and of
-/// ends.
+/// both indexes.
 pub struct LeaseRows<A: Allocator> {
     /// By the node's number, and then the client's.
     pub leases: Chunks<(u32, u32), Lease, A>,
     /// The end of each row, with the row's key.
     pub ends: Chunks<RowEnd, (), A>,
+    /// The key of each row, turned: by the client's number, and then the node's.
+    pub of_clients: Chunks<(u32, u32), (), A>,
 }
 
-// Written out, so that the drop of both maps is proved here once and not again in each crate that drops
-// leases.
+// Written out, so that the drop of the three maps is proved here once and not again in each crate that
+// drops leases.
 impl<A: Allocator> Drop for LeaseRows<A> {
     fn drop(self) {
-        let LeaseRows { leases, ends } = self;
+        let LeaseRows {
+            leases,
+            ends,
+            of_clients,
+        } = self;
         drop(leases);
         drop(ends);
+        drop(of_clients);
     }
 }
 
@@ -79,6 +88,7 @@ impl<A: Allocator + Copy> Clone for LeaseRows<A> {
         Ok(LeaseRows {
             leases: self.leases.clone()?,
             ends: self.ends.clone()?,
+            of_clients: self.of_clients.clone()?,
         })
     }
 }
@@ -87,11 +97,12 @@ impl<A: Allocator + Copy> LeaseRows<A> {
     /// No rows. Takes no memory.
     pub fn empty(alloc: A) -> LeaseRows<A>
         ensures table { table_in result ≡ empty }
-        ensures indexed { EndsAreExact result }
+        ensures indexed { IndexesAreExact result }
     {
         LeaseRows {
             leases: Chunks::new(alloc),
             ends: Chunks::new(alloc),
+            of_clients: Chunks::new(alloc),
         }
     }
 
@@ -136,24 +147,30 @@ impl<A: Allocator + Copy> LeaseRows<A> {
         old: Option<Lease>,
         lease: Lease,
     ) -> Result<(), AllocError>
-        requires indexed { EndsAreExact self.old }
+        requires indexed { IndexesAreExact self.old }
         requires old { old ≡ get (row_table self.old) (number, client) }
-        ensures indexed { EndsAreExact self.new }
+        ensures indexed { IndexesAreExact self.new }
         ensures table { OnOk result (table_in self.new ≡ insert (table_in self.old) (client, number) (lease_of lease)) }
         ensures err { OnErr result (self.new ≡ self.old) }
     {
         let key = (number, client);
         match old {
             Some(old) => self.replace(key, old, lease),
-            None => self.change_row(key, Some(lease), &[listed(lease.end, key)]),
+            None => {
+                let of_client = KeyEdit {
+                    key: (client, number),
+                    value: Some(()),
+                };
+                self.change_row(key, Some(lease), &[listed(lease.end, key)], &[of_client])
+            }
         }
     }
 
     /// Sets the row of a key in place of the one that is there.
     fn replace(&mut self, key: (u32, u32), old: Lease, new: Lease) -> Result<(), AllocError>
-        requires indexed { EndsAreExact self.old }
+        requires indexed { IndexesAreExact self.old }
         requires there { get (row_table self.old) key ≡ Some old }
-        ensures indexed { EndsAreExact self.new }
+        ensures indexed { IndexesAreExact self.new }
         ensures table { OnOk result (table_in self.new ≡ insert (table_in self.old) (key.1, key.0) (lease_of new)) }
         ensures err { OnErr result (self.new ≡ self.old) }
     {
@@ -162,6 +179,7 @@ impl<A: Allocator + Copy> LeaseRows<A> {
                 key,
                 Some(new),
                 &[unlisted(old.end, key), listed(new.end, key)],
+                &[],
             );
         }
         if new.end < old.end {
@@ -169,16 +187,17 @@ impl<A: Allocator + Copy> LeaseRows<A> {
                 key,
                 Some(new),
                 &[listed(new.end, key), unlisted(old.end, key)],
+                &[],
             );
         }
-        self.change_row(key, Some(new), &[])
+        self.change_row(key, Some(new), &[], &[])
     }
 
     /// Removes the client's lease on the node. Answers whether there was one. `Err` where memory is
     /// refused; the rows are as before then.
     pub fn take(&mut self, client: u32, number: u32) -> Result<bool, AllocError>
-        requires { EndsAreExact self.old }
-        ensures indexed { EndsAreExact self.new }
+        requires { IndexesAreExact self.old }
+        ensures indexed { IndexesAreExact self.new }
         ensures found { IfOk result (λ found. found ≡ is_some (get (table_in self.old) (client, number))) }
         ensures table { OnOk result (table_in self.new ≡ remove (table_in self.old) (client, number)) }
         ensures kept { IfOk result (λ found. found ≡ false → self.new ≡ self.old) }
@@ -188,15 +207,31 @@ impl<A: Allocator + Copy> LeaseRows<A> {
         let Some(lease) = self.leases.get(&key).copied() else {
             return Ok(false);
         };
-        self.change_row(key, None, &[unlisted(lease.end, key)])?;
+        let of_client = KeyEdit {
+            key: (client, number),
+            value: None,
+        };
+        self.change_row(key, None, &[unlisted(lease.end, key)], &[of_client])?;
         Ok(true)
+    }
+
+    /// The client's first lease on a node behind `after`, or of all its leases, with the node's number;
+    /// none where it has no such lease.
+    pub fn next_of(&self, client: u32, after: Option<u32>) -> Option<(u32, Lease)>
+        requires { IndexesAreExact self.now }
+        ensures next { IfSome result (λ row. IsNextOf (row_table self.now) client after row.0 row.1) }
+        ensures none { IfNone result (NoneOf (row_table self.now) client after) }
+    {
+        let (number, _) = next_on(&self.of_clients, client, after)?;
+        let lease = self.leases.get(&(number, client)).copied()?;
+        Some((number, lease))
     }
 
     /// Removes the leases whose end isn't above the moment. `Err` where memory runs out; the rows are
     /// as before then.
     pub fn end_until(&mut self, moment: u64) -> Result<(), AllocError>
-        requires { EndsAreExact self.old }
-        ensures indexed { EndsAreExact self.new }
+        requires { IndexesAreExact self.old }
+        ensures indexed { IndexesAreExact self.new }
         ensures table { OnOk result (table_in self.new ≡ model.live_at moment (table_in self.old)) }
         ensures err { OnErr result (self.new ≡ self.old) }
     {
@@ -212,9 +247,9 @@ impl<A: Allocator + Copy> LeaseRows<A> {
         numbers: &[u32],
         then: &mut T,
     ) -> Result<(), AllocError>
-        requires indexed { EndsAreExact self.old }
+        requires indexed { IndexesAreExact self.old }
         requires then { T.can_make then.old }
-        ensures indexed { EndsAreExact self.new }
+        ensures indexed { IndexesAreExact self.new }
         ensures table { OnOk result (table_in self.new ≡ without_nodes (table_in self.old) numbers.now) }
         ensures err { OnErr result (self.new ≡ self.old) }
         ensures made { OnOk result (T.made then.old then.new) }
@@ -267,13 +302,15 @@ impl Key for RowEnd {
     }
 }
 
-/// Rows that are to go, and their ends.
+/// Rows that are to go, and what both indexes have of them.
 #[derive(Drop)]
 pub(crate) struct Ending<A: Allocator> {
     /// The keys of the rows, all without a value.
     pub(crate) rows: Overlay<(u32, u32), Lease, A>,
     /// Their ends, without a value.
     pub(crate) ends: Overlay<RowEnd, (), A>,
+    /// Their keys by client, without a value.
+    pub(crate) of_clients: Overlay<(u32, u32), (), A>,
 }
 
 impl<A: Allocator + Copy> Ending<A> {
@@ -281,10 +318,12 @@ impl<A: Allocator + Copy> Ending<A> {
     pub(crate) fn none(alloc: A) -> Ending<A>
         ensures rows { result.rows.latest.entries ≡ [] }
         ensures ends { result.ends.latest.entries ≡ [] }
+        ensures of_clients { result.of_clients.latest.entries ≡ [] }
     {
         Ending {
             rows: Overlay::new(alloc),
             ends: Overlay::new(alloc),
+            of_clients: Overlay::new(alloc),
         }
     }
 
@@ -292,9 +331,12 @@ impl<A: Allocator + Copy> Ending<A> {
     pub(crate) fn add(&mut self, end: RowEnd) -> Result<(), AllocError>
         ensures rows { OnOk result (AddsRow end.key self.old self.new) }
         ensures ends { OnOk result (AddsEnd end self.old self.new) }
+        ensures of_clients { OnOk result (AddsOfClient end.key self.old self.new) }
     {
+        let (number, client) = end.key;
         self.rows.set(end.key, None)?;
         self.ends.set(end, None)?;
+        self.of_clients.set((client, number), None)?;
         Ok(())
     }
 }

@@ -4,37 +4,38 @@ ghost use Rattle.kfs_model.specs.Lease.{live_at};
 ghost use Rattle.kfs_maps.specs.Chunks.Starts.{IsNextEntry};
 ghost use Rattle.kfs_lease.specs.Rows.Ending.{rows_left, start_on, AreLater, AreListed, IsFirstOther, NoneOn, NoOtherOn};
 ghost use Rattle.kfs_lease.specs.Rows.Listed.{NoneFrom};
-ghost use Rattle.kfs_lease.specs.Rows.Rows.{by_node, by_end, shown, without_node, EndsAreExact};
+ghost use Rattle.kfs_lease.specs.Rows.Rows.{by_node, by_end, shown, without_node, IndexesAreExact};
 
 use crate::rows::rows::{Ending, Lease, LeaseRows, RowEnd};
 use kfs_maps::Chunks;
 use std::alloc::{AllocError, Allocator};
 use std::ops::Bound;
 
-/// Where the rows of the node begin that come behind a client, or all of its rows.
-fn start_on(number: u32, after: Option<u32>) -> Bound<(u32, u32)>
-    ensures { result ≡ start_on number after }
+/// Where the entries begin whose keys have this first part, behind a second part, or all of them.
+fn start_on(first: u32, after: Option<u32>) -> Bound<(u32, u32)>
+    ensures { result ≡ start_on first after }
 {
     match after {
-        Some(client) => Bound::Excluded((number, client)),
-        None => Bound::Included((number, 0)),
+        Some(second) => Bound::Excluded((first, second)),
+        None => Bound::Included((first, 0)),
     }
 }
 
-/// The node's first client behind `after`, or of all its clients, and the client's lease; none where
-/// there is no such client.
-pub(crate) fn next_on<A: Allocator>(
-    leases: &Chunks<(u32, u32), Lease, A>,
-    number: u32,
+/// Of the entries whose keys have this first part the first one behind `after`, or of all of them: its
+/// second part and its value. So it is the node's next client with the lease, or a client's next node.
+/// None where there is no such entry.
+pub(crate) fn next_on<V: Copy, A: Allocator>(
+    entries: &Chunks<(u32, u32), V, A>,
+    first: u32,
     after: Option<u32>,
-) -> Option<(u32, Lease)>
-    ensures next { IfSome result (λ row. IsNextEntry by_node.compare (start_on number after) leases.now (number, row.0) row.1) }
-    ensures none { IfNone result (NoneOn leases.now number after) }
+) -> Option<(u32, V)>
+    ensures next { IfSome result (λ entry. IsNextEntry by_node.compare (start_on first after) entries.now (first, entry.0) entry.1) }
+    ensures none { IfNone result (NoneOn entries.now first after) }
 {
-    let start = start_on(number, after);
-    let (key, lease) = leases.next(start.as_ref())?;
-    if key.0 == number {
-        Some((key.1, *lease))
+    let start = start_on(first, after);
+    let (key, value) = entries.next(start.as_ref())?;
+    if key.0 == first {
+        Some((key.1, *value))
     } else {
         None
     }
@@ -103,7 +104,7 @@ impl<A: Allocator + Copy> LeaseRows<A> {
 
     /// Adds the rows whose ends aren't above the moment to those that are to go.
     pub(crate) fn list_ended(&self, ending: &mut Ending<A>, moment: u64) -> Result<(), AllocError>
-        requires indexed { EndsAreExact self.now }
+        requires indexed { IndexesAreExact self.now }
         requires listed { AreListed self.now ending.old }
         ensures listed { OnOk result (AreListed self.now ending.new) }
         ensures left { OnOk result (shown (rows_left self.now ending.new) ≡ live_at moment (shown (rows_left self.now ending.old))) }

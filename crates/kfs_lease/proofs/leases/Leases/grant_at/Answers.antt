@@ -1,4 +1,4 @@
-use Rattle.std.proofs.Common.{◌≡◌, ◌≤◌, Ok, Err, not, sym, ap, subst, ◌∙◌}
+use Rattle.std.proofs.Common.{◌≡◌, ◌≤◌, Ok, Err, sym, ap, subst, ◌∙◌}
 use Rattle.kfs_model.specs.Table.{insert}
 use Rattle.kfs_model.specs.Lease.{Leases, Lease, LeaseHeld, granted_by_number}
 use Rattle.kfs_types.specs.Views.{header_of}

@@ -3,7 +3,7 @@ use Rattle.kfs_model.specs.Lease.{Leases}
 use Rattle.kfs_lease.specs.InForce.{AreInForce}
 use Rattle.kfs_lease.specs.LeaseLists as model
 use Rattle.kfs_lease.specs.LeaseLists.{AreLawful}
-use Rattle.kfs_lease.specs.Rows.Rows.{table_in, EndsAreExact}
+use Rattle.kfs_lease.specs.Rows.Rows.{table_in, IndexesAreExact}
 use Rattle.kfs_lease.specs.ShownLists.{rows_shown}
 use Rattle.kfs_lease.specs.declared.leases.listed.LeaseRow.{LeaseRow}
 use Rattle.kfs_lease.specs.declared.rows.rows.LeaseKind.TheVariants.{Read}
@@ -19,7 +19,7 @@ loop-row-init g c =
     let same = c.in_ok-left.ensures.cases in
     let table : c.args.self.now.rows ≡ table_in c.in_ok-left.left = ap (λ (l : Leases). l.rows) (sym c.self.view_is) ∙ ap table_in (sym same) in
     record {
-      exact = subst EndsAreExact (sym same) c.self.invariant.0;
+      exact = subst IndexesAreExact (sym same) c.self.invariant.0;
       ended = subst (λ t. HaveEnded c.args.clients.now c.args.self.now.rows (rows_shown (take 0 c.deref-row-items.result.now)) t) table (none_ended c.args.clients.now c.args.self.now.rows);
     }
 

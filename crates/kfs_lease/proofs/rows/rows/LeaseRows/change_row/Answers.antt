@@ -10,6 +10,10 @@ pub change-requires-clause-exact : goal.change-requires-clause-exact
 unfolding table_after
 change-requires-clause-exact g c = c.requires.exact
 
+pub change-requires-clause-keys : goal.change-requires-clause-keys
+unfolding table_after
+change-requires-clause-keys g c = c.requires.keys
+
 pub returns-clause-table : goal.returns-clause-table
 unfolding table_after
 returns-clause-table g c =

@@ -7,7 +7,7 @@ use Rattle.kfs_lease.proofs.RowsLemmas.Endings.{all_rows_left, none_listed}
 use Rattle.kfs_lease.proofs.rows.rows.LeaseRows.end_until.Goals as goal
 
 pub list_ended-requires-clause-listed : goal.list_ended-requires-clause-listed
-list_ended-requires-clause-listed g c = none_listed c.args.self.now c.none-ending.result c.requires c.none-ending.ensures.rows c.none-ending.ensures.ends
+list_ended-requires-clause-listed g c = none_listed c.args.self.now c.none-ending.result c.requires c.none-ending.ensures.rows c.none-ending.ensures.ends c.none-ending.ensures.of_clients
 
 pub returns-clause-table : goal.returns-clause-table
 returns-clause-table g c =

@@ -1,8 +1,8 @@
 use Rattle.std.proofs.Common.{ℕ, ◌≤◌, refl, sym, ap, subst, ◌∙◌}
 use Rattle.kfs_model.specs.Lease.{live_at}
 use Rattle.kfs_maps.proofs.ChunksLemmas.Tables.{get-table}
-use Rattle.kfs_lease.specs.Rows.Ending.{rows_left, ends_left}
-use Rattle.kfs_lease.specs.Rows.Rows.{by_end, row_table, end_table, shown, RowTable}
+use Rattle.kfs_lease.specs.Rows.Ending.{rows_left, ends_left, clients_left}
+use Rattle.kfs_lease.specs.Rows.Rows.{by_end, row_table, end_table, client_table, shown, RowTable}
 use Rattle.kfs_lease.proofs.RowsLemmas.Endings.{listed_more, only_of_end, ends_gone_further, all_later}
 use Rattle.kfs_lease.proofs.RowsLemmas.RowTables.{live_without}
 use Rattle.kfs_lease.proofs.RowsLemmas.Walks.{next_fewer}
@@ -25,11 +25,14 @@ loop-end-preserved g c =
     let listed = c.loop-end.invariant.listed in
     let left = rows_left rows c.loop-end.ending in
     let left_ends = ends_left rows c.loop-end.ending in
+    let left_keys = clients_left rows c.loop-end.ending in
     let less = c.in_ok-add.ensures.rows (row_table rows) in
     let ends_less = c.in_ok-add.ensures.ends (end_table rows) in
-    let only = only_of_end (row_table rows) (end_table rows) left left_ends listed end.key end.end c.requires.indexed.ends (get-table by_end rows.ends end ∙ c.in-Some.ensures.next.found) in
+    let only = only_of_end (row_table rows) (end_table rows) left left_ends left_keys listed end.key end.end c.requires.indexed.ends (get-table by_end rows.ends end ∙ c.in-Some.ensures.next.found) in
     record {
-      listed = listed_more (row_table rows) (end_table rows) left left_ends listed end.key end.end only (rows_left rows c.add.new.self) (ends_left rows c.add.new.self) less ends_less;
+      listed =
+          listed_more (row_table rows) (end_table rows) left left_ends left_keys listed end.key end.end only
+          (rows_left rows c.add.new.self) (ends_left rows c.add.new.self) (clients_left rows c.add.new.self) less ends_less (c.in_ok-add.ensures.of_clients (client_table rows));
       gone =
           ends_gone_further rows.ends left left_ends listed.exact listed.ends_part c.loop-end.start c.loop-end.invariant.gone end c.in-Some.ensures.next
           (ends_left rows c.add.new.self) ends_less;

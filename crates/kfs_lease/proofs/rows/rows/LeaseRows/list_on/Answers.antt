@@ -1,7 +1,7 @@
 use Rattle.std.proofs.Common.{ℕ, refl, sym, ap, ◌∙◌}
 use Rattle.kfs_maps.proofs.ChunksLemmas.Tables.{get-table}
-use Rattle.kfs_lease.specs.Rows.Ending.{rows_left, ends_left, start_on}
-use Rattle.kfs_lease.specs.Rows.Rows.{by_node, row_table, end_table, shown, without_node, RowTable}
+use Rattle.kfs_lease.specs.Rows.Ending.{rows_left, ends_left, clients_left, start_on}
+use Rattle.kfs_lease.specs.Rows.Rows.{by_node, row_table, end_table, client_table, shown, without_node, RowTable}
 use Rattle.kfs_lease.proofs.RowsLemmas.Endings.{listed_more, only_of_row, none_gone, gone_further, all_gone}
 use Rattle.kfs_lease.proofs.RowsLemmas.RowTables.{others_without}
 use Rattle.kfs_lease.proofs.RowsLemmas.Walks.{next_fewer}
@@ -25,12 +25,13 @@ loop-client-preserved g c =
     let listed = c.loop-client.invariant.listed in
     let left = rows_left rows c.loop-client.ending in
     let left_ends = ends_left rows c.loop-client.ending in
+    let left_keys = clients_left rows c.loop-client.ending in
     let less = c.in_ok-add.ensures.rows (row_table rows) in
     record {
       listed =
-          listed_more (row_table rows) (end_table rows) left left_ends listed key c.in-Some.lease.end
-          (only_of_row (row_table rows) (end_table rows) left left_ends listed key c.in-Some.lease.end c.in-Some.lease refl (get-table by_node rows.leases key ∙ c.in-Some.ensures.next.found))
-          (rows_left rows c.add.new.self) (ends_left rows c.add.new.self) less (c.in_ok-add.ensures.ends (end_table rows));
+          listed_more (row_table rows) (end_table rows) left left_ends left_keys listed key c.in-Some.lease.end
+          (only_of_row (row_table rows) (end_table rows) left left_ends left_keys listed key c.in-Some.lease.end c.in-Some.lease refl (get-table by_node rows.leases key ∙ c.in-Some.ensures.next.found))
+          (rows_left rows c.add.new.self) (ends_left rows c.add.new.self) (clients_left rows c.add.new.self) less (c.in_ok-add.ensures.ends (end_table rows)) (c.in_ok-add.ensures.of_clients (client_table rows));
       gone =
           gone_further rows.leases c.args.number c.loop-client.after left listed.rows_part c.loop-client.invariant.gone c.in-Some.client c.in-Some.lease c.in-Some.ensures.next
           (rows_left rows c.add.new.self) less;

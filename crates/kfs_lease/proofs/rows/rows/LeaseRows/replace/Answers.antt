@@ -3,9 +3,9 @@ use Rattle.kfs_model.specs.Table.{changed}
 use Rattle.kfs_maps.specs.declared.chunks.entries.KeyEdit.{KeyEdit}
 use Rattle.kfs_maps.specs.Chunks.Tables.{table_after}
 use Rattle.kfs_lease.specs.declared.rows.rows.RowEnd.{RowEnd}
-use Rattle.kfs_lease.specs.Rows.Rows.{row_end, row_table, end_table, AreEndsOf}
+use Rattle.kfs_lease.specs.Rows.Rows.{row_end, row_table, end_table, client_table, AreEndsOf}
 use Rattle.kfs_lease.proofs.RowsLemmas.Edits.{ends_ascend}
-use Rattle.kfs_lease.proofs.RowsLemmas.RowSteps.{exact_moved, exact_moved_back, exact_same}
+use Rattle.kfs_lease.proofs.RowsLemmas.RowSteps.{exact_moved, exact_moved_back, exact_same, keys_same}
 use Rattle.kfs_lease.proofs.rows.rows.LeaseRows.replace.Goals as goal
 
 abbrev EndEdit : Type 0
@@ -25,6 +25,10 @@ change_row-requires-clause-exact g c =
     (subst (λ (e : EndEdit). AreEndsOf (changed rows key (Some c.args.new)) (changed (changed ends (row_end c.args.old.end key) None) e.key e.value)) (sym c.listed.ensures)
     (exact_moved rows ends c.requires.indexed.ends key c.args.old c.args.new c.requires.there))
 
+pub change_row-requires-clause-keys : goal.change_row-requires-clause-keys
+unfolding table_after
+change_row-requires-clause-keys g c = keys_same (row_table c.args.self.now) (client_table c.args.self.now) c.requires.indexed.clients c.args.key c.args.old c.args.new c.requires.there
+
 pub change_row-requires-then-new-old-clause-ends : goal.change_row-requires-then-new-old-clause-ends
 change_row-requires-then-new-old-clause-ends g c =
     ends_ascend c.listed-then-new-old.result c.unlisted-then-new-old.result c.args.new.end c.args.old.end c.args.key (ap (λ (e : EndEdit). e.key) c.listed-then-new-old.ensures) (ap (λ (e : EndEdit). e.key) c.unlisted-then-new-old.ensures) c.if-new-old.true
@@ -38,6 +42,14 @@ change_row-requires-then-new-old-clause-exact g c =
     subst (λ (e : EndEdit). AreEndsOf (changed rows key (Some c.args.new)) (changed (changed ends e.key e.value) c.unlisted-then-new-old.result.key c.unlisted-then-new-old.result.value)) (sym c.listed-then-new-old.ensures)
     (subst (λ (e : EndEdit). AreEndsOf (changed rows key (Some c.args.new)) (changed (changed ends (row_end c.args.new.end key) (Some tt)) e.key e.value)) (sym c.unlisted-then-new-old.ensures)
     (exact_moved_back rows ends c.requires.indexed.ends key c.args.old c.args.new c.requires.there c.if-new-old.true))
+
+pub change_row-requires-then-new-old-clause-keys : goal.change_row-requires-then-new-old-clause-keys
+unfolding table_after
+change_row-requires-then-new-old-clause-keys g c = keys_same (row_table c.args.self.now) (client_table c.args.self.now) c.requires.indexed.clients c.args.key c.args.old c.args.new c.requires.there
+
+pub change_row-requires-2-clause-keys : goal.change_row-requires-2-clause-keys
+unfolding table_after
+change_row-requires-2-clause-keys g c = keys_same (row_table c.args.self.now) (client_table c.args.self.now) c.requires.indexed.clients c.args.key c.args.old c.args.new c.requires.there
 
 pub change_row-requires-2-clause-exact : goal.change_row-requires-2-clause-exact
 unfolding table_after
