@@ -1,11 +1,11 @@
 //! The leases of one client, one behind another.
-ghost use Rattle.std.specs.Prelude.{◌≡◌, ◌++◌, ◌≤◌, filter, IfOk, OnOk, vec_len};
+ghost use Rattle.std.specs.Prelude.{◌≡◌, ◌++◌, ◌≤◌, IfOk, OnOk, vec_len};
 ghost use Rattle.kfs_call.specs.Call.{lease_kind_bytes};
 ghost use Rattle.kfs_lease.specs.Rows.Rows.{kind_of};
 ghost use Rattle.kfs_lease.specs.ShownLists.{row_shown, rows_shown};
 ghost use Rattle.kfs_model.specs.Spelling.{byte};
 ghost use Rattle.kfs_server.specs.LookUps.LookUp as asked;
-ghost use Rattle.kfs_server.specs.LookUps.Found.{AreFirst, held_bytes, is_asked};
+ghost use Rattle.kfs_server.specs.LookUps.Found.{AreFirst, held_bytes};
 ghost use Rattle.kfs_server.specs.Serving.Looking.{IsSought};
 
 use crate::look_ups::found::{FOUND_LIMIT, Found, Listing};
@@ -20,7 +20,7 @@ const LEASE_LEN: usize = 13;
 /// The client's own leases on nodes from the number `first` on: as many as `limit` bytes hold, and `FOUND_LIMIT`. All of
 /// them are live: a desk has no others.
 ///
-/// It lists all leases of the desk first, of whichever client. `Err` where memory is refused.
+/// It takes time and memory for these leases and one more, whatever others there are. `Err` where memory is refused.
 pub fn found_leases<A: Allocator + Copy, B: Allocator>(
     alloc: B,
     desk: &Desk<A>,
@@ -30,43 +30,32 @@ pub fn found_leases<A: Allocator + Copy, B: Allocator>(
 ) -> Result<Found<B>, Refusal>
     ensures { IsSought desk.now client (asked.Leases first limit) result }
 {
-    let rows = desk.leases().rows()?;
     let room = (limit as usize).min(FOUND_LIMIT);
-    let listing = leases_in(alloc, &rows, client, first, room)?;
+    let rows = desk.leases().rows_of(client, first, room / LEASE_LEN + 1)?;
+    let listing = leases_in(alloc, &rows, room)?;
     Ok(Found::LeasesAre {
         more: listing.more,
         bytes: listing.bytes,
     })
 }
 
-/// Of these leases the client's, on nodes from the number `first` on, as many as so many bytes hold.
+/// Of these leases as many as so many bytes hold.
 fn leases_in<B: Allocator>(
     alloc: B,
     rows: &[LeaseRow],
-    client: u32,
-    first: u32,
     room: usize,
 ) -> Result<Listing<B>, AllocError>
-    ensures listing { IfOk result (λ it. AreFirst (filter (is_asked client first) (rows_shown rows.now)) room it.more it.bytes.items) }
+    ensures listing { IfOk result (λ it. AreFirst (rows_shown rows.now) room it.more it.bytes.items) }
     ensures within { IfOk result (λ it. vec_len it.bytes ≤ room) }
 {
     let mut bytes = Vec::new(alloc);
     for row in rows {
-        if is_asked(row, client, first) {
-            if room - bytes.len() < LEASE_LEN {
-                return Ok(Listing { more: true, bytes });
-            }
-            push_lease(&mut bytes, row)?;
+        if room - bytes.len() < LEASE_LEN {
+            return Ok(Listing { more: true, bytes });
         }
+        push_lease(&mut bytes, row)?;
     }
     Ok(Listing { more: false, bytes })
-}
-
-/// Whether the lease is the client's, on a node from the number `first` on.
-fn is_asked(row: &LeaseRow, client: u32, first: u32) -> bool
-    ensures { result ≡ is_asked client first (row_shown row.now) }
-{
-    row.client == client && first <= row.number
 }
 
 /// Appends a lease of a known client.
