@@ -16,9 +16,14 @@ const COPIED_BYTES: u64 = 2;
 /// How much of what a measurement says otherwise is believed at once.
 const STEP: f64 = 0.3;
 
-/// How many times as long or as short as is expected a client's frames may be thought to take.
+/// How many times as long or as short as is expected a client's frames may be thought to take, and how much that changes at once.
 const MOST_RATIO: f64 = 10_000.0;
 const LEAST_RATIO: f64 = 0.02;
+const MOST_STEP: f64 = 4.0;
+
+/// What counts at most of the time that frames took together: where `kfs_serve` begins its journal anew behind them, that is
+/// nobody's.
+const MOST_TIME: Duration = Duration::from_millis(50);
 
 /// How much of the time of `kfs_serve` a client may use on and on while others use it, too: one part of so many. It may use
 /// so much at once.
@@ -89,14 +94,15 @@ pub fn measured(accounts: &mut HashMap<u32, Account>, parts: &[Part], took: Dura
     if foreseen <= 0.0 {
         return;
     }
-    let nanos = took.as_nanos() as f64;
+    let nanos = took.min(MOST_TIME).as_nanos() as f64;
     for part in parts {
         let expected = part.expected as f64;
         if let Some(account) = accounts.get_mut(&part.client) {
             let share = expected * account.ratio / foreseen;
             account.spend(Duration::from_nanos((nanos * share) as u64), now);
             let moved = account.ratio + STEP * (nanos - foreseen) * expected / squares;
-            account.ratio = moved.clamp(LEAST_RATIO, MOST_RATIO);
+            let least = LEAST_RATIO.max(account.ratio / MOST_STEP);
+            account.ratio = moved.clamp(least, MOST_RATIO.min(account.ratio * MOST_STEP));
         }
     }
 }
@@ -135,6 +141,16 @@ mod tests {
         }
         assert!((accounts[&7].ratio - 1.0).abs() < 0.5, "{}", accounts[&7].ratio);
         assert!((accounts[&9].ratio - 100.0).abs() < 1.0, "{}", accounts[&9].ratio);
+    }
+
+    #[test]
+    fn what_is_nobodys_harms_little() {
+        let (mut accounts, now) = (HashMap::new(), Instant::now());
+        after(&mut accounts, &[(7, 8_000)], MICRO * 5_000_000, now);
+        assert_eq!(accounts[&7].ratio, MOST_STEP);
+        assert!(accounts[&7].rests_until(now) <= Some(now + MOST_TIME * PART));
+        (0..20).for_each(|_| after(&mut accounts, &[(7, 8_000)], MICRO * 8, now));
+        assert!(accounts[&7].ratio < 1.1);
     }
 
     #[test]

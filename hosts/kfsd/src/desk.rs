@@ -254,6 +254,8 @@ impl Desk {
         let (flight, mut meter) = (Flight::default(), Meter::of(child.id()));
         shared.queue.begin_anew();
         let has_begun = is_open(&mut to, &mut from).await;
+        // What it took to open the files is nobody's.
+        let _ = meter.lap(None);
         let mut done = None;
         if has_begun {
             self.note().await?;

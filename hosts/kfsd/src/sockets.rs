@@ -8,7 +8,7 @@ use crate::pace::Pace;
 use crate::peer::{is_closed, uid_of};
 use crate::users::{Account, Place};
 use nix::errno::Errno;
-use nix::sys::socket::{connect, socket, AddressFamily, SockFlag, SockType, UnixAddr};
+use nix::sys::socket::{connect, listen, socket, AddressFamily, SockFlag, SockType, UnixAddr};
 use nix::unistd::{access, close, AccessFlags};
 use std::convert::Infallible;
 use std::fs::{self, Permissions};
@@ -32,8 +32,14 @@ const LOOK: Duration = Duration::from_secs(1);
 
 /// How many connections kfsd refuses a second, and how many at once. Behind more of them it takes none for a while, and who
 /// connects again and again waits in the kernel's line.
-const REFUSALS: u32 = 4_000;
-const REFUSED_AT_ONCE: u32 = 10;
+const REFUSALS: u32 = 20_000;
+const REFUSED_AT_ONCE: u32 = 20;
+
+/// How many connections wait in the kernel's line, so that who connects on and on isn't far before another one.
+const LINE: usize = 16;
+
+/// How long connections are taken one behind another before others go on.
+const SLICE: Duration = Duration::from_micros(100);
 
 /// A socket of a path, which goes with it. Where its path is removed it is made anew.
 pub struct Socket {
@@ -98,6 +104,7 @@ impl Bound {
             _ => {}
         }
         let listener = Arc::new(UnixListener::bind(path).map_err(failed)?);
+        listen(listener.as_raw_fd(), LINE).map_err(|errno| failed(errno.into()))?;
         fs::set_permissions(path, Permissions::from_mode(mode)).map_err(failed)?;
         Ok(Bound { listener, file: file_at(path).map_err(failed)?, due: Instant::now() + LOOK, fault: None })
     }
@@ -221,7 +228,7 @@ pub async fn take_all<Served>(
 where
     Served: Future<Output = ()> + Send + 'static,
 {
-    let (refusals, mut next) = (refusals(), Instant::now());
+    let (refusals, mut next, mut since) = (refusals(), Instant::now(), Instant::now());
     loop {
         tokio::select! {
             taken = accept_at(&sockets.clients, next) => match taken {
@@ -234,7 +241,10 @@ where
                         }
                     }
                     // Where one comes after another, the tasks of those that were taken wait for this one else.
-                    yield_now().await;
+                    if since.elapsed() > SLICE {
+                        yield_now().await;
+                        since = Instant::now();
+                    }
                 }
                 Err(fault) => rest(fault).await,
             },
