@@ -302,8 +302,8 @@ def limits_where_connections_are_handed_on(made):
                 cluster.wait_for(lambda count=before: came(other) > count + 2000)
                 times = connecting_times(other)
                 seconds = time.monotonic() - began
-                # 1,000 of a user, and 10 refusals, are at once
-                handed_on = (leader.status()["connections"]["taken"] - taken - 1000) / seconds
+                # 100 of a user, and 10 refusals, are at once
+                handed_on = (leader.status()["connections"]["taken"] - taken - 100) / seconds
                 refused = (came(other) - before) / seconds
                 print(f"    beside connections of user {uid} without end, {refused:.0f} a second, a connection and a call took {1e3 * statistics.median(times):.0f} ms, at most {1e3 * max(times):.0f} ms; alone at most {1e3 * alone:.0f} ms")
                 assert max(times) < 5 + 10 * alone, times

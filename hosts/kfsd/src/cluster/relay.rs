@@ -5,6 +5,7 @@ use super::tls::Stream;
 use super::volume::Peer;
 use crate::connection::Shared;
 use crate::sockets::{take_all, Sockets};
+use crate::thread;
 use crate::users::Place;
 use std::convert::Infallible;
 use std::future::pending;
@@ -42,7 +43,11 @@ struct Handing {
 /// Takes connections until it is dropped. Those that it has end then, and where another one leads.
 pub async fn relay(sockets: &Sockets, shared: &Arc<Shared>, leader: Leader, own: &Credentials) -> Infallible {
     let handing = Handing { own: own.clone(), leader, told: Arc::default() };
-    take_all(sockets, shared, &mut JoinSet::new(), |stream, place| hand_on(stream, place, handing.clone())).await
+    let serve = |stream, place: Place| {
+        let (uid, usage) = (place.account.user.uid, Arc::clone(&place.account.usage));
+        thread::Shared::new(hand_on(stream, place, handing.clone()), uid, &shared.thread, &usage)
+    };
+    take_all(sockets, shared, &mut JoinSet::new(), serve).await
 }
 
 /// Hands the bytes of a connection on in both directions, as long as one and the same leads.
