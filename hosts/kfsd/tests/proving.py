@@ -13,7 +13,7 @@ import time
 from clustering import Own, calls_of, ends_alike
 from hanging import came, connecting_on, connecting_times
 from machines import CLIENTS_PORT, KFSD_PORT, NAMES, PASSWORD, VOLUME, Authority, Cluster
-from running import HERE, SOON, Gone, frame, lease, numbered
+from running import HERE, SOON, frame, lease, lease_by_path, numbered
 from stranger import USER as STRANGER
 
 # What a member says before the other end has proved the key: which volume's member it is it doesn't say.
@@ -70,7 +70,7 @@ def connections_at(machines):
         for client in (7, 8, 9):
             with contextlib.suppress(OSError):
                 it = machine.connect(client)
-                it.send(1, lease(client, 10, MARK))
+                it.send(1, lease_by_path(client, 10, MARK))
                 found.append(it)
     return found
 
@@ -123,7 +123,7 @@ def a_stranger_in_place_of_a_leader(made):
                 for then in (b"@" + question, os.urandom(32) + question, first[7:39] + question):
                     # a nonce and an answer of its own, and nothing behind them
                     assert len(said_to(machine, machine, first, then)) == 64
-        assert not [call for call, _ in calls_of(ends_alike(cluster)) if call[0] != 2]
+        assert lease(7, 10) not in dict(calls_of(ends_alike(cluster)))
         print(f"    {len(heard)} connections to a stranger in place of {len(killed)} leaders")
 
 
