@@ -397,7 +397,7 @@ def space_under_kills(made):
 
 def space_of_a_volume(made):
     """On several machines the leader keeps to the limit, and so does each one that leads behind it, also from a state that it has kept."""
-    with Cluster(made, {"state_bytes": 1}, users=USERS, blocks_a_user=LIMIT) as cluster:
+    with Cluster(made, {"state_bytes": 500}, users=USERS, blocks_a_user=LIMIT) as cluster:
         leader = cluster.leader()
         if not has_look_ups(leader):
             return
