@@ -6,6 +6,7 @@ import os
 import random
 import re
 import struct
+import subprocess
 import threading
 import time
 import urllib.request
@@ -18,13 +19,15 @@ from loading import image_in
 from looking import has_look_ups, said
 from machines import Cluster
 from mounts import as_user, can_mount, make_shared, mounted_for
-from running import Daemon, frame, numbered, user
+from running import Daemon, Gone, frame, frames, numbered, user
 
 from benchmarks import log_of, plan_of, zero
 from fuzzing.codec import BLOCK, DIRECTORY, FILE, Chmod, Create, Header, NameRow, NodeRow, Rename, Truncate, Unlink, Write
 from fuzzing.images import finding, tree_of
 
-NO_SPACE, UNKNOWN = ("NoSpace", 0), (("Unknown", 0), ("UnderWay", 0))
+NO_SPACE = ("NoSpace", 0)
+# Unknown, Stopping and UnderWay, as replies say it.
+UNKNOWN = (b"\x02\x80", b"\x02\x81", b"\x02\x85")
 GROUP, LIMIT, KILLS = 50, 10, 8
 USERS = [user(1000, 7, (2, 999), GROUP), user(1001, 8, (1000, 1999), GROUP)]
 ENDLESS = 1 << 40
@@ -35,14 +38,14 @@ NUMBERS = itertools.count(1000)
 class Owner:
     """A user with a directory of its own in the root, and files in it, each named by its number."""
 
-    def __init__(self, daemon, client, is_new=True):
+    def __init__(self, daemon, client, is_new=True, cluster=None):
         it = next(it for it in daemon.users if it["client"] == client)
         self.daemon, self.client, self.uid, self.directory = daemon, client, it["uid"], it["grant"][0]
-        self.connection = daemon.connect(client)
+        self.connection, self.cluster = daemon.connect(client), cluster
         if is_new:
             self.take(1)
             assert self.has_done([Create(1, b"of-%d" % client, self.directory, DIRECTORY, 0o755)])
-            assert self.connection.ask(1, struct.pack(">BII", 3, client, 1)).answer[4] == 5
+            assert self.ask(struct.pack(">BII", 3, client, 1)).answer[4] == 5
             self.take(self.directory)
 
     def take(self, number):
@@ -50,20 +53,31 @@ class Owner:
         reply = self.ask(struct.pack(">BIBQI", 6, self.client, 1, ENDLESS, number))
         assert reply.answer and reply.answer[4] == 4, reply
 
-    def ask(self, body):
-        """The reply to a frame, which is asked again while nobody knows it."""
+    def said(self, body):
+        """What stands behind the head of the reply to a frame. It is asked again while nobody knows it, also of another one that leads by then."""
         while True:
-            reply = self.connection.ask(1, body)
-            if reply.refusal not in UNKNOWN:
-                return reply
-            time.sleep(0.01)
+            with contextlib.suppress(Gone, OSError):
+                self.connection.send(1, body)
+                _, found = self.connection.next()
+                if found[:2] not in UNKNOWN:
+                    return found
+            time.sleep(0.02)
+            self.connect()
+
+    def connect(self):
+        """Connects anew, where there are several that may lead."""
+        if self.cluster:
+            self.connection.close()
+            self.cluster.wait_for(lambda: self.cluster.connect_or_none(self.client))
+            self.connection = self.cluster.connect_or_none(self.client) or self.connection
+
+    def ask(self, body):
+        return frames.reply_of(1, self.said(body))
 
     def call(self, entries):
         """The call that hands these entries in, with the plan that the desk itself makes of them."""
         log = log_of(entries, self.client)
-        found = b"\x02\x80"
-        while found[:2] == b"\x02\x80":
-            found = said(self.connection, b"\x48" + log)
+        found = self.said(b"\x48" + log)
         assert found[:3] == b"\x03\x0a\x01", found
         return submission(log, found[3:], self.client)
 
@@ -401,17 +415,25 @@ def space_of_a_volume(made):
         leader = cluster.leader()
         if not has_look_ups(leader):
             return
-        seven = Owner(leader, 7)
+        seven = Owner(leader, 7, cluster=cluster)
         assert seven.make(3, 6) and seven.make(4, 4) and not seven.has_done(seven.made(5, 1)) and seven.has_done(seven.gone(4))
-        assert blocks_of(leader, 7) == 6
         for number in range(5, 9):
             leader.process.kill()
             leader, _ = cluster.another_leads()
-            assert blocks_of(leader, 7) == number + 1
-            seven = Owner(leader, 7, is_new=False)
+            cluster.wait_for(lambda: blocks_of_volume(cluster, 7) == number + 1)
             assert not seven.has_done(seven.made(number, LIMIT - number)) and seven.make(number, 1)
-        assert seven.blocks() == LIMIT and not seven.has_done([Truncate(3, 7 * BLOCK)])
+        assert not seven.has_done([Truncate(3, 7 * BLOCK)]) and not seven.has_done(seven.made(9, 1))
+        cluster.wait_for(lambda: blocks_of_volume(cluster, 7) == LIMIT)
         assert any(re.search("from group [1-9]", it.said()) for it in cluster.machines)
+
+
+def blocks_of_volume(cluster, client):
+    """How many blocks a user's files take, as the member says that leads; none where nobody does."""
+    for it in cluster.machines:
+        with contextlib.suppress(OSError, subprocess.SubprocessError):
+            if it.status()["volume"]["leads"]:
+                return blocks_of(it, client)
+    return None
 
 
 def fault_of(call, *words):
