@@ -110,6 +110,13 @@ pub fn open(path: &Path, options: &mut OpenOptions) -> io::Result<File> {
     }
 }
 
+/// Copies a regular file, for the owner of the copy alone.
+pub fn copy(from: &Path, to: &Path) -> io::Result<()> {
+    let mut from = open(from, OpenOptions::new().read(true))?;
+    let mut copy = open(to, OpenOptions::new().create(true).truncate(true).write(true).mode(0o600))?;
+    io::copy(&mut from, &mut copy).map(drop).map_err(|fault| at(to, fault))
+}
+
 fn not_regular(path: &Path) -> io::Error {
     io::Error::new(io::ErrorKind::InvalidInput, format!("{} isn't a regular file", path.display()))
 }

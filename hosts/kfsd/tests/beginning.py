@@ -8,7 +8,7 @@ from clustering import ends_alike, image_in
 from killing import NO, YES, submission
 from machines import Cluster, state_in, state_of
 from numbering import AGAIN
-from running import Daemon, lease, numbered
+from running import Daemon, lease, numbered, user
 
 # What kfsd ends with where its words or its configuration don't serve.
 WRONG = 1
@@ -75,6 +75,40 @@ def a_volume_begins_with_a_desk(made):
         ends_alike(cluster, alone.folder)
 
 
+def a_volume_begins_with_files_alone(made):
+    """A fifo in the folder of a desk is told, and isn't waited for."""
+    with Daemon(*made) as alone, Cluster(made, is_begun=False) as cluster:
+        fill(alone.start().connect(7), 1)
+        assert alone.stop()[0] == 0
+        for name in ("second.kdjl", "kfsd.sqlite", "kfsd.sqlite-wal", "base"):
+            path, away = f"{alone.folder}/{name}", f"{alone.room}/{name}"
+            if os.path.exists(path):
+                os.rename(path, away)
+            os.mkfifo(path)
+            status, said = cluster.machines[0].begin_with(alone.folder)
+            assert status != 0 and f"{path} isn't a regular file" in said, (status, said)
+            os.remove(path)
+            if os.path.exists(away):
+                os.rename(away, path)
+        status, said = cluster.machines[0].begin_with(alone.folder)
+        assert status == 0, said
+
+
+def a_volume_begins_with_clients_that_can_be(made):
+    """Grants that have a number in common are told before anything is in etcd, so the volume begins once they are mended."""
+    with Cluster(made, is_begun=False) as cluster:
+        first = cluster.machines[0]
+        right = first.users
+        first.users = [*right, user(1999, 19, right[0]["grant"])]
+        first.begin()
+        first.is_wanted = False
+        assert first.ended() == WRONG and "user 1999: its grant has numbers of client 7" in first.said()
+        assert not cluster.rows("origin")
+        first.users = right
+        cluster.begin()
+        assert cluster.leader().connect(7).ask(1, lease(7, 10)).answer
+
+
 def a_volume_begins_with_a_kept_state(made):
     """All that etcd has is lost. A copy of what a member keeps begins another volume on all machines, and no member begins an empty one by mistake."""
     with Cluster(made, settings={"state_bytes": 2_000}, is_watched=False) as cluster, tempfile.TemporaryDirectory(prefix="kfsd-backup-") as backup:
@@ -108,4 +142,4 @@ def a_volume_begins_with_a_kept_state(made):
         assert images == {due}
 
 
-TESTS = [a_volume_begins_with_a_desk, a_volume_begins_with_a_kept_state]
+TESTS = [a_volume_begins_with_a_desk, a_volume_begins_with_files_alone, a_volume_begins_with_clients_that_can_be, a_volume_begins_with_a_kept_state]

@@ -7,13 +7,13 @@ use clap::{Parser, Subcommand};
 use kfsd::cluster::etcd::Etcd;
 use kfsd::cluster::listing::volumes;
 use kfsd::config::Config;
-use kfsd::folder::{self, FILES};
+use kfsd::folder::{copy, FILES};
 use kfsd::status::Status;
 use std::collections::hash_map::RandomState;
-use std::fs::{DirBuilder, OpenOptions};
+use std::fs::DirBuilder;
 use std::hash::{BuildHasher, Hasher};
 use std::io::{Read, Write};
-use std::os::unix::fs::{DirBuilderExt, OpenOptionsExt};
+use std::os::unix::fs::DirBuilderExt;
 use std::os::unix::net::UnixStream;
 use std::path::{Path, PathBuf};
 use std::process::{Command, ExitStatus, Stdio};
@@ -134,9 +134,7 @@ fn make_room() -> Result<PathBuf> {
 /// Copies the files, and has them opened with no frame.
 fn open_copy(folder: &Path, program: &Path, room: &Path) -> Result<ExitStatus> {
     for name in FILES {
-        let mut from = folder::open(&folder.join(name), OpenOptions::new().read(true))?;
-        let mut to = OpenOptions::new().create(true).truncate(true).write(true).mode(0o600).open(room.join(name))?;
-        std::io::copy(&mut from, &mut to).with_context(|| folder.join(name).display().to_string())?;
+        copy(&folder.join(name), &room.join(name))?;
     }
     let mut opened = Command::new(program);
     opened.arg("open").arg(room).arg(u32::MAX.to_string()).stdin(Stdio::null()).stdout(Stdio::null());

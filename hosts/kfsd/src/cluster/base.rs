@@ -2,6 +2,7 @@
 //! as the groups since take, and those before may go from etcd.
 
 use crate::bytes::Bytes;
+use crate::folder;
 use crate::following::Following;
 use crate::journal;
 use crate::store::Outcome;
@@ -173,7 +174,7 @@ impl Bases {
 
     /// The file that is kept, whole.
     pub fn open(&self) -> io::Result<File> {
-        File::open(self.0.join(NAME))
+        folder::open(&self.0.join(NAME), OpenOptions::new().read(true))
     }
 
     /// What stands beside the state that is kept; none where there is no state.

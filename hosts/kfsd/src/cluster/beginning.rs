@@ -7,7 +7,7 @@ use super::volume::Volume;
 use super::{blocking, ClusterFault, Settings};
 use crate::config::Config;
 use crate::desk;
-use crate::folder::{Folder, FILES};
+use crate::folder::{copy, Folder, FILES};
 use crate::following::Following;
 use crate::journal;
 use crate::store::{Store, NAME};
@@ -67,10 +67,10 @@ fn take_in(from: &Path, is_own: bool, to: &Path, following: &Following) -> Resul
         (2, None) => {
             let lock = if is_own { None } else { Some(Folder::lock(from).map_err(failed)?.ok_or("a kfsd has it")?) };
             for name in FILES {
-                fs::copy(from.join(name), to.join(name)).map_err(failed)?;
+                copy(&from.join(name), &to.join(name)).map_err(failed)?;
             }
             for name in [NAME.to_string(), format!("{NAME}-wal")] {
-                match fs::copy(from.join(&name), to.join(&name)) {
+                match copy(&from.join(&name), &to.join(&name)) {
                     Err(fault) if fault.kind() != ErrorKind::NotFound => return Err(failed(fault)),
                     _ => {}
                 }

@@ -86,7 +86,7 @@ impl Member {
         let volume = Arc::new(Volume::new(settings)?);
         let wanted = Origin::new(config.tiers, clients).map_err(ClusterFault::Folder)?.text();
         let origin = loop {
-            match begin(&volume, &wanted, &folder).await {
+            match begin(&volume, &wanted, config, &folder).await {
                 Err(ClusterFault::Etcd(fault)) => {
                     warn!("{fault}");
                     sleep(REST).await;
@@ -364,11 +364,15 @@ impl Member {
 }
 
 /// What a volume was begun with. Where it isn't there it is begun with this, and there may be no desk and no state in the folder.
-async fn begin(volume: &Volume, wanted: &str, folder: &Folder) -> Result<String, ClusterFault> {
+async fn begin(volume: &Volume, wanted: &str, config: &Config, folder: &Folder) -> Result<String, ClusterFault> {
     let has_files = folder.files().map_err(ClusterFault::Folder)? != Found::None;
     let has_desk = has_files || Bases::new(folder.path()).is_there();
-    if has_desk && volume.origin().await?.is_none() {
-        return Err(ClusterFault::Unused(folder.path().to_path_buf()));
+    if volume.origin().await?.is_none() {
+        if has_desk {
+            return Err(ClusterFault::Unused(folder.path().to_path_buf()));
+        }
+        // What is in etcd stays there.
+        config.check_first().map_err(ClusterFault::First)?;
     }
     volume.begin(wanted, 0).await
 }

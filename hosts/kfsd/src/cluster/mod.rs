@@ -26,6 +26,7 @@ pub mod volume;
 use self::etcd::EtcdFault;
 use self::http::HTTPS;
 use self::tls::{name_of, EtcdTls, PeerTls};
+use crate::config::ConfigFault;
 use serde::{Deserialize, Serialize};
 use std::io;
 use std::net::SocketAddr;
@@ -69,6 +70,8 @@ pub enum ClusterFault {
     Path(PathBuf, io::Error),
     #[error("{0}")]
     Secret(io::Error),
+    #[error(transparent)]
+    First(ConfigFault),
     #[error("{0}")]
     Socket(String),
     #[error("{0}: {1}")]
@@ -97,7 +100,7 @@ impl ClusterFault {
             ClusterFault::Another(_) => 6,
             ClusterFault::Begun(_) | ClusterFault::Kept(..) | ClusterFault::NoDesk(..) | ClusterFault::Unused(_) => 1,
             ClusterFault::Process(..) | ClusterFault::Path(..) | ClusterFault::Peer(..) | ClusterFault::Socket(_) => 1,
-            ClusterFault::Secret(_) => 1,
+            ClusterFault::Secret(_) | ClusterFault::First(_) => 1,
         }
     }
 }
