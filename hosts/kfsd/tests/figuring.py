@@ -161,7 +161,7 @@ def kfsctl_prints(made):
         assert seven.ask(1, lease(7, 1000, writes=True)).answer[4] == 4
         assert eight.ask(1, lease(8, 1000)).answer[4] == 8
         users = daemon.ask("users").splitlines()
-        assert users[0].split() == ["uid", "client", "connections", "frames_left", "bytes_left"]
+        assert users[0].split() == ["uid", "client", "connections", "frames_left", "bytes_left", "blocks"]
         assert [line.split()[:3] for line in users[1:]] == [["1000", "7", "1"], ["1001", "8", "1"], ["1002", "9", "0"]]
         leases = daemon.ask("leases").splitlines()
         assert len(leases) == 3, leases

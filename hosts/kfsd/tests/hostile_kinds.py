@@ -4,7 +4,7 @@ import struct
 from typing import NamedTuple
 
 from loading import submit
-from running import HELLO, frame, frames, lease, user
+from running import HELLO, frame, frames, lease, lease_by_path, user
 
 from benchmarks import plan_of
 from fuzzing.codec import DIRECTORY, FILE, Create, Header, Log, NameRow, NodeRow, Piece, Rename, Unlink, Write, encode_log
@@ -213,7 +213,7 @@ def wants(daemon):
     holder.lease(*held)
     desk = Desk(daemon, HOSTILE)
     asked = [desk.lease_call(number) for number in held]
-    asked += [lease(desk.client, desk.until, b"/d%d/%04d" % (holder.client, at), True) for at in range(1_000)]
+    asked += [lease_by_path(desk.client, desk.until, b"/d%d/%04d" % (holder.client, at), True) for at in range(1_000)]
     desk.all([asked[0], asked[-1]], REFUSED)
     return [Harm("flood", sent(*asked), 6), Harm("idle", sent(b"\xf3" + bytes(8)), 250)]
 
@@ -305,7 +305,7 @@ def long_paths(daemon):
     desk.chain(top, LONG_NAME, LONG_PATH)
     path = b"/d%d/p/" % desk.client + b"/".join([NEXT, *[LONG_NAME] * LONG_PATH])
     renamed = desk.call([Rename(above, LAST, above, NEXT)], [NameRow(above, LAST, 0), NameRow(above, NEXT, top)])
-    return [Harm("flood", sent(renamed, lease(desk.client, desk.until, path)), 1)]
+    return [Harm("flood", sent(renamed, lease_by_path(desk.client, desk.until, path)), 1)]
 
 
 def path_begun(daemon, run):

@@ -100,6 +100,9 @@ async fn make(
         if to.send(Made::Calls(group, said)).await.is_err() {
             break;
         }
+        if replica.is_nearly_full() {
+            break;
+        }
         if since.is_long() {
             is_kept(&mut under_way).await?;
             let (kept, next) = oneshot::channel();

@@ -204,6 +204,9 @@ impl Member {
         seen.groups.iter().for_each(|(number, group)| follower.take(*number, group, shared));
         debug!("group {} is next", follower.next);
         self.keep_state(replica, follower, shared).await?;
+        if replica.is_nearly_full() {
+            return Err(ClusterFault::Docket);
+        }
         later
     }
 
@@ -301,7 +304,7 @@ impl Member {
         }
         shared.figures.group.set(follower.next);
         self.volume.tell_kept(follower.next).await?;
-        Ok((Replica::start(&self.program, &words, folder).await?, follower))
+        Ok((Replica::start(&self.program, &words, self.rows, folder).await?, follower))
     }
 
     /// Has a state kept, where there were many groups since the last one. Groups are made meanwhile.
@@ -350,6 +353,7 @@ impl Member {
         };
         let Follower { next, since, kept, .. } = follower;
         let led = leading::lead(&leading, next, (since, kept), &mut replica, shared).await;
+        let led = led.and_then(|()| if replica.is_nearly_full() { Err(ClusterFault::Docket) } else { Ok(()) });
         shared.figures.opened.set(0);
         // Its key goes at once. What it has sent before that it was told of, or it is refused.
         self.volume.end(&lead).await;

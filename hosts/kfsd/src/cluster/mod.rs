@@ -62,6 +62,8 @@ pub enum ClusterFault {
     Ended(io::Error),
     #[error("kfs_serve hasn't made the calls of a group in {0} seconds")]
     Hangs(u64),
+    #[error("the docket of kfs_serve has three quarters of its rows: the next start begins it anew")]
+    Docket,
     #[error("{0} can't be run: {1}")]
     Process(PathBuf, io::Error),
     #[error("the folder: {0}")]
@@ -93,7 +95,7 @@ impl ClusterFault {
     pub fn status(&self) -> u8 {
         match self {
             ClusterFault::Lost | ClusterFault::Cut(_) | ClusterFault::Hangs(_) => 5,
-            ClusterFault::Gap(_) | ClusterFault::Ended(_) => 5,
+            ClusterFault::Gap(_) | ClusterFault::Ended(_) | ClusterFault::Docket => 5,
             ClusterFault::Etcd(EtcdFault::Unreached(_)) => 5,
             ClusterFault::Differs { .. } | ClusterFault::BadGroup(_) | ClusterFault::Unread(_) => 6,
             ClusterFault::Ahead { .. } | ClusterFault::Etcd(_) | ClusterFault::Folder(_) => 6,

@@ -3,6 +3,7 @@
 use super::base::{Bases, Since};
 use super::group::Group;
 use super::{blocking, ClusterFault};
+use crate::docket::three_quarters;
 use crate::frames::{read_reply, Head, Reply, CHECKPOINT, HEAD};
 use crate::log;
 use crate::users::FRONT;
@@ -35,6 +36,9 @@ pub struct Replica {
     from: BufReader<ChildStdout>,
     /// The number of the next frame.
     number: u32,
+    /// How many rows its docket has, and may have.
+    rows: u32,
+    most: u32,
     /// The folder of its files.
     folder: PathBuf,
 }
@@ -51,8 +55,8 @@ pub fn begin_anew(parent: &Path) -> io::Result<PathBuf> {
 }
 
 impl Replica {
-    /// Starts a process, and waits until it has opened its files.
-    pub async fn start(program: &Path, words: &[OsString], folder: PathBuf) -> Result<Replica, ClusterFault> {
+    /// Starts a process whose docket may have so many rows, and waits until it has opened its files.
+    pub async fn start(program: &Path, words: &[OsString], most: u32, folder: PathBuf) -> Result<Replica, ClusterFault> {
         let failed = |fault| ClusterFault::Process(program.to_path_buf(), fault);
         let mut child = Command::new(program)
             .args(words)
@@ -67,7 +71,7 @@ impl Replica {
             (Some(to), Some(from)) => (to, BufReader::new(from)),
             _ => return Err(failed(ErrorKind::BrokenPipe.into())),
         };
-        let mut replica = Replica { child, to, from, number: 0, folder };
+        let mut replica = Replica { child, to, from, number: 0, rows: 0, most, folder };
         // An empty frame is refused and changes nothing.
         let head = Head { length: 0, number: FRONT, from: FRONT };
         replica.talk(&head.bytes(), 1).await?;
@@ -99,7 +103,14 @@ impl Replica {
             replies = &mut reading => replies,
             Ok(()) = writing => reading.await,
         };
-        replies.map_err(ClusterFault::Ended)
+        let replies = replies.map_err(ClusterFault::Ended)?;
+        self.rows = replies.iter().filter_map(Reply::position).max().unwrap_or(self.rows);
+        Ok(replies)
+    }
+
+    /// Whether its docket is to be begun anew, as each start does.
+    pub fn is_nearly_full(&self) -> bool {
+        self.rows >= three_quarters(self.most)
     }
 
     /// Makes the calls of groups, all of them at once. Each has to have the answer that it had.
