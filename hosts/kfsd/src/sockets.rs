@@ -32,8 +32,8 @@ const LOOK: Duration = Duration::from_secs(1);
 
 /// How many connections kfsd refuses a second, and how many at once. Behind more of them it takes none for a while, and who
 /// connects again and again waits in the kernel's line.
-const REFUSALS: u32 = 20_000;
-const REFUSED_AT_ONCE: u32 = 20;
+const REFUSALS: u32 = 50_000;
+const REFUSED_AT_ONCE: u32 = 500;
 
 /// How many connections wait in the kernel's line, so that who connects on and on isn't far before another one.
 const LINE: usize = 16;
