@@ -21,9 +21,10 @@ const MOST_RATIO: f64 = 10_000.0;
 const LEAST_RATIO: f64 = 0.02;
 const MOST_STEP: f64 = 4.0;
 
-/// What counts at most of the time that frames took together: where `kfs_serve` begins its journal anew behind them, that is
-/// nobody's.
-const MOST_TIME: Duration = Duration::from_millis(50);
+/// What counts at most of the time that frames took together: so many times what was foreseen, and some more. Where `kfs_serve`
+/// begins its journal anew behind them, that is nobody's; and a client whose frames take long is known after some of them.
+const MOST_TIMES: f64 = 4.0;
+const SOME_MORE: f64 = 1_000_000.0;
 
 /// How much of the time of `kfs_serve` a client may use on and on while others use it, too: one part of so many. It may use
 /// so much at once.
@@ -94,7 +95,7 @@ pub fn measured(accounts: &mut HashMap<u32, Account>, parts: &[Part], took: Dura
     if foreseen <= 0.0 {
         return;
     }
-    let nanos = took.min(MOST_TIME).as_nanos() as f64;
+    let nanos = (took.as_nanos() as f64).min(foreseen * MOST_TIMES + SOME_MORE);
     for part in parts {
         let expected = part.expected as f64;
         if let Some(account) = accounts.get_mut(&part.client) {
@@ -148,7 +149,7 @@ mod tests {
         let (mut accounts, now) = (HashMap::new(), Instant::now());
         after(&mut accounts, &[(7, 8_000)], MICRO * 5_000_000, now);
         assert_eq!(accounts[&7].ratio, MOST_STEP);
-        assert!(accounts[&7].rests_until(now) <= Some(now + MOST_TIME * PART));
+        assert!(accounts[&7].rests_until(now) < Some(now + MICRO * 1_000));
         (0..20).for_each(|_| after(&mut accounts, &[(7, 8_000)], MICRO * 8, now));
         assert!(accounts[&7].ratio < 1.1);
     }

@@ -17,10 +17,12 @@ use tokio::time::timeout_at;
 /// How many nanoseconds of `kfs_serve` a client's turn has. A frame that costs more waits for some turns.
 const TURN: u64 = 50_000;
 
-/// How many nanoseconds of frames may be at `kfs_serve` without an answer, or one frame more: at least, and at most where the
-/// disk takes long, so that more calls are kept together.
-const LEAST_WINDOW: u64 = 1_000_000;
-const MOST_WINDOW: u64 = 20_000_000;
+/// How many nanoseconds of frames may be at `kfs_serve` without an answer, or one frame more; and how many of one client beside
+/// others, and alone. Where the disk takes longer it is as long as that, up to the most, so that more calls are kept together.
+const WINDOW: u64 = 4_000_000;
+const SHARE: u64 = 500_000;
+const ALONE: u64 = 2_000_000;
+const MOST: u64 = 20_000_000;
 
 /// For how long behind its last answer a client counts as one that others hold up.
 const LATELY: Duration = Duration::from_secs(1);
@@ -207,9 +209,9 @@ struct Lines {
     accounts: HashMap<u32, Account>,
     /// The two clients that were answered last, the last one first.
     last: [Option<u32>; 2],
-    /// What is at `kfs_serve`, in nanoseconds, and how much of it may be.
+    /// What is at `kfs_serve`, in nanoseconds, and for how long the disk was waited for lately.
     sent: u64,
-    window: u64,
+    waited: u64,
     count: usize,
     is_closed: bool,
     next_number: u32,
@@ -407,14 +409,10 @@ impl Lines {
         self.last.iter().flatten().any(|other| *other != client && is_late(other))
     }
 
-    /// How much of one client may be at `kfs_serve`: half of all beside others.
+    /// How much of one client may be at `kfs_serve`.
     fn share(&self, client: u32, now: Instant) -> u64 {
-        let window = self.window.max(LEAST_WINDOW);
-        if self.has_others(client, now) {
-            window / 2
-        } else {
-            window
-        }
+        let share = if self.has_others(client, now) { SHARE } else { ALONE };
+        share.max(self.waited)
     }
 
     /// Until when the next call of a client is held back; none where it isn't, or until an answer.
@@ -468,8 +466,8 @@ impl Lines {
     fn measured(&mut self, parts: &[Part], worked: Duration, waited: Duration) {
         measured(&mut self.accounts, parts, worked, Instant::now());
         // Where the disk takes long, others wait for it anyway.
-        let wanted = u64::try_from(waited.as_nanos()).unwrap_or(MOST_WINDOW).min(MOST_WINDOW);
-        self.window = (self.window * 7 + wanted) / 8;
+        let waited = u64::try_from(waited.as_nanos()).unwrap_or(MOST).min(MOST);
+        self.waited = (self.waited * 7 + waited) / 8;
     }
 
     fn batch(&mut self, most: usize, now: Instant, gate: &dyn Gate) -> Batch {
@@ -536,7 +534,7 @@ impl Lines {
         if !self.first.is_empty() {
             return None;
         }
-        while self.sent < self.window.max(LEAST_WINDOW) {
+        while self.sent < self.waited.max(WINDOW) {
             let client = *self.turns.front()?;
             match self.turn_of(client, room, is_first, now, gate)? {
                 Turn::Call => {
@@ -811,9 +809,9 @@ mod tests {
     async fn little_of_a_client_is_sent_beside_others() {
         let queue = Queue::default();
         (0..100).for_each(|_| queue.push(costing(7, 100_000)));
-        // alone it has the whole window, and one frame more
+        // of one that costs 108,000 nanoseconds
         let first = queue.next(usize::MAX).await.unwrap();
-        assert_eq!(first.sent.len(), 9);
+        assert_eq!(first.sent.len() as u64, ALONE / 108_000);
         assert!(timeout(Duration::from_millis(20), queue.next(usize::MAX)).await.is_err());
         queue.push(costing(8, 10_000));
         assert_eq!(clients_in(&queue.next(usize::MAX).await.unwrap().bytes), [(8, 1000)]);
@@ -824,7 +822,7 @@ mod tests {
         batch.sent.iter().filter(|sent| sent.client == 8).for_each(|sent| queue.answered(sent));
         // another one was answered lately, so it has half
         let rest = clients_in(&batch.bytes).into_iter().filter(|(client, _)| *client == 7).count();
-        assert!(rest <= 9, "{rest}");
+        assert!(rest as u64 <= ALONE / 108_000, "{rest}");
         batch.sent.iter().for_each(|sent| queue.answered(sent));
         assert_eq!(queue.next(usize::MAX).await.unwrap().sent.len(), 4);
     }
@@ -838,15 +836,18 @@ mod tests {
         };
         queue.push(call(8, 1).0);
         took(&queue.next(MOST).await.unwrap().sent[0], 0);
-        queue.push(call(7, 1).0);
-        took(&queue.next(MOST).await.unwrap().sent[0], 25);
+        for _ in 0..6 {
+            // what it takes isn't believed at once
+            queue.push(call(7, 1).0);
+            took(&next(&queue).await.unwrap().sent[0], 25);
+        }
         queue.push(call(7, 2).0);
         let began = Instant::now();
         queue.push(call(8, 3).0);
         assert_eq!(clients_in(&next(&queue).await.unwrap().bytes), [(8, 3)]);
         assert_eq!(clients_in(&next(&queue).await.unwrap().bytes), [(7, 2)]);
-        // four times 25 milliseconds, but for four of them
-        assert!(began.elapsed() >= Duration::from_millis(90), "{:?}", began.elapsed());
+        // four times what counted of it, but for four milliseconds
+        assert!(began.elapsed() >= Duration::from_millis(20), "{:?}", began.elapsed());
     }
 
     #[tokio::test]

@@ -191,11 +191,6 @@ impl Sockets {
     }
 }
 
-/// How often connections may be refused.
-pub fn refusals() -> Pace {
-    Pace::new(REFUSALS, REFUSED_AT_ONCE)
-}
-
 /// Takes connections until kfsd stops, and returns when all have ended.
 pub async fn accept(sockets: Sockets, shared: Arc<Shared>) {
     let mut stopping = shared.stopping.clone();
@@ -228,7 +223,7 @@ pub async fn take_all<Served>(
 where
     Served: Future<Output = ()> + Send + 'static,
 {
-    let (refusals, mut next, mut since) = (refusals(), Instant::now(), Instant::now());
+    let (refusals, mut next, mut since) = (Pace::new(REFUSALS, REFUSED_AT_ONCE), Instant::now(), Instant::now());
     loop {
         tokio::select! {
             taken = accept_at(&sockets.clients, next) => match taken {

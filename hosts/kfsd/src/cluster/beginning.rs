@@ -37,8 +37,9 @@ pub async fn begin(settings: &Settings, config: &Config, own: &Folder, from: &Pa
     let following = Following::default();
     let moment = take_in(from, is_own, &folder, &following).map_err(no_desk)?;
     let words = ["open".into(), folder.clone().into(), config.rows.to_string().into()];
-    let mut replica =
-        Replica::start(&config.program, &words, config.rows, folder.clone()).await.map_err(|fault| no_desk(fault.to_string()))?;
+    let mut replica = Replica::start(&config.program, &words, config.rows, folder.clone())
+        .await
+        .map_err(|fault| no_desk(fault.to_string()))?;
     if !replica.copy_state(&bases, &mut Since::new(0, 0)).await? {
         return Err(no_desk("kfs_serve is of an older version".to_string()));
     }

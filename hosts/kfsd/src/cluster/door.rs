@@ -5,7 +5,6 @@
 //! told by a line a second, with its count.
 
 use crate::pace::Pace;
-use crate::sockets::refusals;
 use std::collections::BTreeMap;
 use std::io;
 use std::net::SocketAddr;
@@ -20,6 +19,10 @@ use tracing::warn;
 pub const AT_ONCE: usize = 1024;
 const TIME: Duration = Duration::from_secs(3);
 const LEAST: Duration = Duration::from_millis(500);
+
+/// How many connections are refused a second, and how many at once: each costs a check of what it has shown.
+const REFUSALS: u32 = 4_000;
+const REFUSED_AT_ONCE: u32 = 10;
 
 /// How often a line tells what was refused.
 pub const TELLING: Duration = Duration::from_secs(1);
@@ -65,7 +68,7 @@ impl Drop for Inside {
 impl Door {
     /// For so many at once.
     pub fn new(most: usize) -> Arc<Door> {
-        Arc::new(Door { state: Mutex::default(), most, left: Notify::new(), refusals: refusals() })
+        Arc::new(Door { state: Mutex::default(), most, left: Notify::new(), refusals: Pace::new(REFUSALS, REFUSED_AT_ONCE) })
     }
 
     fn state(&self) -> MutexGuard<'_, State> {
