@@ -280,8 +280,8 @@ def bytes_are_limited(made):
         cost = len(data) - 12 + 256
         mine = [daemon.connect(7) for _ in range(3)]
         taken = [fill(mine[0], data)]
-        # one is at kfs_serve, where a client has no more of this length; of the rest three fit
-        assert settled(daemon, lambda status: status["frames"]["sent"]) == 1
+        # the window takes two frames; of the rest three fit
+        assert settled(daemon, lambda status: status["frames"]["sent"]) == 2
         assert daemon.status()["user"][0]["bytes_left"] == 300_000 - 3 * cost
         taken += [fill(it, data) for it in mine[1:]]
         assert settled(daemon, lambda status: status["kfs_serve"]["waiting_calls"]) == 5

@@ -121,8 +121,8 @@ def more_is_of_use_at_once(made):
             waiting[-1].socket.settimeout(0.3)
             with contextlib.suppress(TimeoutError):
                 waiting[-1].socket.sendall(frame(1, 7, bytes(50_000)) * 4)
-        # one is at kfs_serve, where a client has no more of this length, and one waits
-        assert sent(daemon) == 1 and daemon.status()["kfs_serve"]["waiting_calls"] == 1
+        # two are in the window of what is sent, and one waits
+        assert sent(daemon) == 2 and daemon.status()["kfs_serve"]["waiting_calls"] == 1
         daemon.limits |= {"bytes_a_user": 250_000}
         reload(daemon)
         assert settled(daemon, lambda status: status["kfs_serve"]["waiting_calls"]) == 3, "one of each connection"
@@ -198,7 +198,7 @@ def a_wrong_file_changes_nothing(made):
         daemon.limits, daemon.tiers, daemon.figures = {"frames_a_user": 5}, (64, 64, 128), "127.0.0.1:1"
         reload(daemon)
         assert "is read anew: frames_a_connection is 64 and was 2; frames_a_user is 5 and was 1024" in daemon.said()
-        assert "for the next start, since the configuration has it otherwise: tiers, figures" in daemon.said()
+        daemon.wait_for(lambda: "for the next start, since the configuration has it otherwise: tiers, figures" in daemon.said())
         assert daemon.frames_left() == 5
         reload(daemon)
         assert "is read anew: nothing has changed" in daemon.said()

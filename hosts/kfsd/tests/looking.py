@@ -2,8 +2,10 @@
 import struct
 import time
 
+import frames
 from killing import submission
-from running import Daemon, kept_in, lease, numbered, user
+from limiting import desk_stands_still, sent
+from running import Daemon, frame, kept_in, lease, numbered, user
 
 FOUND, REFUSED = 3, 2
 NODE, STATE, CHECKPOINT = 0x40, 0x41, 0x42
@@ -85,4 +87,26 @@ def a_stop_begins_the_journal_anew(made):
         assert seven.ask(1, numbered(1)).answer[4] == 1 and seven.ask(1, submission(0)).answer[4] == 2
 
 
-TESTS = [look_ups_go_through, kfsctl_asks_the_desk, a_stop_begins_the_journal_anew]
+def few_long_look_ups_are_sent(made):
+    """Of 50 look-ups of many names 4 are at kfs_serve at once, and another user's isn't behind the others. Those that wait are dropped when nobody hears them."""
+    with Daemon(*made, users=USERS).start() as daemon:
+        seven, eight = daemon.connect(7), daemon.connect(8)
+        with desk_stands_still(daemon):
+            seven.socket.sendall(b"".join(frame(at, 7, frames.names(1, 65_536)) for at in range(50)))
+            assert sent(daemon) == 4 and daemon.status()["kfs_serve"]["waiting_calls"] == 46
+            eight.send(1, struct.pack(">BI", NODE, 1))
+            assert sent(daemon) == 5
+            seven.close()
+            daemon.wait_for(lambda: daemon.status()["user"][0]["connections"] == 0)
+        assert eight.next()[1][0] == FOUND
+        assert sent(daemon) == 5 and daemon.status()["kfs_serve"]["waiting_calls"] == 0
+        # who only writes no more hears what it has asked for
+        half = daemon.connect(7)
+        with desk_stands_still(daemon):
+            half.socket.sendall(b"".join(frame(at, 7, frames.names(1, 65_536)) for at in range(50)))
+            half.socket.shutdown(1)
+            assert sent(daemon) == 9
+        assert [half.next()[0] for _ in range(50)] == list(range(50)) and half.is_ended()
+
+
+TESTS = [few_long_look_ups_are_sent, look_ups_go_through, kfsctl_asks_the_desk, a_stop_begins_the_journal_anew]
