@@ -13,6 +13,9 @@ const BYTE: u64 = 10;
 const ROW_BYTE: u64 = 30;
 const COPIED_BYTES: u64 = 2;
 
+/// What each byte of a frame and its reply costs kfsd itself, which carries both.
+const CARRIED_BYTE: u64 = 2;
+
 /// How much of what a measurement says otherwise is believed at once.
 const STEP: f64 = 0.3;
 
@@ -27,12 +30,38 @@ const MOST_TIMES: f64 = 4.0;
 const SOME_MORE: f64 = 1_000_000.0;
 
 /// How much of the time of `kfs_serve` a client may use on and on while others use it, too: one part of so many. It may use
-/// so much at once.
+/// so much at once. Where a frame that takes long comes to nothing, as a log that isn't allowed, its time counts many times.
 const PART: u32 = 4;
 const AT_ONCE: Duration = Duration::from_millis(4);
+const IN_VAIN: u32 = 25;
+const TAKES_LONG: Duration = Duration::from_millis(1);
 
-/// What a frame costs where nothing is known of its client, in nanoseconds.
-pub fn expected(body: &[u8]) -> u64 {
+/// A frame of a client, and what it costs where nothing is known of the client.
+#[derive(Clone, Copy, Debug)]
+pub struct Part {
+    pub client: u32,
+    /// Nanoseconds of `kfs_serve`.
+    pub expected: u64,
+    /// Nanoseconds of kfsd.
+    pub carried: u64,
+    /// Whether it came to nothing, once it is answered. A plan does until its log is handed in.
+    pub is_in_vain: bool,
+}
+
+impl Part {
+    /// A frame in the line of a client.
+    pub fn of(client: u32, body: &[u8]) -> Part {
+        let carried = CARRIED_BYTE * (body.len() as u64 + u64::from(found_in(body)));
+        Part { client, expected: expected(body), carried, is_in_vain: body.first() == Some(&PLAN) }
+    }
+
+    /// What stands before a frame of this client, and costs nothing by itself.
+    pub fn free(client: u32) -> Part {
+        Part { client, expected: 0, carried: 0, is_in_vain: false }
+    }
+}
+
+fn expected(body: &[u8]) -> u64 {
     let length = body.len() as u64;
     let found = u64::from(found_in(body));
     match body.first() {
@@ -62,10 +91,10 @@ impl Account {
         Account { ratio: 1.0, sent: 0, over: now, last: now }
     }
 
-    /// What a frame is expected to cost that would cost so much of an unknown client.
-    pub fn cost(&self, expected: u64) -> u64 {
+    /// What a frame of the client is expected to cost.
+    pub fn cost(&self, part: &Part) -> u64 {
         // At least one, so that a turn isn't endless.
-        ((expected as f64 * self.ratio) as u64).max(1)
+        ((part.expected as f64 * self.ratio) as u64).max(1) + part.carried
     }
 
     /// Until when it rests, since it has used more than its part; none where it needn't.
@@ -74,16 +103,10 @@ impl Account {
     }
 
     /// Counts time that was spent for it.
-    fn spend(&mut self, time: Duration, now: Instant) {
-        self.over = self.over.max(now) + time * PART;
+    fn spend(&mut self, time: Duration, now: Instant, is_in_vain: bool) {
+        let times = if is_in_vain && time > TAKES_LONG { PART * IN_VAIN } else { PART };
+        self.over = self.over.max(now) + time * times;
     }
-}
-
-/// A client's frames that were answered together: what would be expected of them, were nothing known.
-#[derive(Clone, Copy, Debug)]
-pub struct Part {
-    pub client: u32,
-    pub expected: u64,
 }
 
 /// Shares out the time that frames took together. Each client's ratio moves by its share of what wasn't foreseen: a client whose
@@ -100,7 +123,7 @@ pub fn measured(accounts: &mut HashMap<u32, Account>, parts: &[Part], took: Dura
         let expected = part.expected as f64;
         if let Some(account) = accounts.get_mut(&part.client) {
             let share = expected * account.ratio / foreseen;
-            account.spend(Duration::from_nanos((nanos * share) as u64), now);
+            account.spend(Duration::from_nanos((nanos * share) as u64), now, part.is_in_vain);
             let moved = account.ratio + STEP * (nanos - foreseen) * expected / squares;
             let least = LEAST_RATIO.max(account.ratio / MOST_STEP);
             account.ratio = moved.clamp(least, MOST_RATIO.min(account.ratio * MOST_STEP));
@@ -115,7 +138,8 @@ mod tests {
     const MICRO: Duration = Duration::from_micros(1);
 
     fn after(accounts: &mut HashMap<u32, Account>, parts: &[(u32, u64)], took: Duration, now: Instant) {
-        let parts: Vec<Part> = parts.iter().map(|(client, expected)| Part { client: *client, expected: *expected }).collect();
+        let parts: Vec<Part> =
+            parts.iter().map(|(client, expected)| Part { expected: *expected, ..Part::free(*client) }).collect();
         for part in &parts {
             accounts.entry(part.client).or_insert_with(|| Account::new(now));
         }
@@ -129,6 +153,7 @@ mod tests {
         assert!(expected(&names) > 20 * expected(&read(65_536)));
         assert!(expected(&read(65_536)) > expected(&read(1)));
         assert!(expected(&[1; 2000]) > 3 * expected(&[3; 9]) && expected(&[3; 9]) > expected(&[0x40, 0, 0, 0, 1]));
+        assert_eq!((Part::of(7, &read(65_536)).carried, Part::of(7, &[1; 2000]).carried), (131_106, 4_000));
     }
 
     #[test]
@@ -158,14 +183,19 @@ mod tests {
     fn who_uses_more_than_its_part_rests() {
         let now = Instant::now();
         let mut account = Account::new(now);
-        account.spend(MICRO * 1000, now);
+        account.spend(MICRO * 1000, now, false);
         assert_eq!(account.rests_until(now), None);
-        account.spend(MICRO * 2000, now);
+        account.spend(MICRO * 2000, now, false);
         assert_eq!(account.rests_until(now), Some(now + MICRO * 8000));
         assert_eq!(account.rests_until(now + MICRO * 8000), None);
         // what wasn't used isn't saved
         let later = now + MICRO * 1_000_000;
-        account.spend(MICRO * 2000, later);
+        account.spend(MICRO * 2000, later, false);
         assert_eq!(account.rests_until(later), Some(later + MICRO * 4000));
+        let mut other = Account::new(now);
+        other.spend(MICRO * 1000, now, true);
+        assert_eq!(other.rests_until(now), None);
+        other.spend(MICRO * 2000, now, true);
+        assert_eq!(other.rests_until(now), Some(now + MICRO * 200_000));
     }
 }

@@ -1,9 +1,10 @@
 //! `kfs_serve`: the process, its two pipes, and a new one where it ends before its time.
 
-use crate::calls::Told;
+use crate::calls::{Note, Told};
 use crate::clients::{Clients, Refusal};
 use crate::cluster::ClusterFault;
 use crate::connection::Shared;
+use crate::cost::Part;
 use crate::docket::Docket;
 use crate::flight::Flight;
 use crate::folder::{Folder, Found, FILES};
@@ -506,7 +507,7 @@ async fn read_replies(
         if sent.is_kept() {
             flight.ended();
         }
-        parts.push(sent.part);
+        parts.push(part_of(&sent, &reply));
         if let Some(asker) = sent.asker {
             // Where the connection is gone nobody hears it.
             let _ = asker.to.send(Answer::Said(reply));
@@ -518,6 +519,13 @@ async fn read_replies(
         }
     }
     Ok(())
+}
+
+/// What a frame cost. A log that hasn't landed came to nothing.
+pub fn part_of(sent: &Sent, reply: &Reply) -> Part {
+    let has_landed = || reply.answer().map(Told::of) == Some(Told::Landed);
+    let is_refused = matches!(sent.note, Note::Submit(_)) && !has_landed();
+    Part { is_in_vain: sent.part.is_in_vain || is_refused, ..sent.part }
 }
 
 /// Counts frames that are about to be sent.

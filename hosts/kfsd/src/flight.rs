@@ -178,7 +178,7 @@ mod tests {
             numbered,
             is_checkpoint: false,
             length,
-            part: crate::cost::Part { client: 7, expected: 1 },
+            part: crate::cost::Part::free(7),
             cost: 1,
             asker: None,
         }

@@ -7,6 +7,7 @@ use kfsd::log::Log;
 use std::io::Write;
 use std::path::PathBuf;
 use std::process::ExitCode;
+use tokio::runtime::Builder;
 use tracing::{error, Level};
 
 /// Has many processes of many users come to one desk.
@@ -24,11 +25,24 @@ struct Words {
     verbose: bool,
 }
 
-// One thread waits for sockets and pipes and uses them. With several, tokio 1.24 may miss that one has become ready: it numbers
-// its waits modulo 256, and where an event has the number of the one before, what a short write takes back is the new one.
-#[tokio::main(flavor = "current_thread")]
-async fn main() -> ExitCode {
+/// How many tasks go on one behind another before sockets and pipes are looked at. One user's connections may be many tasks.
+const TASKS: u32 = 8;
+
+fn main() -> ExitCode {
     let words = Words::parse();
+    // One thread waits for sockets and pipes and uses them. With several, tokio 1.24 may miss that one has become ready: it numbers
+    // its waits modulo 256, and where an event has the number of the one before, what a short write takes back is the new one.
+    match Builder::new_current_thread().enable_all().event_interval(TASKS).build() {
+        Ok(runtime) => runtime.block_on(run_told(&words)),
+        Err(fault) => {
+            let _ = writeln!(std::io::stderr(), "kfsd can't begin: {fault}");
+            ExitCode::FAILURE
+        }
+    }
+}
+
+/// Runs, and tells its log.
+async fn run_told(words: &Words) -> ExitCode {
     let level = if words.verbose { Level::DEBUG } else { Level::INFO };
     let log = match Log::begin() {
         Ok(log) => log,
@@ -41,7 +55,7 @@ async fn main() -> ExitCode {
     // It would tell by itself what it can't tell, and end where that can't be written either.
     told.log_internal_errors(false).init();
     Log::tell_panics();
-    let status = run(&words).await;
+    let status = run(words).await;
     log.end().await;
     status
 }

@@ -50,10 +50,13 @@ mod tests {
     #[test]
     fn work_is_told_from_waiting() {
         let mut meter = Meter::of(Some(std::process::id()));
-        let began = Instant::now();
-        while began.elapsed() < Duration::from_millis(20) {}
-        let (worked, _) = meter.lap(None);
-        // other tests run in the same process
+        let (began, mut worked) = (Instant::now(), Duration::ZERO);
+        // however little of a processor this has
+        while worked < Duration::from_millis(10) && began.elapsed() < Duration::from_secs(30) {
+            let at = Instant::now();
+            while at.elapsed() < Duration::from_millis(1) {}
+            worked += meter.lap(None).0;
+        }
         assert!(worked >= Duration::from_millis(10), "{worked:?}");
         let mut none = Meter::of(None);
         std::thread::sleep(Duration::from_millis(5));

@@ -3,7 +3,7 @@
 
 use crate::allowance::Taken;
 use crate::calls::Note;
-use crate::cost::{expected, measured, Account, Part};
+use crate::cost::{measured, Account, Part};
 use crate::frames::{is_look_up, Head, Reply, CHECKPOINT, HEAD};
 use crate::outcomes::{Marker, MARKER};
 use crate::space::{Gate, Ruling};
@@ -79,9 +79,9 @@ pub struct Asker {
 }
 
 impl Call {
-    /// In whose line it is, and what it is expected to cost an unknown client.
+    /// In whose line it is, and what it costs.
     fn part(&self) -> Part {
-        Part { client: self.line, expected: expected(&self.body) }
+        Part::of(self.line, &self.body)
     }
 
     /// Whether it is a look-up of somebody who is gone.
@@ -496,7 +496,7 @@ impl Lines {
             is_checkpoint: false,
             length: HEAD + MARKER,
             // The call behind it costs that, too.
-            part: Part { client: call.line, expected: 0 },
+            part: Part::free(call.line),
             cost: 0,
             asker: None,
         });
@@ -507,7 +507,7 @@ impl Lines {
         let (is_checkpoint, part) = (call.is_alone(), call.part());
         let Call { client, body, note, came, number: numbered, asker, .. } = call;
         let account = self.accounts.entry(part.client).or_insert_with(|| Account::new(now));
-        let cost = account.cost(part.expected);
+        let cost = account.cost(&part);
         account.sent += cost;
         self.sent += cost;
         let note = note.unwrap_or_else(|| Note::of(&body));
@@ -571,12 +571,12 @@ impl Lines {
         if call.is_in_vain() {
             return Some(Turn::InVain);
         }
-        let (expected, is_too_long) = (call.part().expected, call.length() > room || call.is_alone());
+        let (part, is_too_long) = (call.part(), call.length() > room || call.is_alone());
         if self.rests(client, now) {
             return Some(Turn::Rests);
         }
         let account = self.accounts.get(&client).copied().unwrap_or_else(|| Account::new(now));
-        let cost = account.cost(expected);
+        let cost = account.cost(&part);
         if account.sent > 0 && account.sent + cost > self.share(client, now) {
             return Some(Turn::Full);
         }
@@ -800,7 +800,7 @@ mod tests {
         assert!(next(&queue).await.is_none());
     }
 
-    /// A call that is expected to cost so many nanoseconds and some.
+    /// A call that is expected to cost so many nanoseconds of `kfs_serve` and some.
     fn costing(client: u32, nanos: usize) -> Call {
         call(client, nanos / 10).0
     }
@@ -809,9 +809,9 @@ mod tests {
     async fn little_of_a_client_is_sent_beside_others() {
         let queue = Queue::default();
         (0..100).for_each(|_| queue.push(costing(7, 100_000)));
-        // of one that costs 108,000 nanoseconds
+        // of those that cost 128,000 nanoseconds
         let first = queue.next(usize::MAX).await.unwrap();
-        assert_eq!(first.sent.len() as u64, ALONE / 108_000);
+        assert_eq!(first.sent.len() as u64, ALONE / 128_000);
         assert!(timeout(Duration::from_millis(20), queue.next(usize::MAX)).await.is_err());
         queue.push(costing(8, 10_000));
         assert_eq!(clients_in(&queue.next(usize::MAX).await.unwrap().bytes), [(8, 1000)]);
@@ -822,9 +822,9 @@ mod tests {
         batch.sent.iter().filter(|sent| sent.client == 8).for_each(|sent| queue.answered(sent));
         // another one was answered lately, so it has half
         let rest = clients_in(&batch.bytes).into_iter().filter(|(client, _)| *client == 7).count();
-        assert!(rest as u64 <= ALONE / 108_000, "{rest}");
+        assert!(rest as u64 <= ALONE / 128_000, "{rest}");
         batch.sent.iter().for_each(|sent| queue.answered(sent));
-        assert_eq!(queue.next(usize::MAX).await.unwrap().sent.len(), 4);
+        assert_eq!(queue.next(usize::MAX).await.unwrap().sent.len() as u64, SHARE / 128_000);
     }
 
     #[tokio::test]

@@ -39,7 +39,7 @@ const REFUSED_AT_ONCE: u32 = 500;
 const LINE: usize = 16;
 
 /// How long connections are taken one behind another before others go on.
-const SLICE: Duration = Duration::from_micros(100);
+const SLICE: Duration = Duration::from_micros(50);
 
 /// A socket of a path, which goes with it. Where its path is removed it is made anew.
 pub struct Socket {

@@ -8,7 +8,7 @@ use super::replica::{bodies, Replica};
 use super::volume::{Lead, Volume};
 use super::{blocking, ClusterFault};
 use crate::connection::Shared;
-use crate::desk::{count_sent, take_over};
+use crate::desk::{count_sent, part_of, take_over};
 use crate::frames::Reply;
 use crate::queue::{Answer, Batch, Sent};
 use crate::times;
@@ -88,7 +88,7 @@ async fn make(
         if replies.iter().zip(&sent).any(|(reply, one)| reply.number != one.number) {
             return Err(ClusterFault::Ended(ErrorKind::InvalidData.into()));
         }
-        let parts: Vec<_> = sent.iter().map(|one| one.part).collect();
+        let parts: Vec<_> = sent.iter().zip(&replies).map(|(one, reply)| part_of(one, reply)).collect();
         shared.queue.measured(&parts, began.elapsed(), Duration::ZERO);
         let mut group = Group { time: times::now(), moment: shared.following.clock.now(), calls: vec![] };
         for (body, reply) in bodies(&bytes).into_iter().zip(&replies) {
