@@ -257,6 +257,7 @@ impl Desk {
         let has_begun = is_open(&mut to, &mut from).await;
         // What it took to open the files is nobody's.
         let _ = meter.lap(None);
+        self.docket.begin_anew();
         let mut done = None;
         if has_begun {
             self.note().await?;
@@ -423,7 +424,6 @@ impl Anew {
                 *self = Anew::NotDue;
                 if is_made {
                     info!("the docket is begun anew");
-                    docket.begin_anew();
                 } else {
                     warn!("the docket has three quarters of its rows, and no checkpoint is made");
                     docket.wait();

@@ -49,7 +49,7 @@ impl Docket {
         self.due_from.store(rows.min(self.most), Ordering::Relaxed);
     }
 
-    /// It was begun anew.
+    /// Another process begins, which has those behind the last checkpoint.
     pub fn begin_anew(&self) {
         self.due_from.store(three_quarters(self.most), Ordering::Relaxed);
     }

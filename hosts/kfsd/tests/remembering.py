@@ -38,7 +38,7 @@ def leases_by_many_paths(made):
         inner = b"/" + b"/".join([name] * depth)
 
         def work():
-            for at in range(100):
+            for at in range(400):
                 does(seven, Rename(1, b"a%d" % at, 1, b"a%d" % (at + 1)))
                 assert by_path(seven, b"/a%d" % (at + 1) + inner) == 2 + depth
             for node in range(1, 3 + depth):
@@ -51,18 +51,23 @@ def leases_by_many_paths(made):
 
 
 def leases_and_wants(made):
-    """2,000 leases, and as many that another client wants, by number and by path."""
+    """2,000 leases, and as many that another client wants, by number and by paths of 4,000 bytes."""
+    depth, name = 16, b"n" * 250
     with Daemon(*made, users=USERS, tiers=(512, 8, 8)).start() as daemon:
         seven, eight = daemon.connect(7), daemon.connect(8)
-        assert by_number(seven, 1) == 1
+        for above, node in zip((1, *range(4000, 4000 + depth)), range(4000, 4000 + depth)):
+            assert by_number(seven, above) == above
+            does(seven, Create(above, name, node, DIRECTORY, 0o755))
+        last, path = 3999 + depth, b"/" + b"/".join([name] * depth) + b"/f%d"
+        assert by_number(seven, last) == last
         for first in range(0, 2000, 500):
-            does(seven, *[Create(1, b"f%d" % at, 2 + at, FILE, 0o666) for at in range(first, first + 500)])
+            does(seven, *[Create(last, b"f%d" % at, 2 + at, FILE, 0o666) for at in range(first, first + 500)])
 
         def work():
             for at in range(2000):
                 assert by_number(seven, 2 + at) == 2 + at
             for at in range(2000):
-                call = lease(8, FOR_EVER, 2 + at, True) if at % 2 else lease_by_path(8, FOR_EVER, b"/f%d" % at, True)
+                call = lease(8, FOR_EVER, 2 + at, True) if at % 2 else lease_by_path(8, FOR_EVER, path % at, True)
                 assert eight.ask(1, call).answer[4] != LEASED
 
         grows_by(daemon, work, SLACK)

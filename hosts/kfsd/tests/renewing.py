@@ -43,7 +43,7 @@ def rows_are_begun_anew(made):
         assert not wrong, (len(wrong), wrong[0])
         starts = daemon.status()["kfs_serve"]["starts"]
         # numbered calls take two rows
-        assert starts >= CALLS * 15 // ROWS, starts
+        assert CALLS * 15 // ROWS <= starts <= CALLS * 30 // ROWS, starts
         assert daemon.said().count("the docket is begun anew") == starts - 1 and "WARN" not in daemon.said()
         print(f"    {starts} processes for {CALLS * 15} rows; a look-up took {max(looked) * 1000:.0f} ms at most")
         assert daemon.stop()[0] == 0
