@@ -112,19 +112,24 @@ impl Account {
 /// Shares out the time that frames took together. Each client's ratio moves by its share of what wasn't foreseen: a client whose
 /// frames come alone now and then is told from one whose frames are beside them.
 pub fn measured(accounts: &mut HashMap<u32, Account>, parts: &[Part], took: Duration, now: Instant) {
-    let ratio = |part: &Part| accounts.get(&part.client).map_or(1.0, |account| account.ratio);
-    let foreseen: f64 = parts.iter().map(|part| part.expected as f64 * ratio(part)).sum();
-    let squares: f64 = parts.iter().map(|part| (part.expected as f64).powi(2)).sum();
+    let mut sums = HashMap::new();
+    parts.iter().for_each(|part| *sums.entry(part.client).or_insert(0.0) += part.expected as f64);
+    let ratio = |client: &u32| accounts.get(client).map_or(1.0, |account| account.ratio);
+    let foreseen: f64 = sums.iter().map(|(client, sum)| sum * ratio(client)).sum();
+    let squares: f64 = sums.values().map(|sum: &f64| sum.powi(2)).sum();
     if foreseen <= 0.0 {
         return;
     }
     let nanos = (took.as_nanos() as f64).min(foreseen * MOST_TIMES + SOME_MORE);
     for part in parts {
-        let expected = part.expected as f64;
         if let Some(account) = accounts.get_mut(&part.client) {
-            let share = expected * account.ratio / foreseen;
+            let share = part.expected as f64 * account.ratio / foreseen;
             account.spend(Duration::from_nanos((nanos * share) as u64), now, part.is_in_vain);
-            let moved = account.ratio + STEP * (nanos - foreseen) * expected / squares;
+        }
+    }
+    for (client, sum) in sums {
+        if let Some(account) = accounts.get_mut(&client) {
+            let moved = account.ratio + STEP * (nanos - foreseen) * sum / squares;
             let least = LEAST_RATIO.max(account.ratio / MOST_STEP);
             account.ratio = moved.clamp(least, MOST_RATIO.min(account.ratio * MOST_STEP));
         }
@@ -167,6 +172,18 @@ mod tests {
         }
         assert!((accounts[&7].ratio - 1.0).abs() < 0.5, "{}", accounts[&7].ratio);
         assert!((accounts[&9].ratio - 100.0).abs() < 1.0, "{}", accounts[&9].ratio);
+    }
+
+    #[test]
+    fn many_frames_of_a_client_move_it_as_one_does() {
+        let (mut accounts, now) = (HashMap::new(), Instant::now());
+        let many = [(7, 8_000); 100];
+        for _ in 0..30 {
+            after(&mut accounts, &many, MICRO * 400, now);
+            let ratio = accounts[&7].ratio;
+            assert!((0.49..=1.0).contains(&ratio), "{ratio}");
+        }
+        assert!((accounts[&7].ratio - 0.5).abs() < 0.01);
     }
 
     #[test]

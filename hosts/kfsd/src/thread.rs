@@ -11,7 +11,7 @@ use tokio::time::{sleep_until, Sleep};
 
 /// How much of the thread a user may have on and on beside others: one part of so many. It may have so much at once.
 const PART: u32 = 3;
-const AT_ONCE: Duration = Duration::from_micros(300);
+const AT_ONCE: Duration = Duration::from_micros(600);
 
 /// For how long a user counts as one that others hold up.
 const LATELY: Duration = Duration::from_secs(1);
