@@ -302,12 +302,12 @@ def limits_where_connections_are_handed_on(made):
                 cluster.wait_for(lambda count=before: came(other) > count + 2000)
                 times = connecting_times(other)
                 seconds = time.monotonic() - began
-                # 100 of a user, and 10 refusals, are at once
+                # 100 of a user, and 500 refusals, are at once
                 handed_on = (leader.status()["connections"]["taken"] - taken - 100) / seconds
                 refused = (came(other) - before) / seconds
                 print(f"    beside connections of user {uid} without end, {refused:.0f} a second, a connection and a call took {1e3 * statistics.median(times):.0f} ms, at most {1e3 * max(times):.0f} ms; alone at most {1e3 * alone:.0f} ms")
                 assert max(times) < 5 + 10 * alone, times
-                assert handed_on < 1_100 and (uid == 1000 or refused < 4_400), (handed_on, refused)
+                assert handed_on < 1_100 and (uid == 1000 or refused < 55_000), (handed_on, refused)
             finally:
                 for child in children:
                     os.kill(child, 9)
