@@ -6,7 +6,7 @@ use crate::leases::Leases;
 use crate::name::Name;
 use crate::names::Names;
 use crate::node::Header;
-use crate::shown::{Ahead, FoundAhead, Shown, Unshown};
+use crate::shown::{Ahead, FoundAhead, Shown, Stamp, Unshown};
 use std::collections::{BTreeMap, HashMap};
 use std::time::{Duration, Instant};
 
@@ -318,6 +318,8 @@ impl Cached<'_> {
     /// Bytes of a file without a lease, where they were asked for when it was opened.
     fn opened(&mut self, number: u32, start: u64, most: usize) -> Option<Vec<u8>> {
         self.await_told(|ahead| is_opening(ahead, number));
+        // The stamp behind them tells whose they are.
+        self.await_told(|ahead| ahead == Ahead::Header(number));
         let (asked, bytes) = self.cache.opened.get(&number)?;
         let is_whole = bytes.len() < OPENED as usize;
         let from = usize::try_from(start).ok()?.min(bytes.len());
@@ -410,6 +412,10 @@ impl Shown for Cached<'_> {
         let found = self.shown.list(directory, behind, most)?;
         names.put_list(behind, &found, found.len() < most);
         Ok(found)
+    }
+
+    fn stamp(&self, number: u32) -> Option<Stamp> {
+        self.shown.stamp(number)
     }
 
     fn read(&mut self, number: u32, start: u64, most: usize) -> Result<Vec<u8>, Unshown> {

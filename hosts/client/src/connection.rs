@@ -4,21 +4,21 @@
 //! which leases others want. An older one tells none of it, and an older server has no look-ups.
 
 use crate::desk::{Answer, Blocks, Desk, LeaseRefusal, Unanswered, Wanted, Wish};
-use crate::line::Line;
+use crate::ending::Ending;
+use crate::line::{Door, Line};
 use crate::name::Name;
-use crate::node::Header;
+use crate::node::{Header, ROOT};
 use crate::replies::{
-    answer_in, found_ahead, found_header, found_in, found_name, found_names, found_places, is_unwelcome, nonsense, reply_of,
-    told_of, Reply, Told, FOUND_BYTES, HELLO, MOMENT,
+    answer_in, found_ahead, found_header, found_in, found_name, found_names, found_places, found_stamp, is_unwelcome, nonsense,
+    reply_of, told_of, Reply, Row, Told, FOUND_BYTES, HELLO, MOMENT,
 };
-use crate::shown::{Ahead, FoundAhead, Shown, Unshown};
+use crate::shown::{Ahead, FoundAhead, Shown, Stamp, Unshown};
 use crate::wants::Wants;
 use std::collections::hash_map::RandomState;
-use std::collections::VecDeque;
+use std::collections::{HashMap, VecDeque};
 use std::hash::{BuildHasher, Hasher};
-use std::io::{self, Write};
-use std::os::unix::net::UnixStream;
-use std::path::{Path, PathBuf};
+use std::io;
+use std::path::Path;
 use std::thread::sleep;
 use std::time::{Duration, Instant};
 use thiserror::Error;
@@ -28,12 +28,16 @@ const NUMBERED: u8 = 0xf2;
 /// How long what isn't answered is asked again, where nothing else is said, and after which pause.
 const AGAIN: Duration = Duration::from_secs(30);
 const PAUSE: Duration = Duration::from_millis(50);
+/// How long each answer to a hello is waited for.
+const HELLO_TIME: Duration = Duration::from_secs(5);
 /// The look-ups of a node's header, of a name, of names, of bytes, and of the places of the tiers.
 const NODE: u8 = 0x40;
 const FIND: u8 = 0x43;
 const NAMES: u8 = 0x44;
 const READ: u8 = 0x45;
 const PLACES: u8 = 0x46;
+/// The look-up of a node's header, with what kfsd keeps of the node.
+const STAMPED: u8 = 0xf6;
 /// The most bytes that a look-up finds, and how many a name takes at most.
 const FOUND_LIMIT: usize = 65_536;
 const NAME_ROOM: usize = 260;
@@ -85,7 +89,9 @@ struct Clock {
 /// A connection to kfsd. Where it breaks, the next call connects anew.
 #[derive(Debug)]
 pub struct Connection {
-    path: PathBuf,
+    door: Door,
+    /// The door of the connection on which it is told what others want.
+    side_door: Door,
     line: Option<Line>,
     client: u32,
     grant: [u32; 2],
@@ -95,11 +101,29 @@ pub struct Connection {
     /// The number of the next numbered call. Its upper half is random, so that other processes of the user have others.
     next_call: u64,
     wants: Option<Wants>,
-    /// How long what isn't answered is asked again.
+    /// How long calls wait where kfsd isn't there, all together.
     again: Duration,
-    /// The frames of look-ups that were asked for ahead, with their numbers there, and what has come of others.
-    ahead: VecDeque<(u32, u64)>,
+    /// Since when nothing was answered.
+    away: Option<Instant>,
+    ending: Ending,
+    /// The look-ups that were asked for ahead, and what has come of others.
+    ahead: VecDeque<AskedAhead>,
     told: Vec<(u64, FoundAhead)>,
+    /// Who the client is, where kfsd tells it.
+    row: Option<Row>,
+    /// Whether kfsd tells stamps of nodes, and those that it has told.
+    has_stamps: bool,
+    stamps: HashMap<u32, Stamp>,
+}
+
+/// A look-up that was asked for ahead.
+#[derive(Clone, Copy, Debug)]
+struct AskedAhead {
+    /// The number of its frame.
+    frame: u32,
+    /// Its number for who asks.
+    serial: u64,
+    ahead: Ahead,
 }
 
 impl Connection {
@@ -107,7 +131,8 @@ impl Connection {
     pub fn open(path: &Path, client: u32) -> Result<Connection, Unconnected> {
         let random = RandomState::new().build_hasher().finish();
         let mut connection = Connection {
-            path: path.into(),
+            door: Door::new(path),
+            side_door: Door::new(path),
             line: None,
             client,
             grant: [0, 0],
@@ -116,8 +141,13 @@ impl Connection {
             next_call: random & !u64::from(u32::MAX),
             wants: None,
             again: AGAIN,
+            away: None,
+            ending: Ending::default(),
             ahead: VecDeque::new(),
             told: Vec::new(),
+            row: None,
+            has_stamps: false,
+            stamps: HashMap::new(),
         };
         connection.grant = connection.hello()?;
         Ok(connection)
@@ -133,22 +163,48 @@ impl Connection {
         self.grant
     }
 
-    /// What isn't answered is asked again for so long, where that does no harm: 30 seconds, unless it is set.
+    /// Who the client is at the server. An earlier kfsd doesn't tell it.
+    pub fn row(&self) -> Option<&Row> {
+        self.row.as_ref()
+    }
+
+    /// What isn't answered is asked again for so long, where that does no harm: 30 seconds, unless it is set. Where nobody has
+    /// answered for so long each call fails at once, until somebody does.
     pub fn set_again(&mut self, again: Duration) {
         self.again = again;
+        self.break_off();
+    }
+
+    /// Calls wait no longer than this lets them.
+    pub fn set_ending(&mut self, ending: Ending) {
+        self.ending = ending;
+        self.break_off();
+    }
+
+    /// Nothing was answered. Whether to ask again, behind a pause.
+    fn asks_again(&mut self) -> bool {
+        let since = *self.away.get_or_insert_with(Instant::now);
+        let goes_on = since.elapsed() < self.again && !self.ending.has_begun();
+        if goes_on {
+            sleep(PAUSE);
+        }
+        goes_on
     }
 
     /// Closes the connection. The next call connects anew.
     pub fn break_off(&mut self) {
         self.line = None;
         // Who wants what was asked for ahead asks for it anew.
-        self.told.extend(self.ahead.drain(..).map(|(_, ahead)| (ahead, FoundAhead::Nothing)));
+        self.told.extend(self.ahead.drain(..).map(|asked| (asked.serial, FoundAhead::Nothing)));
     }
 
     fn hello(&mut self) -> Result<[u32; 2], Unconnected> {
-        let mut line = Line::new(UnixStream::connect(&self.path)?);
+        let mut line = Line::new(self.door.connect()?, self.again.min(HELLO_TIME), self.ending.clone())?;
         let grant = match exchange(&mut line, self.number, self.client, &[HELLO])? {
-            Some(Reply::Welcome(client, grant)) if client == self.client => grant,
+            Some(Reply::Welcome(client, grant, row)) if client == self.client => {
+                self.row = row;
+                grant
+            }
             Some(Reply::Welcome(..) | Reply::Refused(5)) => return Err(Unconnected::Another),
             Some(Reply::Refused(130)) => return Err(Unconnected::Unlisted),
             Some(Reply::Refused(131)) => return Err(Unconnected::TooMany),
@@ -160,10 +216,16 @@ impl Connection {
             Some(Reply::Moment(moment, longest)) => Some(Clock { moment, asked_at, longest }),
             _ => None,
         };
+        let root = exchange(&mut line, self.number, self.client, &look_up_body(STAMPED, ROOT))?;
+        self.has_stamps = matches!(&root, Some(Reply::Found(found)) if found_stamp(found).is_some());
+        if let Some(Reply::Found(found)) = root {
+            self.note_stamp(ROOT, &found);
+        }
         self.wants = match self.clock {
-            Some(_) => Some(Wants::ask(&self.path, self.client)?),
+            Some(_) => Some(Wants::ask(&mut self.side_door, self.client)?),
             None => None,
         };
+        line.set_patience(self.again);
         self.line = Some(line);
         Ok(grant)
     }
@@ -186,11 +248,17 @@ impl Connection {
 
     /// Sends a frame, and waits for its reply.
     fn ask(&mut self, body: &[u8]) -> Result<Reply, Unshown> {
+        let since = Instant::now();
         let told = self.exchange_all(std::slice::from_ref(&body));
         if told.is_err() {
+            self.away.get_or_insert(since);
             self.break_off();
         }
-        told?.pop().flatten().ok_or_else(|| nonsense(body))
+        let reply = told?.pop().flatten().ok_or_else(|| nonsense(body))?;
+        if reply != Reply::Refused(128) {
+            self.away = None;
+        }
+        Ok(reply)
     }
 
     /// Sends frames at once, and waits for the replies to all.
@@ -217,7 +285,7 @@ impl Connection {
             self.settle()?;
         }
         // Where kfsd refuses the connection it has said so before it closed: that can be read still.
-        let sent = self.line()?.stream.write_all(&frames);
+        let sent = self.line()?.send(&frames);
         let is_soon = bodies.first().map_or(false, |body| is_soon(body.as_ref()));
         let mut replies = Vec::with_capacity(bodies.len());
         for number in numbers {
@@ -244,8 +312,12 @@ impl Connection {
     /// Takes the reply to the look-up that was asked for first of those that are ahead.
     fn take_ahead(&mut self, replied: u32, said: &[u8], number: u32) -> io::Result<()> {
         match self.ahead.pop_front() {
-            Some((first, ahead)) if first == replied => {
-                self.told.push((ahead, found_ahead(said)));
+            Some(first) if first.frame == replied => {
+                let found = found_ahead(said);
+                if let (Ahead::Header(number), FoundAhead::Header(_)) = (first.ahead, &found) {
+                    self.note_stamp(number, &said[1..]);
+                }
+                self.told.push((first.serial, found));
                 Ok(())
             }
             first => {
@@ -271,10 +343,9 @@ impl Connection {
 
     /// The same of what may be asked twice: again and again, where the server or the connection has ended meanwhile.
     fn ask_again(&mut self, body: &[u8]) -> Result<Reply, Unshown> {
-        let until = Instant::now() + self.again;
         loop {
             match self.ask(body) {
-                Ok(Reply::Refused(128)) | Err(Unshown::Gone(_)) if Instant::now() < until => sleep(PAUSE),
+                Ok(Reply::Refused(128)) | Err(Unshown::Gone(_)) if self.asks_again() => {}
                 told => return told,
             }
         }
@@ -295,10 +366,9 @@ impl Connection {
         let mut numbered = vec![NUMBERED];
         numbered.extend_from_slice(&self.next_call.to_be_bytes());
         numbered.extend_from_slice(body);
-        let until = Instant::now() + self.again;
         loop {
             match self.call(&numbered) {
-                Err(Unanswered::Unknown | Unanswered::Gone(Unshown::Gone(_))) if Instant::now() < until => sleep(PAUSE),
+                Err(Unanswered::Unknown | Unanswered::Gone(Unshown::Gone(_))) if self.asks_again() => {}
                 told => return told,
             }
         }
@@ -332,7 +402,7 @@ fn exchange(line: &mut Line, number: u32, client: u32, body: &[u8]) -> io::Resul
     // Where kfsd refuses the connection it has said so before it closed: that can be read still.
     let mut frame = Vec::new();
     put_frame(&mut frame, number, client, body);
-    let sent = line.stream.write_all(&frame);
+    let sent = line.send(&frame);
     let (replied, said) = line.next(false)?;
     let reply = reply_of(&said);
     if is_unwelcome(&said) {
@@ -347,10 +417,23 @@ fn exchange(line: &mut Line, number: u32, client: u32, body: &[u8]) -> io::Resul
 
 /// Whether the answer is due soon: nothing has to be kept before.
 fn is_soon(body: &[u8]) -> bool {
-    matches!(body.first(), Some(NODE..=PLACES))
+    matches!(body.first(), Some(&(NODE..=PLACES | STAMPED)))
 }
 
 impl Connection {
+    /// The body of the look-up of a node, with its stamp where kfsd tells one.
+    fn node_body(&self, number: u32) -> Vec<u8> {
+        look_up_body(if self.has_stamps { STAMPED } else { NODE }, number)
+    }
+
+    /// Keeps the stamp in what the look-up of a node has found.
+    fn note_stamp(&mut self, number: u32, found: &[u8]) {
+        match found_stamp(found).filter(|_| self.has_stamps) {
+            Some(stamp) => self.stamps.insert(number, stamp),
+            None => self.stamps.remove(&number),
+        };
+    }
+
     /// What a look-up finds; none where there is no such node, or it is one of the other kind.
     fn look_up(&mut self, body: &[u8]) -> Result<Option<Vec<u8>>, Unshown> {
         match self.ask_again(body)? {
@@ -403,19 +486,24 @@ fn look_up_body(tag: u8, number: u32) -> Vec<u8> {
 
 impl Shown for Connection {
     fn header(&mut self, number: u32) -> Result<Option<Header>, Unshown> {
-        let body = look_up_body(NODE, number);
+        let body = self.node_body(number);
         let found = self.look_up(&body)?.unwrap_or_default();
+        self.note_stamp(number, &found);
         found_header(&found).ok_or_else(|| nonsense(&body))
     }
 
     /// They are asked for one behind another, without waiting. Where one isn't told, all are asked for singly.
     fn headers(&mut self, numbers: &[u32]) -> Result<Vec<Option<Header>>, Unshown> {
-        let bodies: Vec<_> = numbers.iter().map(|number| look_up_body(NODE, *number)).collect();
-        let found = |reply: Reply| match reply {
-            Reply::Found(found) => found_header(&found),
+        let bodies: Vec<_> = numbers.iter().map(|number| self.node_body(*number)).collect();
+        let told = self.ask_all(&bodies).ok();
+        let mut found = |(reply, number): (Reply, &u32)| match reply {
+            Reply::Found(found) => {
+                self.note_stamp(*number, &found);
+                found_header(&found)
+            }
             _ => None,
         };
-        let told: Option<Vec<_>> = self.ask_all(&bodies).ok().and_then(|replies| replies.into_iter().map(found).collect());
+        let told = told.and_then(|replies| replies.into_iter().zip(numbers).map(&mut found).collect::<Option<Vec<_>>>());
         match told {
             Some(headers) => Ok(headers),
             None => numbers.iter().map(|number| self.header(*number)).collect(),
@@ -452,7 +540,8 @@ impl Shown for Connection {
         Ok(names)
     }
 
-    /// More than one look-up finds is asked for at once.
+    /// More than one look-up finds is asked for at once. The stamp is told behind the bytes: where it is the same node's as before,
+    /// they are that node's.
     fn read(&mut self, number: u32, start: u64, most: usize) -> Result<Vec<u8>, Unshown> {
         let mut bytes = Vec::new();
         while bytes.len() < most {
@@ -460,16 +549,7 @@ impl Shown for Connection {
             let counts: Vec<usize> = counts.take_while(|count| *count > 0).collect();
             let from = start.saturating_add(bytes.len() as u64);
             let bodies: Vec<_> = (0..).zip(&counts).map(|(at, count)| read_body(number, from, at, *count)).collect();
-            let some = match bodies.len() {
-                1 => None,
-                _ => self.ask_all(&bodies).ok().filter(|replies| replies.iter().all(|reply| matches!(reply, Reply::Found(_)))),
-            };
-            let found = match some {
-                Some(replies) => replies.into_iter().map(found_in).collect::<Result<Vec<_>, _>>()?,
-                // One behind another, and again where the server has ended.
-                None => vec![self.look_up(&bodies[0])?],
-            };
-            for ((found, count), body) in found.into_iter().zip(&counts).zip(&bodies) {
+            for ((found, count), body) in self.read_all(number, &bodies)?.into_iter().zip(&counts).zip(&bodies) {
                 let found = found.unwrap_or_else(|| vec![FOUND_BYTES]);
                 if found.first() != Some(&FOUND_BYTES) || found.len() > count + 1 {
                     return Err(nonsense(body));
@@ -481,6 +561,10 @@ impl Shown for Connection {
             }
         }
         Ok(bytes)
+    }
+
+    fn stamp(&self, number: u32) -> Option<Stamp> {
+        self.stamps.get(&number).copied()
     }
 
     /// At most as many as are let be under way.
@@ -503,6 +587,31 @@ impl Shown for Connection {
     }
 }
 
+impl Connection {
+    /// What look-ups of a file's bytes find, and behind them its stamp.
+    fn read_all(&mut self, number: u32, bodies: &[Vec<u8>]) -> Result<Vec<Option<Vec<u8>>>, Unshown> {
+        let stamped = self.has_stamps.then(|| self.node_body(number));
+        let all: Vec<_> = bodies.iter().cloned().chain(stamped).collect();
+        if all.len() > 1 {
+            let replies = self.ask_all(&all).ok();
+            if let Some(replies) = replies.filter(|replies| replies.iter().all(|reply| matches!(reply, Reply::Found(_)))) {
+                let mut found = replies.into_iter().map(found_in).collect::<Result<Vec<_>, _>>()?;
+                if self.has_stamps {
+                    let told = found.pop().flatten().unwrap_or_default();
+                    self.note_stamp(number, &told);
+                }
+                return Ok(found);
+            }
+        }
+        // One behind another, and again where the server has ended.
+        let found = self.look_up(&bodies[0])?;
+        if self.has_stamps {
+            self.header(number)?;
+        }
+        Ok(vec![found])
+    }
+}
+
 /// Look-ups that nobody waits for.
 impl Connection {
     fn send_ahead(&mut self, some: &[(u64, Ahead)]) -> io::Result<()> {
@@ -510,18 +619,18 @@ impl Connection {
         for (serial, ahead) in some {
             self.number = self.number.wrapping_add(1);
             let body = match *ahead {
-                Ahead::Header(number) => look_up_body(NODE, number),
+                Ahead::Header(number) => self.node_body(number),
                 Ahead::Bytes { number, start, most } => read_body(number, start, 0, most as usize),
             };
             put_frame(&mut frames, self.number, self.client, &body);
-            self.ahead.push_back((self.number, *serial));
+            self.ahead.push_back(AskedAhead { frame: self.number, serial: *serial, ahead: *ahead });
         }
-        self.line()?.stream.write_all(&frames)
+        self.line()?.send(&frames)
     }
 
     /// Takes what has come without waiting, and waits for one.
     fn take_all_ahead(&mut self, wait_for: Option<u64>) -> io::Result<()> {
-        if let Some(at) = wait_for.and_then(|serial| self.ahead.iter().position(|(_, ahead)| *ahead == serial)) {
+        if let Some(at) = wait_for.and_then(|serial| self.ahead.iter().position(|asked| asked.serial == serial)) {
             self.settle_to(self.ahead.len() - at - 1)?;
         }
         while !self.ahead.is_empty() {
@@ -627,11 +736,11 @@ impl Desk for Connection {
 
     /// Where the connection has ended, so that nobody would be told any more, there is a new one as soon as kfsd takes it.
     fn wanted_by_others(&mut self) -> Result<Vec<Wish>, Unanswered> {
-        let Connection { wants, path, .. } = self;
+        let Connection { wants, side_door, .. } = self;
         Ok(wants.as_mut().map_or_else(Vec::new, |wants| {
             let told = wants.told();
             // Where there is no kfsd now, this is asked again.
-            let _no_kfsd = wants.ask_again(path);
+            let _no_kfsd = wants.ask_again(side_door);
             told
         }))
     }

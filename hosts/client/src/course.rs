@@ -3,6 +3,7 @@
 use crate::cache::{Cached, OPENED};
 use crate::desk::Desk;
 use crate::name::Name;
+use crate::node::ROOT;
 use crate::session::Session;
 use crate::shown::Ahead;
 use std::time::{Duration, Instant};
@@ -106,7 +107,9 @@ impl<D: Desk> Session<D> {
         match self.cache.last_header(number) {
             Some(header) if !header.is_directory() && (1..u64::from(OPENED)).contains(&header.size) => {
                 let bytes = Ahead::Bytes { number, start: 0, most: OPENED };
-                self.cached().ask_for(&[bytes]);
+                let has_stamps = self.desk.stamp(ROOT).is_some();
+                let both = [bytes, Ahead::Header(number)];
+                self.cached().ask_for(if has_stamps { &both } else { &both[..1] });
             }
             _ => {}
         }

@@ -12,7 +12,7 @@ use crate::node::Header;
 use crate::paths::Paths;
 use crate::plan::{NameRow, NodeRow, Piece, Plan};
 use crate::shown::{Shown, Unshown};
-use std::collections::{BTreeMap, BTreeSet};
+use std::collections::{BTreeMap, BTreeSet, HashMap};
 use std::ops::Bound;
 
 /// How many names are asked for at a time.
@@ -37,6 +37,8 @@ pub struct Draft {
     next: u32,
     /// Numbers that were found to be free. Nobody else gives them to a node.
     free: BTreeSet<u32>,
+    /// When the nodes were made that the log changes, as far as that is known.
+    meant: BTreeMap<u32, u64>,
     /// The file of the last entry and the place behind its payload, where that is a Write.
     last_write: Option<(u32, u64)>,
 }
@@ -56,6 +58,7 @@ impl Draft {
             paths: Paths::default(),
             next,
             free: BTreeSet::new(),
+            meant: BTreeMap::new(),
             last_write: None,
         }
     }
@@ -110,6 +113,20 @@ impl Draft {
         all.filter(|number| !self.has_created(*number)).collect()
     }
 
+    /// Of these nodes, each with when it was made, those that the log changes are meant by their numbers.
+    pub(crate) fn mean(&mut self, some: &HashMap<u32, u64>) {
+        for (number, born) in some {
+            if self.needs(*number) {
+                self.meant.insert(*number, *born);
+            }
+        }
+    }
+
+    /// The nodes that are meant by their numbers.
+    pub(crate) fn meant(&self) -> HashMap<u32, u64> {
+        self.meant.iter().map(|(number, born)| (*number, *born)).collect()
+    }
+
     /// Whether this log needs a lease on a node.
     pub(crate) fn needs(&self, number: u32) -> bool {
         let is_changed = self.nodes.contains_key(&number) || self.files.contains_key(&number);
@@ -120,6 +137,11 @@ impl Draft {
     /// What this log has made of a node's header, where it has changed it; none where the node has gone with it.
     pub(crate) fn header_made(&self, number: u32) -> Option<Option<Header>> {
         self.nodes.get(&number).map(|change| change.now)
+    }
+
+    /// Whether this log has made the node, or changed its header or bytes.
+    pub fn has_changed(&self, number: u32) -> bool {
+        self.nodes.contains_key(&number)
     }
 
     /// Where the names of a directory lead that this log has changed.

@@ -122,8 +122,9 @@ impl<D: Desk> Session<D> {
             Answer::Entry(index, reason) if is_again => Some((index, reason)),
             _ => None,
         };
+        let meant = std::mem::replace(&mut self.meant, old.meant());
         let entered = self.enter_all_again(&old, &calls, left_out);
-        self.is_waiting = was_waiting;
+        (self.is_waiting, self.meant) = (was_waiting, meant);
         match &entered {
             Ok(_) if self.draft.log().is_empty() => self.began = None,
             Ok(_) => {}

@@ -14,6 +14,11 @@ use crate::shown::Shown;
 pub trait Held {
     /// Whether it has one on this node.
     fn holds(&self, number: u32) -> bool;
+
+    /// When the node was made that is meant by its number, where that is known. A later node of the number is another one.
+    fn meant(&self, _number: u32) -> Option<u64> {
+        None
+    }
 }
 
 /// What an entry does, with what the checks have found: so making the change asks nobody.
@@ -117,8 +122,14 @@ impl Judge<'_> {
         check(is_own || self.draft.client().may(header, Access::Write), Reason::NoWrite)
     }
 
+    /// There is a lease on the node, and it is the one that is meant: its header was shown under the lease.
     fn lease(&self, number: u32) -> Result<(), Fault> {
-        check(self.draft.has_created(number) || self.held.holds(number), Reason::NoLease(number))
+        if self.draft.has_created(number) {
+            return Ok(());
+        }
+        check(self.held.holds(number), Reason::NoLease(number))?;
+        let is_meant = self.held.meant(number).map_or(true, |born| self.shown.stamp(number).map(|stamp| stamp.born) == Some(born));
+        check(is_meant, Reason::NoSuchNode)
     }
 
     fn owner(&self, header: &Header) -> Result<(), Fault> {

@@ -15,6 +15,7 @@ pub mod connection;
 mod course;
 pub mod desk;
 pub mod draft;
+pub mod ending;
 pub mod entry;
 pub mod failure;
 pub mod fault;

@@ -1,26 +1,34 @@
 //! Replies of a connection, one behind another.
 
+use crate::ending::Ending;
 use crate::looks::Looks;
 use nix::errno::Errno;
 use nix::poll::{poll, PollFd, PollFlags};
-use std::io::{self, ErrorKind, Read};
+use std::io::{self, ErrorKind, Read, Write};
 use std::os::unix::io::AsRawFd;
 use std::os::unix::net::UnixStream;
-use std::time::Duration;
+use std::path::{Path, PathBuf};
+use std::sync::mpsc::{channel, Receiver};
+use std::thread;
+use std::time::{Duration, Instant};
 
 /// The most bytes of a reply behind its head.
 const REPLY_LIMIT: u32 = 1 << 24;
 const HEAD: usize = 8;
 /// How many bytes are read at once at least.
 const ROOM: usize = 1 << 17;
+/// How often it is looked whether who waits is about to end.
+const PAUSE: Duration = Duration::from_millis(100);
 /// For how long a reply is looked for before it is waited for asleep. A look-up takes less where there is no other work.
 const LONGEST_LOOK: Duration = Duration::from_micros(60);
 
 /// A connection, and what has come over it.
 #[derive(Debug)]
 pub(crate) struct Line {
-    /// What is asked is written here.
-    pub stream: UnixStream,
+    stream: UnixStream,
+    /// How long the other end may take until it reads or writes something.
+    patience: Duration,
+    ending: Ending,
     bytes: Vec<u8>,
     /// Which of these bytes wait.
     from: usize,
@@ -28,9 +36,75 @@ pub(crate) struct Line {
     looks: Looks,
 }
 
+/// How long a connection is waited for. It is waited for again by the next call.
+const CONNECTING: Duration = Duration::from_secs(1);
+
+/// A socket to which connections are made. The kernel has whoever connects wait while the other end takes none, without an end:
+/// so a thread waits.
+#[derive(Debug)]
+pub(crate) struct Door {
+    path: PathBuf,
+    pending: Option<Receiver<io::Result<UnixStream>>>,
+}
+
+impl Door {
+    pub fn new(path: &Path) -> Door {
+        Door { path: path.into(), pending: None }
+    }
+
+    /// A new connection.
+    pub fn connect(&mut self) -> io::Result<UnixStream> {
+        let pending = match self.pending.take() {
+            Some(pending) => pending,
+            None => {
+                let ((to, from), path) = (channel(), self.path.clone());
+                // Where nobody waits any more it closes.
+                thread::Builder::new().spawn(move || drop(to.send(UnixStream::connect(path))))?;
+                from
+            }
+        };
+        match pending.recv_timeout(CONNECTING) {
+            Ok(connected) => connected,
+            Err(_) => {
+                self.pending = Some(pending);
+                Err(ErrorKind::TimedOut.into())
+            }
+        }
+    }
+}
+
 impl Line {
-    pub fn new(stream: UnixStream) -> Line {
-        Line { stream, bytes: vec![0; ROOM], from: 0, until: 0, looks: Looks::new(LONGEST_LOOK) }
+    pub fn new(stream: UnixStream, patience: Duration, ending: Ending) -> io::Result<Line> {
+        stream.set_read_timeout(Some(PAUSE))?;
+        stream.set_write_timeout(Some(PAUSE))?;
+        Ok(Line { stream, patience, ending, bytes: vec![0; ROOM], from: 0, until: 0, looks: Looks::new(LONGEST_LOOK) })
+    }
+
+    /// The other end may take so long from now on.
+    pub fn set_patience(&mut self, patience: Duration) {
+        self.patience = patience;
+    }
+
+    /// Sends bytes.
+    pub fn send(&mut self, mut bytes: &[u8]) -> io::Result<()> {
+        let since = Instant::now();
+        while !bytes.is_empty() {
+            match self.stream.write(bytes) {
+                Ok(count) => bytes = &bytes[count..],
+                Err(fault) => self.wait_on(fault, since)?,
+            }
+        }
+        Ok(())
+    }
+
+    /// Whether to wait on behind a read or write that has come to nothing.
+    fn wait_on(&self, fault: io::Error, since: Instant) -> io::Result<()> {
+        match fault.kind() {
+            ErrorKind::Interrupted => Ok(()),
+            ErrorKind::WouldBlock | ErrorKind::TimedOut if since.elapsed() < self.patience && !self.ending.is_over() => Ok(()),
+            ErrorKind::WouldBlock => Err(ErrorKind::TimedOut.into()),
+            _ => Err(fault),
+        }
     }
 
     /// Waits for the next reply, which may be due soon. Returns the number of its frame, and what it says.
@@ -102,6 +176,7 @@ impl Line {
         if self.bytes.len() - self.until < ROOM / 2 {
             self.bytes.resize(self.bytes.len() + ROOM, 0);
         }
+        let since = Instant::now();
         loop {
             match self.stream.read(&mut self.bytes[self.until..]) {
                 Ok(0) => return Err(ErrorKind::UnexpectedEof.into()),
@@ -109,8 +184,7 @@ impl Line {
                     self.until += count;
                     return Ok(());
                 }
-                Err(fault) if fault.kind() == ErrorKind::Interrupted => {}
-                Err(fault) => return Err(fault),
+                Err(fault) => self.wait_on(fault, since)?,
             }
         }
     }

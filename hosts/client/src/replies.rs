@@ -5,7 +5,7 @@ use crate::entry::Kind;
 use crate::fault::Reason;
 use crate::name::Name;
 use crate::node::Header;
-use crate::shown::{FoundAhead, Unshown};
+use crate::shown::{FoundAhead, Stamp, Unshown};
 
 /// The body that asks kfsd who the client is, and the tag of its answer.
 pub(crate) const HELLO: u8 = 0xf0;
@@ -18,6 +18,10 @@ const FOUND_NAME: u8 = 5;
 const FOUND_NAMES: u8 = 6;
 pub(crate) const FOUND_BYTES: u8 = 7;
 const FOUND_PLACES: u8 = 8;
+/// How many bytes a header takes with its tag.
+const HEADER: usize = 22;
+/// The mark of a directory that gives its group to what is made in it.
+const GIVES_GROUP: u8 = 1;
 /// The tags of replies.
 const ANSWERED: u8 = 1;
 const REFUSED: u8 = 2;
@@ -32,10 +36,23 @@ pub(crate) enum Reply {
     Found(Vec<u8>),
     /// The code of a refusal.
     Refused(u8),
-    /// The client, and its grant.
-    Welcome(u32, [u32; 2]),
+    /// The client, its grant, and the rest of its row, where kfsd tells it.
+    Welcome(u32, [u32; 2], Option<Row>),
     /// The moment, and for how many moments a lease may live at most; 0 for ever.
     Moment(u64, u64),
+}
+
+/// Who a client is at the server.
+#[derive(Clone, Debug, PartialEq, Eq)]
+pub struct Row {
+    /// Its user.
+    pub uid: u32,
+    /// Its group.
+    pub gid: u32,
+    /// Whether permission bits don't bind it.
+    pub is_privileged: bool,
+    /// Its other groups.
+    pub groups: Vec<u32>,
 }
 
 /// Fields of a reply, read one after another. None where they end early.
@@ -72,11 +89,19 @@ pub(crate) fn reply_of(said: &[u8]) -> Option<Reply> {
         ANSWERED => Reply::Answered(rest.to_vec()),
         FOUND => Reply::Found(rest.to_vec()),
         REFUSED => Reply::Refused(fields.byte()?),
-        HELLO => Reply::Welcome(fields.word()?, [fields.word()?, fields.word()?]),
+        HELLO => Reply::Welcome(fields.word()?, [fields.word()?, fields.word()?], row_in(&mut fields)),
         MOMENT => Reply::Moment(fields.long()?, fields.long()?),
         _ => return None,
     };
     Some(reply)
+}
+
+/// The row of a client behind its grant. An earlier kfsd tells none.
+fn row_in(fields: &mut Fields<'_>) -> Option<Row> {
+    let (uid, gid, is_privileged) = (fields.word()?, fields.word()?, fields.byte()? == 1);
+    let count = fields.short()?;
+    let groups = (0..count).map(|_| fields.word()).collect::<Option<Vec<u32>>>()?;
+    Some(Row { uid, gid, is_privileged, groups })
 }
 
 /// Whether kfsd refuses the connection, whatever was asked.
@@ -194,6 +219,13 @@ pub(crate) fn found_header(bytes: &[u8]) -> Option<Option<Header>> {
     Some(Some(Header { kind, mode, uid, gid, links: fields.short()?, size: fields.long()? }))
 }
 
+/// What kfsd keeps of a node, behind the header in what it has found. None where there is no such node.
+pub(crate) fn found_stamp(bytes: &[u8]) -> Option<Stamp> {
+    let mut fields = Fields(bytes.get(HEADER..)?);
+    let (born, modified, changed) = (fields.long()?, fields.long()? as i64, fields.long()? as i64);
+    Some(Stamp { born, modified, changed, gives_group: fields.byte()? & GIVES_GROUP != 0 })
+}
+
 /// Where a name leads that was looked up.
 pub(crate) fn found_name(bytes: &[u8]) -> Option<Option<u32>> {
     let mut fields = Fields(bytes);
@@ -283,5 +315,29 @@ mod tests {
         assert_eq!(found_header(&bytes), Some(Some(header)));
         assert_eq!(found_header(&[1, 0]), Some(None));
         assert_eq!(found_header(&bytes[..21]), None);
+        let mut told = bytes.to_vec();
+        assert_eq!(found_stamp(&told), None);
+        for time in [1u64 << 60, 5, 6] {
+            told.extend_from_slice(&time.to_be_bytes());
+        }
+        told.push(1);
+        let stamp = Stamp { born: 1 << 60, modified: 5, changed: 6, gives_group: true };
+        assert_eq!((found_header(&told), found_stamp(&told)), (Some(Some(header)), Some(stamp)));
+        assert_eq!((found_stamp(&told[..46]), found_stamp(&[1, 0])), (None, None));
+    }
+
+    #[test]
+    fn a_row_stands_behind_the_grant() {
+        let mut said = vec![HELLO];
+        for word in [7u32, 2, 99] {
+            said.extend_from_slice(&word.to_be_bytes());
+        }
+        assert_eq!(reply_of(&said), Some(Reply::Welcome(7, [2, 99], None)));
+        for word in [1000u32, 50] {
+            said.extend_from_slice(&word.to_be_bytes());
+        }
+        said.extend_from_slice(&[1, 0, 2, 0, 0, 0, 8, 0, 0, 0, 9]);
+        let row = Row { uid: 1000, gid: 50, is_privileged: true, groups: vec![8, 9] };
+        assert_eq!(reply_of(&said), Some(Reply::Welcome(7, [2, 99], Some(row))));
     }
 }

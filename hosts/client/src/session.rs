@@ -8,10 +8,11 @@ use crate::draft::Draft;
 use crate::entry::{Entry, Kind, PAYLOAD_LIMIT};
 use crate::failure::Failure;
 use crate::fault::{Fault, Reason};
+use crate::judge::Held;
 use crate::leases::Leases;
 use crate::name::Name;
 use crate::node::{Header, ROOT};
-use crate::shown::{Shown, Unshown};
+use crate::shown::{Shown, Stamp, Unshown};
 use std::collections::HashMap;
 use std::ops::RangeInclusive;
 use std::thread::sleep;
@@ -83,6 +84,24 @@ pub struct Session<D> {
     wished: HashMap<u32, Instant>,
     /// Where names were looked up last.
     pub(crate) course: Course,
+    /// When the nodes were made that calls mean by their numbers.
+    pub(crate) meant: HashMap<u32, u64>,
+}
+
+/// The leases of a client, and which nodes it means.
+struct Guard<'a> {
+    leases: &'a Leases,
+    meant: &'a HashMap<u32, u64>,
+}
+
+impl Held for Guard<'_> {
+    fn holds(&self, number: u32) -> bool {
+        self.leases.holds(number)
+    }
+
+    fn meant(&self, number: u32) -> Option<u64> {
+        self.meant.get(&number).copied()
+    }
 }
 
 impl<D: Desk> Session<D> {
@@ -105,6 +124,7 @@ impl<D: Desk> Session<D> {
             given_up: HashMap::new(),
             wished: HashMap::new(),
             course: Course::default(),
+            meant: HashMap::new(),
         }
     }
 
@@ -131,9 +151,22 @@ impl<D: Desk> Session<D> {
     // ---- Reads
 
     /// From now on until this is called again a header is asked for once alone, but behind each new lease: for some calls that
-    /// belong together, and are made at once.
+    /// belong together, and are made at once. No number means a certain node any more.
     pub fn begin_together(&mut self) {
         self.cache.begin_together();
+        self.meant.clear();
+    }
+
+    /// From now on until `begin_together` this number means the node that was made then (`Stamp`): a later one of the same number
+    /// isn't changed, and calls that would do it are answered `NoSuchNode`.
+    pub fn mean(&mut self, number: u32, born: u64) {
+        self.meant.insert(number, born);
+    }
+
+    /// What the server keeps of a node beside its header, as it was told last. None where there was no such node, or the server
+    /// tells none: then the root has none either.
+    pub fn stamp(&self, number: u32) -> Option<Stamp> {
+        self.desk.stamp(number)
     }
 
     /// What a node is.
@@ -196,7 +229,8 @@ impl<D: Desk> Session<D> {
         // Who finds bytes has read a file.
         match found {
             Ok(bytes) if !bytes.is_empty() => Ok(bytes),
-            _ if self.header(number)?.is_directory() => Err(Failure::Missing(Reason::IsDirectory)),
+            // Who finds none asks whether the file is there still.
+            _ if self.header_of_now(number)?.is_directory() => Err(Failure::Missing(Reason::IsDirectory)),
             found => found,
         }
     }
@@ -298,6 +332,46 @@ impl<D: Desk> Session<D> {
         Ok(done)
     }
 
+    /// Puts bytes behind the last one of a file, wherever that is by now. Returns the place of the first one, and how many were
+    /// taken: fewer only where the others can't be.
+    pub fn append(&mut self, number: u32, bytes: &[u8]) -> Result<(u64, usize), Failure> {
+        self.begin_call()?;
+        let (mut first, mut done) = (None, 0);
+        while done < bytes.len() {
+            let rest = &bytes[done..];
+            let failed = |fault: Fault| Failure::Entry { errno: fault.errno(), fault };
+            match self.insist(number, |session| session.try_append(number, rest), failed) {
+                Ok((at, count)) => {
+                    first.get_or_insert(at);
+                    done += count;
+                }
+                // Calls that are lost have to be told.
+                Err(failure @ Failure::HandIn(_)) => return Err(failure),
+                Err(_) if done > 0 => break,
+                Err(failure) => return Err(failure),
+            }
+        }
+        Ok((first.unwrap_or(0), done))
+    }
+
+    /// Takes some bytes into the log behind the last one of a file. Without a lease no entry is taken, and with one the end that was
+    /// shown is where the file ends.
+    fn try_append(&mut self, number: u32, bytes: &[u8]) -> Result<(u64, usize), Fault> {
+        let Session { desk, cache, leases, draft, .. } = self;
+        let header = draft.header(&mut Cached { shown: desk, cache, leases }, number)?;
+        let offset = header.ok_or(Fault::Refused(Reason::NoSuchNode))?.size;
+        let count = draft.write_on(leases, number, offset, bytes);
+        if let Some(calls) = self.calls.last_mut().filter(|_| count > 0) {
+            *calls = *calls.start()..=self.call;
+            return Ok((offset, count));
+        }
+        let payload = bytes[..bytes.len().min(PAYLOAD_LIMIT)].to_vec();
+        let count = payload.len();
+        self.try_enter(&Entry::Write { number, offset, payload })?;
+        self.calls.push(self.call..=self.call);
+        Ok((offset, count))
+    }
+
     /// Gives a file another size.
     pub fn truncate(&mut self, number: u32, size: u64) -> Result<(), Failure> {
         self.change(&Entry::Truncate { number, size })
@@ -344,25 +418,35 @@ impl<D: Desk> Session<D> {
         self.enter(entry)
     }
 
-    /// Takes an entry into the log. Leases that are lacking are taken, and a full log is handed in before.
+    /// Takes an entry into the log.
     fn enter(&mut self, entry: &Entry) -> Result<(), Failure> {
+        self.insist(entry.number(), |session| session.try_enter(entry), |fault| Failure::of(fault, entry))?;
+        self.calls.push(self.call..=self.call);
+        Ok(())
+    }
+
+    /// Tries to take an entry into the log until it is, or can't be. Leases that are lacking are taken, and a full log is handed in
+    /// before.
+    fn insist<T>(
+        &mut self,
+        number: u32,
+        attempt: impl Fn(&mut Session<D>) -> Result<T, Fault>,
+        failed: impl Fn(Fault) -> Failure,
+    ) -> Result<T, Failure> {
         let until = Instant::now() + self.options.patience;
-        for attempt in 1.. {
-            match self.try_enter(entry) {
-                Ok(()) => {
-                    self.calls.push(self.call..=self.call);
-                    return Ok(());
-                }
+        for count in 1.. {
+            match attempt(self) {
+                Ok(taken) => return Ok(taken),
                 Err(Fault::Refused(Reason::NoLease(number))) => self.take_lease(number, LeaseKind::Write)?,
                 Err(Fault::Full(_)) => self.sync_patiently()?,
                 Err(Fault::Unshown(Unshown::NotAllowed)) if !self.draft.log().is_empty() => self.sync_patiently()?,
-                Err(fault) => return Err(Failure::of(fault, entry)),
+                Err(fault) => return Err(failed(fault)),
             }
-            if attempt >= ATTEMPTS && Instant::now() >= until {
+            if count >= ATTEMPTS && Instant::now() >= until {
                 break;
             }
         }
-        Err(Failure::Lease(entry.number(), LeaseRefusal::Past))
+        Err(Failure::Lease(number, LeaseRefusal::Past))
     }
 
     /// A number that stays the same while a lease on the node is held without a gap; none where there is no lease.
@@ -372,9 +456,10 @@ impl<D: Desk> Session<D> {
     }
 
     pub(crate) fn try_enter(&mut self, entry: &Entry) -> Result<(), Fault> {
-        let Session { desk, cache, leases, draft, .. } = self;
+        let Session { desk, cache, leases, draft, meant, .. } = self;
         let leases = &*leases;
-        draft.enter(&mut Cached { shown: desk, cache, leases }, leases, entry)?;
+        draft.enter(&mut Cached { shown: desk, cache, leases }, &Guard { leases, meant }, entry)?;
+        draft.mean(meant);
         self.began.get_or_insert_with(Instant::now);
         Ok(())
     }

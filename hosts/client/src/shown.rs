@@ -34,6 +34,19 @@ impl Unshown {
     }
 }
 
+/// What a server keeps of a node beside its header.
+#[derive(Clone, Copy, Debug, Default, PartialEq, Eq)]
+pub struct Stamp {
+    /// When the node was made. A later node of the same number has a greater one. 0 where the server doesn't know.
+    pub born: u64,
+    /// When bytes of a file or names of a directory were changed, in nanoseconds since 1970; 0 where the server doesn't know.
+    pub modified: i64,
+    /// When anything of it was changed.
+    pub changed: i64,
+    /// Whether what is made in the directory gets its group (`S_ISGID`).
+    pub gives_group: bool,
+}
+
 /// A look-up that is asked for before what it finds is wanted.
 #[derive(Clone, Copy, Debug, PartialEq, Eq, Hash)]
 pub enum Ahead {
@@ -88,6 +101,12 @@ pub trait Shown {
 
     /// The bytes of a file from a place on, at most so many, and fewer only where the file ends.
     fn read(&mut self, number: u32, start: u64, most: usize) -> Result<Vec<u8>, Unshown>;
+
+    /// What the server keeps of a node, as it was told last with its header or behind its bytes. None where there was no such
+    /// node, or the server tells no stamps: then the root has none either.
+    fn stamp(&self, _number: u32) -> Option<Stamp> {
+        None
+    }
 
     /// Asks for some look-ups without waiting, each under a number of who asks. Returns how many of the first ones were asked
     /// for. Others may be asked for meanwhile: these are told by `told_ahead` alone, each once.

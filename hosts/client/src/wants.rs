@@ -2,9 +2,9 @@
 //! replies of a connection come in order. So it has a connection of its own, which nobody waits for.
 
 use crate::desk::Wish;
+use crate::line::Door;
 use std::io::{self, ErrorKind, Read, Write};
 use std::os::unix::net::UnixStream;
-use std::path::Path;
 
 /// The tag of the question, before the serial of the last want that was told, and of the answer.
 const WANTED: u8 = 0xf3;
@@ -26,12 +26,12 @@ pub(crate) struct Wants {
 
 impl Wants {
     /// Asks for the first time.
-    pub fn ask(path: &Path, client: u32) -> io::Result<Wants> {
-        Wants::ask_behind(path, client, 0)
+    pub fn ask(door: &mut Door, client: u32) -> io::Result<Wants> {
+        Wants::ask_behind(door, client, 0)
     }
 
-    fn ask_behind(path: &Path, client: u32, serial: u64) -> io::Result<Wants> {
-        let stream = UnixStream::connect(path)?;
+    fn ask_behind(door: &mut Door, client: u32, serial: u64) -> io::Result<Wants> {
+        let stream = door.connect()?;
         stream.set_nonblocking(true)?;
         let mut wants = Wants { stream, client, serial, left: Vec::new(), is_unknown: false, is_gone: false };
         wants.send()?;
@@ -39,9 +39,9 @@ impl Wants {
     }
 
     /// Asks over a new connection, where the last one has ended. That of another kfsd may have been killed.
-    pub fn ask_again(&mut self, path: &Path) -> io::Result<()> {
+    pub fn ask_again(&mut self, door: &mut Door) -> io::Result<()> {
         if self.is_gone && !self.is_unknown {
-            *self = Wants::ask_behind(path, self.client, self.serial)?;
+            *self = Wants::ask_behind(door, self.client, self.serial)?;
         }
         Ok(())
     }

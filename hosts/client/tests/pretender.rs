@@ -20,6 +20,8 @@ struct Told {
     serials: Vec<u64>,
     /// How long the answer is under way that tells the moment.
     late: Duration,
+    /// When the node was made that it tells of; 0 where it tells no stamps, as an earlier kfsd.
+    born: u8,
 }
 
 struct Pretender {
@@ -72,6 +74,7 @@ fn answer_all(mut stream: UnixStream, told: &Mutex<Told>) -> std::io::Result<()>
                 thread::sleep(late);
                 vec![0xf1, 0, 0, 0, 0, 0, 0, 3, 232, 0, 0, 0, 0, 0, 0, 0, 100]
             }
+            0xf6 => stamped(told.lock().unwrap().born),
             0xf3 => wait_for_want(told, u64::from_be_bytes(body[1..9].try_into().unwrap())),
             _ => {
                 let mut told = told.lock().unwrap();
@@ -90,6 +93,14 @@ fn answer_all(mut stream: UnixStream, told: &Mutex<Told>) -> std::io::Result<()>
         reply.extend_from_slice(&head[4..8]);
         reply.extend_from_slice(&said);
         stream.write_all(&reply)?;
+    }
+}
+
+/// An empty file with its stamp.
+fn stamped(born: u8) -> Vec<u8> {
+    match born {
+        0 => vec![2, 3, 0, 0, 0, 0],
+        born => [&[3, 1, 1, 1, 0xa4][..], &[0; 9], &[1], &[0; 8], &[0; 7], &[born], &[0; 16], &[1]].concat(),
     }
 }
 
@@ -124,6 +135,25 @@ fn a_log_has_one_number_until_it_is_answered() {
     assert_eq!(bodies[0][9..], *b"\x01\0\0\0\x07\0\0\0\x03log\0\0\0\x04plan");
     assert_eq!(bodies[4][9..], bodies[0][9..]);
     assert_ne!(bodies[4][1..9], bodies[0][1..9]);
+}
+
+#[test]
+fn a_stamp_is_told_behind_bytes() {
+    let kfsd = Pretender::start("stamps");
+    let mut earlier = Connection::open(&kfsd.path, 7).unwrap();
+    kfsd.told().replies = vec![vec![3, 1, 0], vec![3, 7, 9]];
+    assert_eq!((earlier.header(5).unwrap(), earlier.stamp(5)), (None, None));
+    assert_eq!((earlier.read(5, 0, 4).unwrap(), earlier.stamp(5), earlier.stamp(1)), (vec![9], None, None));
+    assert_eq!(kfsd.told().bodies.len(), 2);
+    kfsd.told().born = 8;
+    let mut connection = Connection::open(&kfsd.path, 7).unwrap();
+    assert_eq!(connection.stamp(1).unwrap().born, 8);
+    assert_eq!(connection.header(5).unwrap().unwrap().mode, 0o644);
+    assert!(connection.stamp(5).unwrap().gives_group);
+    // Another node has got the number.
+    kfsd.told().replies = vec![vec![3, 7, 9]];
+    kfsd.told().born = 9;
+    assert_eq!((connection.read(5, 0, 4).unwrap(), connection.stamp(5).unwrap().born), (vec![9], 9));
 }
 
 #[test]

@@ -1,5 +1,6 @@
 //! What a node is, as the kernel has it. Times are this mount's own, since the desk has none.
 
+use crate::nodes::number_of;
 use crate::protocol::Reply;
 use kfs_client::Header;
 use std::collections::HashMap;
@@ -38,18 +39,16 @@ pub fn now() -> Duration {
     SystemTime::now().duration_since(UNIX_EPOCH).unwrap_or_default()
 }
 
-/// The times of all nodes that were changed since the mount, and that of the mount for the others. And how often the number of a
-/// node was given to a new one.
+/// The times of all nodes that were changed since the mount, and that of the mount for the others.
 #[derive(Debug)]
 pub struct Clocks {
     of: HashMap<u32, Times>,
     begun: Duration,
-    generations: HashMap<u32, u64>,
 }
 
 impl Default for Clocks {
     fn default() -> Clocks {
-        Clocks { of: HashMap::new(), begun: now(), generations: HashMap::new() }
+        Clocks { of: HashMap::new(), begun: now() }
     }
 }
 
@@ -64,7 +63,6 @@ impl Clocks {
 
     /// A node is new.
     pub fn create(&mut self, number: u32) {
-        *self.generations.entry(number).or_insert(0) += 1;
         self.set(number, Times::all(now()));
     }
 
@@ -79,8 +77,9 @@ impl Clocks {
         self.set(number, Times { changed: now(), ..self.of(number) });
     }
 
-    pub fn generation(&self, number: u32) -> u64 {
-        self.generations.get(&number).copied().unwrap_or(0)
+    /// The number is another node's now.
+    pub fn forget(&mut self, number: u32) {
+        self.of.remove(&number);
     }
 }
 
@@ -95,7 +94,7 @@ pub fn type_bits(shape: &Shape) -> u32 {
     }
 }
 
-/// The 88 bytes of `fuse_attr`.
+/// The 88 bytes of `fuse_attr`. Programs are shown the number of the desk.
 pub fn attributes(number: u32, shape: &Shape, times: Times, reply: &mut Reply) {
     let header = &shape.header;
     let [read, written, changed] = [times.read, times.written, times.changed];
@@ -111,16 +110,17 @@ pub fn attributes(number: u32, shape: &Shape, times: Times, reply: &mut Reply) {
 }
 
 /// `fuse_attr_out`.
-pub fn attribute_reply(number: u32, shape: &Shape, clocks: &Clocks) -> Reply {
-    let mut reply = Reply::default();
+pub fn attribute_reply(id: u64, shape: &Shape, clocks: &Clocks) -> Reply {
+    let (mut reply, number) = (Reply::default(), number_of(id));
     reply.long(0).word(KEPT).word(0);
     attributes(number, shape, clocks.of(number), &mut reply);
     reply
 }
 
-/// `fuse_entry_out`.
-pub fn entry(number: u32, shape: &Shape, clocks: &Clocks, reply: &mut Reply) {
-    reply.long(number.into()).long(clocks.generation(number)).long(0).long(0).word(KEPT).word(KEPT);
+/// `fuse_entry_out`. An id is given to one node alone, so its generation is 0.
+pub fn entry(id: u64, shape: &Shape, clocks: &Clocks, reply: &mut Reply) {
+    let number = number_of(id);
+    reply.long(id).long(0).long(0).long(0).word(KEPT).word(KEPT);
     attributes(number, shape, clocks.of(number), reply);
 }
 
@@ -133,14 +133,11 @@ mod tests {
     fn sizes_are_those_of_the_kernel() {
         let header = Header { kind: Kind::File, mode: 0o644, uid: 1, gid: 2, links: 1, size: 513 };
         let shape = Shape { header, is_link: false };
-        let mut clocks = Clocks::default();
+        let clocks = Clocks::default();
         assert_eq!(attribute_reply(5, &shape, &clocks).0.len(), 16 + 88);
         let mut reply = Reply::default();
-        entry(5, &shape, &clocks, &mut reply);
+        entry(1 << 32 | 5, &shape, &clocks, &mut reply);
         assert_eq!(reply.0.len(), 128);
-        assert_eq!(reply.0[8..16], [0; 8]);
-        clocks.create(5);
-        clocks.create(5);
-        assert_eq!(clocks.generation(5), 2);
+        assert_eq!((&reply.0[..8], &reply.0[40..48]), (&(1u64 << 32 | 5).to_ne_bytes()[..], &5u64.to_ne_bytes()[..]));
     }
 }

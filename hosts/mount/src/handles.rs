@@ -24,52 +24,53 @@ pub struct Leftover {
 /// All that is open.
 #[derive(Debug, Default)]
 pub struct Handles {
-    files: HashMap<u32, OpenFile>,
+    /// By the ids of nodes.
+    files: HashMap<u64, OpenFile>,
     lists: HashMap<u64, Vec<(Name, u32)>>,
     next: u64,
     hidden_count: u64,
 }
 
 impl Handles {
-    pub fn open(&mut self, number: u32) {
-        self.files.entry(number).or_default().count += 1;
+    pub fn open(&mut self, id: u64) {
+        self.files.entry(id).or_default().count += 1;
     }
 
     /// A file is closed once. What is left to do, where that was the last time.
-    pub fn close(&mut self, number: u32) -> Leftover {
-        match self.files.get_mut(&number) {
+    pub fn close(&mut self, id: u64) -> Leftover {
+        match self.files.get_mut(&id) {
             Some(file) if file.count > 1 => {
                 file.count -= 1;
                 Leftover::default()
             }
             _ => {
-                let file = self.files.remove(&number).unwrap_or_default();
+                let file = self.files.remove(&id).unwrap_or_default();
                 Leftover { late_mode: file.late_mode, hidden: file.hidden }
             }
         }
     }
 
-    pub fn is_open(&self, number: u32) -> bool {
-        self.files.contains_key(&number)
+    pub fn is_open(&self, id: u64) -> bool {
+        self.files.contains_key(&id)
     }
 
-    pub fn is_hidden(&self, number: u32) -> bool {
-        self.files.get(&number).map_or(false, |file| file.hidden.is_some())
+    pub fn is_hidden(&self, id: u64) -> bool {
+        self.files.get(&id).map_or(false, |file| file.hidden.is_some())
     }
 
     /// The mode that an open file gets later, if it has another one now.
-    pub fn late_mode(&self, number: u32) -> Option<u16> {
-        self.files.get(&number)?.late_mode
+    pub fn late_mode(&self, id: u64) -> Option<u16> {
+        self.files.get(&id)?.late_mode
     }
 
-    pub fn set_late_mode(&mut self, number: u32, mode: Option<u16>) {
-        if let Some(file) = self.files.get_mut(&number) {
+    pub fn set_late_mode(&mut self, id: u64, mode: Option<u16>) {
+        if let Some(file) = self.files.get_mut(&id) {
             file.late_mode = mode;
         }
     }
 
-    pub fn hide(&mut self, number: u32, directory: u32, name: Name) {
-        if let Some(file) = self.files.get_mut(&number) {
+    pub fn hide(&mut self, id: u64, directory: u32, name: Name) {
+        if let Some(file) = self.files.get_mut(&id) {
             file.hidden = Some((directory, name));
         }
     }

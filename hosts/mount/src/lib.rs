@@ -4,9 +4,11 @@
 #![forbid(unsafe_code)]
 
 pub mod attributes;
+pub mod changes;
 pub mod handles;
 pub mod links;
 pub mod mounting;
+pub mod nodes;
 pub mod protocol;
 pub mod serving;
 pub mod volume;

@@ -17,11 +17,15 @@ const HEAD: usize = 40;
 /// reads that nobody waits for: behind these the kernel tells of a close late, and a file that is removed then was still open.
 pub const WANTED: u32 = 1 << 3 | 1 << 5 | 1 << 13 | 1 << 14 | 1 << 22;
 
+/// The code of that message (`FUSE_NOTIFY_INVAL_INODE`).
+const INVALID_NODE: u32 = 2;
+
 /// What the kernel asks for.
 #[derive(Clone, Copy, Debug, PartialEq, Eq)]
 pub enum Operation {
     Lookup,
     Forget,
+    ForgetSome,
     GetAttributes,
     SetAttributes,
     ReadLink,
@@ -57,7 +61,7 @@ impl Operation {
     fn of(code: u32) -> Operation {
         match code {
             1 => Operation::Lookup,
-            2 | 42 => Operation::Forget,
+            2 => Operation::Forget,
             3 => Operation::GetAttributes,
             4 => Operation::SetAttributes,
             5 => Operation::ReadLink,
@@ -84,6 +88,7 @@ impl Operation {
             35 => Operation::Create,
             36 => Operation::Interrupt,
             38 => Operation::Destroy,
+            42 => Operation::ForgetSome,
             44 => Operation::ReadDirectoryPlus,
             45 => Operation::RenameWithFlags,
             other => Operation::Other(other),
@@ -97,8 +102,8 @@ pub struct Request<'a> {
     pub operation: Operation,
     /// The kernel's number for it.
     pub unique: u64,
-    /// The node that it is about.
-    pub node: u32,
+    /// The id of the node that it is about.
+    pub node: u64,
     rest: &'a [u8],
 }
 
@@ -109,8 +114,6 @@ impl<'a> Request<'a> {
         let _length = head.word()?;
         let operation = Operation::of(head.word()?);
         let (unique, node) = (head.long()?, head.long()?);
-        // Numbers of nodes are those of the desk, and the root is 1 for both.
-        let node = u32::try_from(node).map_err(|_| Errno::ESTALE)?;
         Ok(Request { operation, unique, node, rest: bytes.get(HEAD..).ok_or(Errno::EIO)? })
     }
 
@@ -190,6 +193,14 @@ pub fn reply_head(unique: u64, answer: &Result<Reply, Errno>) -> Reply {
     let mut head = Reply::default();
     head.word(16 + length as u32).word(error as u32).long(unique);
     head
+}
+
+/// A message that the kernel hasn't asked for: what it knows of a node's header isn't so any more. It asks for it when it is wanted.
+pub fn forget_header(id: u64) -> Reply {
+    let mut notice = Reply::default();
+    // No bytes are meant where their first place is below 0.
+    notice.word(16 + 24).word(INVALID_NODE).long(0).long(id).long(u64::MAX).long(0);
+    notice
 }
 
 /// The answer to the first request.

@@ -1,8 +1,10 @@
 //! Requests of the kernel, one after another.
 
 use crate::attributes::{attribute_reply, entry, now, type_bits, Shape};
-use crate::protocol::{init_reply, reply_head, Operation, Reply, Request, REQUEST};
-use crate::volume::{Attributes, Volume};
+use crate::changes::Attributes;
+use crate::nodes::number_of;
+use crate::protocol::{forget_header, init_reply, reply_head, Operation, Reply, Request, REQUEST};
+use crate::volume::{appends, Volume};
 use kfs_client::desk::Blocks;
 use kfs_client::looks::Looks;
 use kfs_client::node::GREATEST_NUMBER;
@@ -24,7 +26,9 @@ const LISTED: usize = 160;
 /// The bits of a mode that say what a node is, and those of a file.
 const TYPE: u32 = 0o170_000;
 const FILE: u32 = 0o100_000;
-/// The flag of an open by which the kernel keeps the bytes that it has (`FOPEN_KEEP_CACHE`).
+/// The flags of an open by which the kernel asks for each read and write (`FOPEN_DIRECT_IO`), and keeps the bytes that it has
+/// (`FOPEN_KEEP_CACHE`).
+const ASKS_ALWAYS: u32 = 1;
 const KEEPS_BYTES: u32 = 1 << 1;
 /// The flag of a Rename that replaces nothing.
 const REPLACES_NOTHING: u32 = 1;
@@ -76,12 +80,17 @@ fn answer<D: Desk>(device: &mut File, volume: &mut Volume<D>, bytes: &[u8]) -> i
         Ok(request) => request,
         Err(_) => return Ok(()),
     };
-    if matches!(request.operation, Operation::Forget | Operation::Interrupt | Operation::Destroy) {
+    if is_without_answer(volume, &mut request) {
         return Ok(());
     }
-    let unique = request.unique;
+    let (unique, node) = (request.unique, request.node);
     volume.begin_request();
-    let answer = answer_of(volume, &mut request);
+    let mut is_changed = false;
+    let answer = answer_of(volume, &mut request, &mut is_changed);
+    if is_changed {
+        // Before the answer, so that who goes on behind it is told of the node as it is. The kernel may not have it any more.
+        let _not_known = device.write(&forget_header(node).0);
+    }
     let head = reply_head(unique, &answer);
     let said = answer.as_ref().map_or(&[][..], |reply| &reply.0);
     // The kernel takes a reply whole, or not at all.
@@ -92,7 +101,27 @@ fn answer<D: Desk>(device: &mut File, volume: &mut Volume<D>, bytes: &[u8]) -> i
     }
 }
 
-fn answer_of<D: Desk>(volume: &mut Volume<D>, request: &mut Request<'_>) -> Result<Reply, Errno> {
+/// Takes over what the kernel tells, and wants no answer to. Whether it was that.
+fn is_without_answer<D: Desk>(volume: &mut Volume<D>, request: &mut Request<'_>) -> bool {
+    match request.operation {
+        Operation::Forget => volume.forget(request.node),
+        Operation::ForgetSome => {
+            let count = request.word().and_then(|count| request.skip(4).map(|()| count)).unwrap_or(0);
+            for _ in 0..count {
+                match (request.long(), request.long()) {
+                    (Ok(id), Ok(_times)) => volume.forget(id),
+                    _ => break,
+                }
+            }
+        }
+        Operation::Interrupt | Operation::Destroy => {}
+        _ => return false,
+    }
+    true
+}
+
+/// The answer to a request, and whether the kernel has something else of the node's header than what is so.
+fn answer_of<D: Desk>(volume: &mut Volume<D>, request: &mut Request<'_>, is_changed: &mut bool) -> Result<Reply, Errno> {
     let node = request.node;
     match request.operation {
         Operation::Init => init_reply(request),
@@ -121,10 +150,10 @@ fn answer_of<D: Desk>(volume: &mut Volume<D>, request: &mut Request<'_>) -> Resu
         Operation::ReadDirectory => read_directory(volume, request, false),
         Operation::ReadDirectoryPlus => read_directory(volume, request, true),
         Operation::Open | Operation::Create | Operation::Read | Operation::Write | Operation::Release => {
-            answer_of_file(volume, request)
+            answer_of_file(volume, request, is_changed)
         }
         Operation::ReadLink => volume.read_link(node).map(Reply),
-        Operation::Forget | Operation::Interrupt | Operation::Destroy | Operation::Other(_) => Err(Errno::ENOSYS),
+        Operation::Other(_) => Err(Errno::ENOSYS),
         _ => answer_of_names(volume, request),
     }
 }
@@ -155,7 +184,7 @@ fn answer_of_names<D: Desk>(volume: &mut Volume<D>, request: &mut Request<'_>) -
         Operation::Unlink => volume.unlink(node, request.text()?, Kind::File).map(|()| Reply::default()),
         Operation::RemoveDirectory => volume.unlink(node, request.text()?, Kind::Directory).map(|()| Reply::default()),
         Operation::Rename | Operation::RenameWithFlags => {
-            let to = node_of(request.long()?)?;
+            let to = request.long()?;
             let has_flags = request.operation == Operation::RenameWithFlags;
             let flags = if has_flags { request.long()? as u32 } else { 0 };
             if flags & !REPLACES_NOTHING != 0 {
@@ -165,28 +194,30 @@ fn answer_of_names<D: Desk>(volume: &mut Volume<D>, request: &mut Request<'_>) -
             volume.rename(node, name, to, new_name, flags == 0).map(|()| Reply::default())
         }
         Operation::Link => {
-            let number = node_of(request.long()?)?;
-            let shape = volume.link(number, node, request.text()?)?;
-            Ok(entry_reply(volume, (number, shape)))
+            let id = request.long()?;
+            let shape = volume.link(id, node, request.text()?)?;
+            Ok(entry_reply(volume, (id, shape)))
         }
         _ => Err(Errno::ENOSYS),
     }
 }
 
 /// The answer to a request of a file that is open, or is to be.
-fn answer_of_file<D: Desk>(volume: &mut Volume<D>, request: &mut Request<'_>) -> Result<Reply, Errno> {
+fn answer_of_file<D: Desk>(volume: &mut Volume<D>, request: &mut Request<'_>, is_changed: &mut bool) -> Result<Reply, Errno> {
     let node = request.node;
     match request.operation {
         Operation::Open => {
-            let keeps = volume.open(node, request.word()?)?;
-            Ok(open_reply(0, if keeps { KEEPS_BYTES } else { 0 }))
+            let opened = volume.open(node, request.word()?)?;
+            *is_changed = opened.is_resized;
+            let keeps = if opened.keeps { KEEPS_BYTES } else { 0 };
+            Ok(open_reply(0, if opened.is_direct { ASKS_ALWAYS } else { keeps }))
         }
         Operation::Create => {
-            let (_flags, mode) = (request.word()?, request.word()?);
+            let (flags, mode) = (request.word()?, request.word()?);
             request.skip(8)?;
             let found = volume.create(node, request.text()?, mode)?;
             let mut reply = entry_reply(volume, found);
-            reply.bytes(&open_reply(0, 0).0);
+            reply.bytes(&open_reply(0, if appends(flags) { ASKS_ALWAYS } else { 0 }).0);
             Ok(reply)
         }
         Operation::Read => {
@@ -195,23 +226,20 @@ fn answer_of_file<D: Desk>(volume: &mut Volume<D>, request: &mut Request<'_>) ->
         }
         Operation::Write => {
             let (_handle, start, count) = (request.long()?, request.long()?, request.word()?);
-            request.skip(20)?;
-            let count = volume.write(node, start, request.bytes(count as usize)?)?;
+            let (_write_flags, _owner, flags, _padding) = (request.word()?, request.long()?, request.word()?, request.word()?);
+            let written = volume.write(node, start, request.bytes(count as usize)?, flags)?;
+            *is_changed = written.is_elsewhere;
             let mut reply = Reply::default();
-            reply.word(count as u32).word(0);
+            reply.word(written.count as u32).word(0);
             Ok(reply)
         }
         _ => volume.close_file(node).map(|()| Reply::default()),
     }
 }
 
-fn node_of(number: u64) -> Result<u32, Errno> {
-    u32::try_from(number).map_err(|_| Errno::ESTALE)
-}
-
-fn entry_reply<D>(volume: &Volume<D>, (number, shape): (u32, Shape)) -> Reply {
+fn entry_reply<D>(volume: &Volume<D>, (id, shape): (u64, Shape)) -> Reply {
     let mut reply = Reply::default();
-    entry(number, &shape, &volume.clocks, &mut reply);
+    entry(id, &shape, &volume.clocks, &mut reply);
     reply
 }
 
@@ -266,10 +294,10 @@ fn open_directory<D: Desk>(volume: &mut Volume<D>, request: &mut Request<'_>) ->
 }
 
 /// The name at an offset of a list, which begins with the directory itself and the one above.
-fn listed<D: Desk>(volume: &Volume<D>, handle: u64, directory: u32, offset: u64) -> Option<(Vec<u8>, u32)> {
+fn listed<D: Desk>(volume: &Volume<D>, handle: u64, directory: u64, offset: u64) -> Option<(Vec<u8>, u32)> {
     match offset {
-        0 => Some((b".".to_vec(), directory)),
-        1 => Some((b"..".to_vec(), volume.parent(directory))),
+        0 => Some((b".".to_vec(), number_of(directory))),
+        1 => Some((b"..".to_vec(), volume.parent(number_of(directory)))),
         _ => {
             let (name, number) = volume.handles.list(handle).get(usize::try_from(offset - 2).ok()?)?;
             Some((name.as_bytes().to_vec(), *number))
@@ -291,18 +319,20 @@ fn read_directory<D: Desk>(volume: &mut Volume<D>, request: &mut Request<'_>, is
         if reply.0.len() + length > most {
             break;
         }
-        let shape = match volume.shape(number) {
-            Ok(shape) => shape,
+        let is_own = matches!(text.as_slice(), b"." | b"..");
+        let shown = if text == b"." { volume.shape(request.node).map(|shape| (request.node, shape)) } else { volume.shape_of(number) };
+        let (id, shape) = match shown {
+            Ok(shown) => shown,
             // A name that went since the list was made leads nowhere.
-            Err(Errno::ENOENT) => continue,
+            Err(Errno::ESTALE) => continue,
             // Of a name that nobody could be asked about it isn't said that it isn't there. It is asked for again, and told then.
             Err(_) if !reply.0.is_empty() => break,
             Err(errno) => return Err(errno),
         };
-        if is_plus && matches!(text.as_slice(), b"." | b"..") {
+        if is_plus && is_own {
             reply.zeros(128);
         } else if is_plus {
-            entry(number, &shape, &volume.clocks, &mut reply);
+            entry(id, &shape, &volume.clocks, &mut reply);
         }
         reply.long(number.into()).long(at).word(text.len() as u32).word(type_bits(&shape) >> 12).bytes(&text);
         reply.zeros((8 - text.len() % 8) % 8);
@@ -391,10 +421,10 @@ mod tests {
         volume.close().unwrap();
         let handle = volume.open_list(1).unwrap();
         assert_eq!(offsets(&mut volume, handle, 0), Ok(vec![1, 2, 3, 4, 5]));
-        volume.desk().lost = files[0];
+        volume.desk().lost = number_of(files[0]);
         volume.begin_request();
         assert_eq!(offsets(&mut volume, handle, 0), Ok(vec![1, 2, 4, 5]));
-        volume.desk().silent_of = files[1];
+        volume.desk().silent_of = number_of(files[1]);
         volume.begin_request();
         assert_eq!(offsets(&mut volume, handle, 0), Ok(vec![1, 2]));
         assert_eq!(offsets(&mut volume, handle, 2), Err(Errno::EIO));

@@ -1,39 +1,25 @@
 //! The calls of a file system over a session: what the desk has no entry for is done here, as far as one mount can.
 
-use crate::attributes::{now, Clocks, Shape, Times};
+use crate::attributes::{Clocks, Shape};
 use crate::handles::{Handles, Leftover};
-use crate::links::{link_bytes, target_of, LENGTH};
+use crate::links::{target_of, LENGTH};
+use crate::nodes::{Nodes, ROOT};
 use kfs_client::client::Access;
 use kfs_client::desk::Blocks;
-use kfs_client::{Desk, Failure, HandInFault, Header, Kind, Name, Session};
+use kfs_client::{Desk, Failure, Fault, HandInFault, Header, Name, Reason, Session};
 use nix::errno::Errno;
 use std::collections::HashMap;
-use std::time::Duration;
 
-/// The bits of a mode that a log can say, and the two that it can't.
-const MODE: u32 = 0o1777;
-const SET_USER: u32 = 0o4000;
-/// The bits by which the owner may read and write.
-const OWNERS: u16 = 0o600;
-/// The mode that a link is shown with, and that of its file.
+/// The mode that a link is shown with.
 const LINK_MODE: u16 = 0o777;
-const LINK_FILE_MODE: u16 = 0o755;
-/// How a file is opened (`O_ACCMODE`, `O_WRONLY`, `O_RDWR`, `O_TRUNC`).
+/// How a file is opened (`O_ACCMODE`, `O_WRONLY`, `O_RDWR`, `O_TRUNC`, `O_APPEND`).
 const ACCESS: u32 = 0o3;
-const WRITE_ONLY: u32 = 0o1;
+pub(crate) const WRITE_ONLY: u32 = 0o1;
 const READ_AND_WRITE: u32 = 0o2;
 const TRUNCATE: u32 = 0o1000;
-
-/// What is to be changed of a node's header.
-#[derive(Clone, Copy, Debug, Default)]
-pub struct Attributes {
-    pub mode: Option<u32>,
-    pub uid: Option<u32>,
-    pub gid: Option<u32>,
-    pub size: Option<u64>,
-    pub read: Option<Duration>,
-    pub written: Option<Duration>,
-}
+const APPEND: u32 = 0o2000;
+/// How often a name is looked up that led to a node which went meanwhile.
+const LOOKS: u32 = 4;
 
 /// What the kernel has of a file's bytes.
 #[derive(Clone, Copy, Debug, PartialEq, Eq)]
@@ -44,16 +30,38 @@ enum Kept {
     Mixed,
 }
 
-/// A tree that is mounted.
+/// How a file is opened.
+#[derive(Clone, Copy, Debug, PartialEq, Eq)]
+pub struct Opened {
+    /// The kernel may keep the bytes that it has of it: a lease has kept others from changing it since it was opened before.
+    pub keeps: bool,
+    /// The kernel asks for each read and write: where the end of the file is, at which bytes are put, it doesn't know.
+    pub is_direct: bool,
+    /// The kernel has another size of it.
+    pub is_resized: bool,
+}
+
+/// What has been written.
+#[derive(Clone, Copy, Debug, PartialEq, Eq)]
+pub struct Written {
+    pub count: usize,
+    /// The bytes stand elsewhere than the kernel takes them to.
+    pub is_elsewhere: bool,
+}
+
+/// A tree that is mounted. Nodes are told by their ids.
 #[derive(Debug)]
 pub struct Volume<D> {
-    session: Session<D>,
+    pub(crate) session: Session<D>,
     pub clocks: Clocks,
     pub handles: Handles,
+    pub(crate) nodes: Nodes,
+    /// Directories that were removed here and that the kernel has still: they have no names.
+    pub(crate) removed: HashMap<u64, Shape>,
     /// What the next who asks that all is kept is told: calls were lost since, and nobody was told.
     owed: Option<Errno>,
     /// What the kernel has of the bytes of each file.
-    kept: HashMap<u32, Kept>,
+    kept: HashMap<u64, Kept>,
 }
 
 /// Tells people on standard error why a log isn't kept. Returns whether calls are lost.
@@ -72,10 +80,29 @@ fn writes(flags: u32) -> bool {
     matches!(flags & ACCESS, WRITE_ONLY | READ_AND_WRITE)
 }
 
+/// Whether who opens a file so puts bytes behind its last one.
+pub fn appends(flags: u32) -> bool {
+    flags & APPEND != 0 && writes(flags)
+}
+
+/// Whether a node isn't there any more.
+pub(crate) fn is_gone(failure: &Failure) -> bool {
+    let entry = matches!(failure, Failure::Entry { fault: Fault::Refused(Reason::NoSuchNode), .. });
+    entry || matches!(failure, Failure::Missing(Reason::NoSuchNode))
+}
+
 impl<D: Desk> Volume<D> {
     /// A volume over a session.
     pub fn new(session: Session<D>) -> Volume<D> {
-        Volume { session, clocks: Clocks::default(), handles: Handles::default(), owed: None, kept: HashMap::new() }
+        Volume {
+            session,
+            clocks: Clocks::default(),
+            handles: Handles::default(),
+            nodes: Nodes::default(),
+            removed: HashMap::new(),
+            owed: None,
+            kept: HashMap::new(),
+        }
     }
 
     /// The server, for tests.
@@ -92,19 +119,29 @@ impl<D: Desk> Volume<D> {
     }
 
     /// The number that POSIX has for a failure. Whoever made the calls that are lost by it may be another than who is told of it
-    /// now: so the next who asks that all is kept is told, too.
-    fn told(&mut self, failure: &Failure) -> Errno {
+    /// now: so the next who asks that all is kept is told, too. By `ESTALE` the kernel looks the names anew that led to the node.
+    pub(crate) fn told(&mut self, failure: &Failure) -> Errno {
         match failure {
             Failure::HandIn(fault) if tell(fault) => self.owed = Some(failure.errno()),
             Failure::Lease(..) => eprintln!("kfs-mount: a lease isn't to be had: {failure}"),
             _ => {}
         }
-        failure.errno()
+        if is_gone(failure) {
+            Errno::ESTALE
+        } else {
+            failure.errno()
+        }
     }
 
     /// The next request begins.
     pub fn begin_request(&mut self) {
         self.session.begin_together();
+    }
+
+    /// The kernel has forgotten a node.
+    pub fn forget(&mut self, id: u64) {
+        self.removed.remove(&id);
+        self.kept.remove(&id);
     }
 
     /// Hands all in, and gives all leases up.
@@ -127,17 +164,66 @@ impl<D: Desk> Volume<D> {
         Ok(blocks.unwrap_or(Blocks { all: 65_536, free: 65_536 }))
     }
 
+    // ---- Which node is meant
+
+    /// The number of a node that a call changes. Where others may give it to a later node, that one isn't changed.
+    pub(crate) fn meant(&mut self, id: u64) -> Result<u32, Errno> {
+        if self.removed.contains_key(&id) {
+            return Err(Errno::ENOENT);
+        }
+        let number = self.nodes.number(id)?;
+        if let Some(born) = self.nodes.born(number) {
+            self.session.mean(number, born);
+        }
+        Ok(number)
+    }
+
+    /// The id of a node that was shown.
+    pub(crate) fn identify(&mut self, number: u32) -> u64 {
+        // Of what the log has made the server knows nothing yet.
+        if !self.session.draft().has_changed(number) {
+            let born = self.session.stamp(number).map_or(0, |stamp| stamp.born);
+            if born != 0 && self.nodes.tell_born(number, born) {
+                self.clocks.forget(number);
+            }
+        }
+        self.nodes.id(number)
+    }
+
+    /// What was shown of a node's number was shown of this node: it has the number still, by what the server told last.
+    fn confirm(&mut self, id: u64, number: u32) -> Result<(), Errno> {
+        if self.identify(number) == id {
+            Ok(())
+        } else {
+            Err(Errno::ESTALE)
+        }
+    }
+
+    /// The same, where names were shown, and the server wasn't asked for the directory behind them.
+    fn confirm_directory(&mut self, id: u64, number: u32) -> Result<(), Errno> {
+        let is_others = !self.session.draft().client().is_granted(number) && id != ROOT;
+        if is_others && self.session.stamp(number).is_some() && self.since(number)?.is_none() {
+            self.session.header_of_now(number).map_err(|failure| self.told(&failure))?;
+        }
+        self.confirm(id, number)
+    }
+
+    fn since(&mut self, number: u32) -> Result<Option<u64>, Errno> {
+        self.session.held_since(number).map_err(|failure| self.told(&failure))
+    }
+
     // ---- Reads
 
     /// A node as it is shown: a link with its target's length, a file with the mode that it gets later, and without a hidden
     /// name.
-    fn shown(&mut self, number: u32, header: Header) -> Result<Shape, Errno> {
-        let links = header.links - u16::from(self.handles.is_hidden(number));
+    fn shown(&mut self, id: u64, number: u32, header: Header) -> Result<Shape, Errno> {
+        let links = header.links - u16::from(self.handles.is_hidden(id));
         if let Some(target) = self.target(number, &header)? {
             let header = Header { mode: LINK_MODE, size: target.len() as u64, links, ..header };
             return Ok(Shape { header, is_link: true });
         }
-        let mode = self.handles.late_mode(number).unwrap_or(header.mode);
+        self.nodes.tell_size(number, header.size);
+        let mode = self.handles.late_mode(id).unwrap_or(header.mode);
         Ok(Shape { header: Header { mode, links, ..header }, is_link: false })
     }
 
@@ -150,31 +236,68 @@ impl<D: Desk> Volume<D> {
             Ok(bytes) => Ok(target_of(&bytes)),
             Err(failure) => match self.told(&failure) {
                 // It may be a link to those who can read it, and it isn't there any more.
-                Errno::EACCES | Errno::ENOENT => Ok(None),
+                Errno::EACCES | Errno::ESTALE => Ok(None),
                 errno => Err(errno),
             },
         }
     }
 
-    pub fn shape(&mut self, number: u32) -> Result<Shape, Errno> {
+    /// A node, as the kernel is told of it.
+    pub fn shape(&mut self, id: u64) -> Result<Shape, Errno> {
+        if let Some(shape) = self.removed.get(&id) {
+            return Ok(*shape);
+        }
+        let number = self.nodes.number(id)?;
         let header = self.session.header(number).map_err(|failure| self.told(&failure))?;
-        self.shown(number, header)
+        self.confirm(id, number)?;
+        self.shown(id, number, header)
     }
 
-    pub fn lookup(&mut self, directory: u32, name: &[u8]) -> Result<(u32, Shape), Errno> {
-        let name = named(name)?;
-        let (number, header) = self.session.lookup(directory, &name).map_err(|failure| self.told(&failure))?;
-        Ok((number, self.shown(number, header)?))
+    /// The node that has a number now.
+    pub fn shape_of(&mut self, number: u32) -> Result<(u64, Shape), Errno> {
+        let header = self.session.header(number).map_err(|failure| self.told(&failure))?;
+        let id = self.identify(number);
+        Ok((id, self.shown(id, number, header)?))
     }
 
-    pub fn read_link(&mut self, number: u32) -> Result<Vec<u8>, Errno> {
+    pub fn lookup(&mut self, directory: u64, name: &[u8]) -> Result<(u64, Shape), Errno> {
+        if self.removed.contains_key(&directory) {
+            return Err(Errno::ENOENT);
+        }
+        let at = self.nodes.number(directory)?;
+        let (number, header) = self.find(at, &named(name)?).map_err(|failure| self.told(&failure))?;
+        self.confirm_directory(directory, at)?;
+        let id = self.identify(number);
+        Ok((id, self.shown(id, number, header)?))
+    }
+
+    /// Where a name leads. A node that went meanwhile may have made room for another one of the name.
+    pub(crate) fn find(&mut self, directory: u32, name: &Name) -> Result<(u32, Header), Failure> {
+        for _ in 1..LOOKS {
+            match self.session.lookup(directory, name) {
+                Err(failure) if is_gone(&failure) => drop(self.session.header_of_now(directory)?),
+                found => return found,
+            }
+        }
+        self.session.lookup(directory, name)
+    }
+
+    pub fn read_link(&mut self, id: u64) -> Result<Vec<u8>, Errno> {
+        let number = self.nodes.number(id)?;
         let header = self.session.header(number).map_err(|failure| self.told(&failure))?;
-        self.target(number, &header)?.ok_or(Errno::EINVAL)
+        let target = self.target(number, &header)?;
+        self.confirm(id, number)?;
+        target.ok_or(Errno::EINVAL)
     }
 
     /// All names of a directory, as a list that stays while it is read.
-    pub fn open_list(&mut self, directory: u32) -> Result<u64, Errno> {
-        let names = self.session.list(directory, None, usize::MAX).map_err(|failure| self.told(&failure))?;
+    pub fn open_list(&mut self, id: u64) -> Result<u64, Errno> {
+        if self.removed.contains_key(&id) {
+            return Ok(self.handles.open_list(Vec::new()));
+        }
+        let number = self.nodes.number(id)?;
+        let names = self.session.list(number, None, usize::MAX).map_err(|failure| self.told(&failure))?;
+        self.confirm_directory(id, number)?;
         Ok(self.handles.open_list(names))
     }
 
@@ -183,20 +306,23 @@ impl<D: Desk> Volume<D> {
         self.session.headers_ahead(numbers);
     }
 
+    /// The number of the directory above.
     pub fn parent(&self, directory: u32) -> u32 {
         self.session.draft().paths().parent(directory).unwrap_or(directory)
     }
 
-    pub fn read(&mut self, number: u32, start: u64, most: usize) -> Result<Vec<u8>, Errno> {
+    pub fn read(&mut self, id: u64, start: u64, most: usize) -> Result<Vec<u8>, Errno> {
+        let number = self.nodes.number(id)?;
         let bytes = self.session.read(number, start, most).map_err(|failure| self.told(&failure))?;
-        self.note_kept(number)?;
+        self.confirm(id, number)?;
+        self.note_kept(id, number)?;
         Ok(bytes)
     }
 
     /// The kernel gets more bytes of a file, which it reads or writes.
-    fn note_kept(&mut self, number: u32) -> Result<(), Errno> {
-        let since = self.session.held_since(number).map_err(|failure| self.told(&failure))?;
-        let kept = self.kept.entry(number).or_insert(Kept::Mixed);
+    fn note_kept(&mut self, id: u64, number: u32) -> Result<(), Errno> {
+        let since = self.since(number)?;
+        let kept = self.kept.entry(id).or_insert(Kept::Mixed);
         *kept = match *kept {
             // The kernel had none of them.
             Kept::Since(None) if since.is_some() => Kept::Since(since),
@@ -206,209 +332,108 @@ impl<D: Desk> Volume<D> {
         Ok(())
     }
 
-    pub fn access(&mut self, number: u32, mask: u32) -> Result<(), Errno> {
+    pub fn access(&mut self, id: u64, mask: u32) -> Result<(), Errno> {
+        if self.removed.contains_key(&id) {
+            return Ok(());
+        }
+        let number = self.nodes.number(id)?;
         for access in [Access::Read, Access::Write, Access::Search] {
             if mask & access as u32 != 0 {
                 self.session.access(number, access).map_err(|failure| self.told(&failure))?;
             }
         }
-        self.shape(number).map(|_| ())
+        self.session.header(number).map_err(|failure| self.told(&failure))?;
+        self.confirm(id, number)
     }
 
     // ---- Files that are open
 
-    /// Opens a file. Returns whether the kernel may keep the bytes that it has of it: a lease has kept others from changing it
-    /// since it was opened before.
-    pub fn open(&mut self, number: u32, flags: u32) -> Result<bool, Errno> {
+    /// Opens a file, as it is now.
+    pub fn open(&mut self, id: u64, flags: u32) -> Result<Opened, Errno> {
+        let number = self.meant(id)?;
         // Whether it may be read the kernel has asked. Who writes is told now, and not when the log is handed in.
         let is_new = self.session.draft().has_created(number);
         if !is_new && writes(flags) {
-            self.access(number, Access::Write as u32)?;
+            self.access(id, Access::Write as u32)?;
         }
         if flags & TRUNCATE != 0 {
             self.truncate(number, 0)?;
         }
-        self.handles.open(number);
-        let since = self.session.held_since(number).map_err(|failure| self.told(&failure))?;
-        let keeps = since.is_some() && self.kept.get(&number) == Some(&Kept::Since(since));
+        let header = self.session.header_of_now(number).map_err(|failure| self.told(&failure))?;
+        self.confirm(id, number)?;
+        self.handles.open(id);
+        let since = self.since(number)?;
+        let keeps = since.is_some() && self.kept.get(&id) == Some(&Kept::Since(since));
         if !keeps {
-            self.kept.insert(number, Kept::Since(since));
+            self.kept.insert(id, Kept::Since(since));
         }
         if flags & ACCESS != WRITE_ONLY {
             self.session.bytes_ahead(number);
         }
-        Ok(keeps)
+        let is_direct = appends(flags);
+        Ok(Opened { keeps: keeps && !is_direct, is_direct, is_resized: self.nodes.has_other_size(number, header.size) })
     }
 
-    pub fn create(&mut self, directory: u32, name: &[u8], mode: u32) -> Result<(u32, Shape), Errno> {
-        let mode = (mode & MODE) as u16;
-        // A log writes what it has created, whatever its mode. A later one needs the bits, and so do look-ups.
-        let late_mode = Some(mode).filter(|mode| mode & OWNERS != OWNERS);
-        let given = if late_mode.is_some() { mode | OWNERS } else { mode };
-        let (number, _) = self.make(directory, name, Kind::File, given)?;
-        self.handles.open(number);
-        self.handles.set_late_mode(number, late_mode);
-        Ok((number, self.shape(number)?))
-    }
-
-    pub fn close_file(&mut self, number: u32) -> Result<(), Errno> {
-        let Leftover { late_mode, hidden } = self.handles.close(number);
+    pub fn close_file(&mut self, id: u64) -> Result<(), Errno> {
+        let Leftover { late_mode, hidden } = self.handles.close(id);
         if let Some((directory, name)) = hidden {
-            return self.session.unlink(directory, &name, Kind::File).map_err(|failure| self.told(&failure));
+            return self.remove_hidden(directory, &name);
         }
-        match late_mode {
-            Some(mode) => self.session.change_mode(number, mode).map_err(|failure| self.told(&failure)),
-            None => Ok(()),
+        match (late_mode, self.meant(id)) {
+            (Some(mode), Ok(number)) => self.session.change_mode(number, mode).map_err(|failure| self.told(&failure)),
+            _ => Ok(()),
         }
     }
 
-    // ---- Changes
-
-    /// Makes a file or a directory.
-    pub fn make(&mut self, directory: u32, name: &[u8], kind: Kind, mode: u16) -> Result<(u32, Shape), Errno> {
-        let name = named(name)?;
-        let number = self.session.create(directory, &name, kind, mode).map_err(|failure| self.told(&failure))?;
-        self.clocks.create(number);
-        self.clocks.write(directory);
-        Ok((number, self.shape(number)?))
-    }
-
-    pub fn make_directory(&mut self, directory: u32, name: &[u8], mode: u32) -> Result<(u32, Shape), Errno> {
-        self.make(directory, name, Kind::Directory, (mode & MODE) as u16)
-    }
-
-    /// Makes a link: a file that others can't write.
-    pub fn make_link(&mut self, directory: u32, name: &[u8], target: &[u8]) -> Result<(u32, Shape), Errno> {
-        let bytes = link_bytes(target).ok_or(Errno::ENAMETOOLONG)?;
-        let (number, _) = self.make(directory, name, Kind::File, LINK_FILE_MODE)?;
-        self.session.write(number, 0, &bytes).map_err(|failure| self.told(&failure))?;
-        Ok((number, self.shape(number)?))
-    }
-
-    pub fn write(&mut self, number: u32, offset: u64, bytes: &[u8]) -> Result<usize, Errno> {
-        let count = self.session.write(number, offset, bytes).map_err(|failure| self.told(&failure))?;
-        self.note_kept(number)?;
-        self.clocks.write(number);
-        Ok(count)
-    }
-
-    fn truncate(&mut self, number: u32, size: u64) -> Result<(), Errno> {
-        self.session.truncate(number, size).map_err(|failure| self.told(&failure))?;
-        self.clocks.write(number);
-        Ok(())
-    }
-
-    /// Changes a header. An owner can't be changed, and a file never runs as its owner.
-    pub fn set_attributes(&mut self, number: u32, wanted: &Attributes) -> Result<Shape, Errno> {
-        let Shape { header, is_link } = self.shape(number)?;
-        if is_link && (wanted.mode.is_some() || wanted.size.is_some()) {
-            return Err(Errno::EOPNOTSUPP);
-        }
-        if matches!(wanted.uid, Some(uid) if uid != header.uid) || matches!(wanted.mode, Some(mode) if mode & SET_USER != 0) {
-            return Err(Errno::EPERM);
-        }
-        if let Some(mode) = wanted.mode {
-            self.change_mode(number, (mode & MODE) as u16)?;
-        }
-        if let Some(gid) = wanted.gid.filter(|gid| *gid != header.gid) {
-            self.session.change_group(number, gid).map_err(|failure| self.told(&failure))?;
-            self.clocks.change(number);
-        }
-        if let Some(size) = wanted.size {
-            self.truncate(number, size)?;
-        }
-        if wanted.read.is_some() || wanted.written.is_some() {
-            let times = self.clocks.of(number);
-            let (read, written) = (wanted.read.unwrap_or(times.read), wanted.written.unwrap_or(times.written));
-            self.clocks.set(number, Times { read, written, changed: now() });
-        }
-        self.shape(number)
-    }
-
-    /// Changes a mode; of a file that is open with the last close, where the owner couldn't read or write it then.
-    fn change_mode(&mut self, number: u32, mode: u16) -> Result<(), Errno> {
-        let late_mode = Some(mode).filter(|mode| self.handles.is_open(number) && mode & OWNERS != OWNERS);
-        let given = if late_mode.is_some() { mode | OWNERS } else { mode };
-        self.session.change_mode(number, given).map_err(|failure| self.told(&failure))?;
-        self.handles.set_late_mode(number, late_mode);
-        self.clocks.change(number);
-        Ok(())
-    }
-
-    pub fn link(&mut self, number: u32, directory: u32, name: &[u8]) -> Result<Shape, Errno> {
-        self.session.link(number, directory, &named(name)?).map_err(|failure| self.told(&failure))?;
-        self.clocks.write(directory);
-        self.clocks.change(number);
-        self.shape(number)
-    }
-
-    pub fn unlink(&mut self, directory: u32, name: &[u8], kind: Kind) -> Result<(), Errno> {
-        let name = named(name)?;
-        let (number, header) = self.session.lookup(directory, &name).map_err(|failure| self.told(&failure))?;
-        if kind == Kind::File && self.is_to_hide(number, &header)? {
-            self.hide(number, directory, &name)?;
-        } else {
-            self.session.unlink(directory, &name, kind).map_err(|failure| self.told(&failure))?;
-        }
-        self.clocks.write(directory);
-        self.clocks.change(number);
-        Ok(())
-    }
-
-    /// Whether a file that loses this name is open, and has no other by now.
-    fn is_to_hide(&mut self, number: u32, header: &Header) -> Result<bool, Errno> {
-        if header.is_directory() || !self.handles.is_open(number) {
-            return Ok(false);
-        }
-        let header = self.session.header_of_now(number).map_err(|failure| self.told(&failure))?;
-        Ok(header.links == 1)
-    }
-
-    /// Gives an open file a name that goes with its last close.
-    fn hide(&mut self, number: u32, directory: u32, name: &Name) -> Result<(), Errno> {
-        let hidden = named(self.handles.hidden_name(number).as_bytes())?;
-        self.session.rename(directory, name, directory, &hidden).map_err(|failure| self.told(&failure))?;
-        self.handles.hide(number, directory, hidden);
-        Ok(())
-    }
-
-    /// Renames. Where nothing may be replaced, what has the new name stays.
-    pub fn rename(&mut self, from: u32, name: &[u8], to: u32, new_name: &[u8], replaces: bool) -> Result<(), Errno> {
-        let (name, new_name) = (named(name)?, named(new_name)?);
-        let (moved, header) = self.session.lookup(from, &name).map_err(|failure| self.told(&failure))?;
-        let there = match self.session.lookup(to, &new_name) {
-            Ok(there) => Some(there),
-            Err(failure) if failure.errno() == Errno::ENOENT => None,
-            Err(failure) => return Err(self.told(&failure)),
+    /// Writes bytes at an offset, or behind the last byte of the file.
+    pub fn write(&mut self, id: u64, offset: u64, bytes: &[u8], flags: u32) -> Result<Written, Errno> {
+        let number = self.meant(id)?;
+        let written = match flags & APPEND {
+            0 => self.session.write(number, offset, bytes).map(|count| (offset, count)),
+            _ => self.session.append(number, bytes),
         };
-        match there {
-            Some(_) if !replaces => return Err(Errno::EEXIST),
-            Some((number, other)) if number != moved && !header.is_directory() && self.is_to_hide(number, &other)? => {
-                self.hide(number, to, &new_name)?;
-            }
-            _ => {}
+        let (at, count) = written.map_err(|failure| self.told(&failure))?;
+        self.note_kept(id, number)?;
+        self.clocks.write(number);
+        let is_elsewhere = at != offset;
+        if is_elsewhere {
+            // What the kernel keeps of the file it may have put at another place.
+            self.nodes.forget_size(number);
+            self.kept.insert(id, Kept::Mixed);
+        } else {
+            self.nodes.grow(number, at.saturating_add(count as u64));
         }
-        self.session.rename(from, &name, to, &new_name).map_err(|failure| self.told(&failure))?;
-        [from, to].into_iter().for_each(|directory| self.clocks.write(directory));
-        self.clocks.change(moved);
+        Ok(Written { count, is_elsewhere })
+    }
+
+    pub(crate) fn truncate(&mut self, number: u32, size: u64) -> Result<(), Errno> {
+        self.session.truncate(number, size).map_err(|failure| self.told(&failure))?;
+        self.nodes.forget_size(number);
+        self.clocks.write(number);
         Ok(())
     }
 }
 
-fn named(bytes: &[u8]) -> Result<Name, Errno> {
+pub(crate) fn named(bytes: &[u8]) -> Result<Name, Errno> {
     Name::new(bytes).map_err(|fault| Failure::from(fault).errno())
 }
 
 #[cfg(test)]
 mod tests {
     use super::*;
+    use crate::changes::Attributes;
     use kfs_client::desk::{Answer, LeaseRefusal, Unanswered, Wanted, Wish};
     use kfs_client::log::ENTRY_LIMIT;
     use kfs_client::memory::Memory;
-    use kfs_client::{Client, Options, Reason, Shown, Unshown};
+    use kfs_client::{Client, Kind, Options, Shown, Unshown};
 
     fn client() -> Client {
         Client { number: 7, uid: 1000, gid: 1000, groups: vec![], is_privileged: false, grant: [2, 99] }
+    }
+
+    /// Whether the kernel keeps bytes when it opens a file.
+    fn keeps<D: Desk>(volume: &mut Volume<D>, file: u64, flags: u32) -> Result<bool, Errno> {
+        volume.open(file, flags).map(|opened| opened.keeps)
     }
 
     fn volume() -> Volume<Memory> {
@@ -469,7 +494,7 @@ mod tests {
         let (file, _) = volume.create(1, b"a", 0o644).unwrap();
         volume.sync().unwrap();
         for at in 0..ENTRY_LIMIT as u64 {
-            volume.write(file, 3 * at, b"x").unwrap();
+            volume.write(file, 3 * at, b"x", 0).unwrap();
         }
         // The log is full. What is lost by it was another's call, maybe.
         let chmod = Attributes { mode: Some(0o600), ..Attributes::default() };
@@ -483,14 +508,14 @@ mod tests {
     fn a_file_that_is_open_outlives_its_name() {
         let mut volume = volume();
         let (file, _) = volume.create(1, b"a", 0o644).unwrap();
-        volume.write(file, 0, b"abc").unwrap();
+        volume.write(file, 0, b"abc", 0).unwrap();
         volume.unlink(1, b"a", Kind::File).unwrap();
         assert_eq!(volume.lookup(1, b"a"), Err(Errno::ENOENT));
         volume.sync().unwrap();
         assert_eq!(volume.read(file, 0, 9).unwrap(), b"abc");
         assert_eq!(volume.shape(file).unwrap().header.links, 0);
         volume.close_file(file).unwrap();
-        assert_eq!(volume.shape(file), Err(Errno::ENOENT));
+        assert_eq!(volume.shape(file), Err(Errno::ESTALE));
     }
 
     #[test]
@@ -501,10 +526,10 @@ mod tests {
         assert_eq!(volume.rename(1, b"b", 1, b"a", false), Err(Errno::EEXIST));
         volume.rename(1, b"b", 1, b"a", true).unwrap();
         assert_eq!(volume.lookup(1, b"a").unwrap().0, new);
-        volume.write(old, 0, b"old").unwrap();
+        volume.write(old, 0, b"old", 0).unwrap();
         volume.close_file(old).unwrap();
         volume.sync().unwrap();
-        assert_eq!(volume.shape(old), Err(Errno::ENOENT));
+        assert_eq!(volume.shape(old), Err(Errno::ESTALE));
     }
 
     #[test]
@@ -513,21 +538,21 @@ mod tests {
         let (file, _) = volume.create(1, b"a", 0o644).unwrap();
         volume.close_file(file).unwrap();
         volume.sync().unwrap();
-        assert_eq!(volume.open(file, 0), Ok(false));
+        assert_eq!(keeps(&mut volume, file, 0), Ok(false));
         (0..3).for_each(|_| assert!(volume.read(file, 0, 9).unwrap().is_empty()));
         // The lease came meanwhile, so bytes from before it may be there.
-        assert_eq!(volume.open(file, 0), Ok(false));
-        assert_eq!(volume.open(file, 0), Ok(true));
-        volume.session.give_up(file).unwrap();
-        assert_eq!(volume.open(file, 0), Ok(false));
+        assert_eq!(keeps(&mut volume, file, 0), Ok(false));
+        assert_eq!(keeps(&mut volume, file, 0), Ok(true));
+        volume.session.give_up(file as u32).unwrap();
+        assert_eq!(keeps(&mut volume, file, 0), Ok(false));
         assert!(volume.read(file, 0, 9).unwrap().is_empty());
-        assert_eq!(volume.open(file, 0), Ok(false));
+        assert_eq!(keeps(&mut volume, file, 0), Ok(false));
         // A long read takes one at once.
         let (file, _) = volume.make(1, b"b", Kind::File, 0o644).unwrap();
         volume.sync().unwrap();
-        assert_eq!(volume.open(file, 0), Ok(false));
+        assert_eq!(keeps(&mut volume, file, 0), Ok(false));
         assert!(volume.read(file, 0, 65_536).unwrap().is_empty());
-        assert_eq!(volume.open(file, 0), Ok(true));
+        assert_eq!(keeps(&mut volume, file, 0), Ok(true));
     }
 
     #[test]
@@ -536,17 +561,17 @@ mod tests {
         let (file, _) = volume.create(1, b"a", 0o644).unwrap();
         volume.close_file(file).unwrap();
         volume.sync().unwrap();
-        assert_eq!(volume.open(file, WRITE_ONLY), Ok(false));
-        volume.write(file, 0, b"abc").unwrap();
+        assert_eq!(keeps(&mut volume, file, WRITE_ONLY), Ok(false));
+        volume.write(file, 0, b"abc", 0).unwrap();
         // The kernel has what it wrote, and a lease has kept others from changing it.
-        assert_eq!(volume.open(file, 0), Ok(true));
-        volume.session.give_up(file).unwrap();
-        assert_eq!(volume.open(file, WRITE_ONLY), Ok(false));
-        volume.write(file, 0, b"def").unwrap();
-        volume.session.give_up(file).unwrap();
+        assert_eq!(keeps(&mut volume, file, 0), Ok(true));
+        volume.session.give_up(file as u32).unwrap();
+        assert_eq!(keeps(&mut volume, file, WRITE_ONLY), Ok(false));
+        volume.write(file, 0, b"def", 0).unwrap();
+        volume.session.give_up(file as u32).unwrap();
         // Another client may change them now. What is read is told under a new lease, and isn't all that the kernel has.
         assert_eq!(volume.read(file, 0, 65_536).unwrap(), b"def");
-        assert_eq!(volume.open(file, 0), Ok(false));
+        assert_eq!(keeps(&mut volume, file, 0), Ok(false));
     }
 
     #[test]
@@ -555,11 +580,11 @@ mod tests {
         let (file, shape) = volume.create(1, b"a", 0o444).unwrap();
         assert_eq!(shape.header.mode, 0o444);
         volume.sync().unwrap();
-        volume.write(file, 0, b"abc").unwrap();
+        volume.write(file, 0, b"abc", 0).unwrap();
         volume.close_file(file).unwrap();
         volume.sync().unwrap();
         assert_eq!(volume.shape(file).unwrap().header.mode, 0o444);
-        assert_eq!(volume.open(file, WRITE_ONLY), Err(Errno::EACCES));
+        assert_eq!(keeps(&mut volume, file, WRITE_ONLY), Err(Errno::EACCES));
     }
 
     #[test]
@@ -569,9 +594,9 @@ mod tests {
         assert_eq!((shape.is_link, shape.header.size, shape.header.mode), (true, 4, 0o777));
         volume.sync().unwrap();
         assert_eq!(volume.read_link(link).unwrap(), b"../a");
-        assert_eq!(volume.session.header(link).unwrap().size, LENGTH);
+        assert_eq!(volume.session.header(link as u32).unwrap().size, LENGTH);
         let (file, _) = volume.create(1, b"a", 0o644).unwrap();
-        volume.write(file, 0, &[b' '; LENGTH as usize]).unwrap();
+        volume.write(file, 0, &[b' '; LENGTH as usize], 0).unwrap();
         assert_eq!(volume.read_link(file), Err(Errno::EINVAL));
         assert_eq!(volume.make_link(1, b"m", &[b'x'; 1025]).unwrap_err(), Errno::ENAMETOOLONG);
     }
