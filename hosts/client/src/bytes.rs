@@ -132,6 +132,28 @@ impl FileBytes {
         self.made.iter().map(|(start, made)| (*start..made.end, made.origin))
     }
 
+    /// How many blocks of so many bytes the log writes: those with a byte of a payload, and those that it makes zero in part.
+    pub fn written_blocks(&self, length: u64) -> u64 {
+        let (mut count, mut next) = (0, 0);
+        for (range, origin) in self.made() {
+            let (first, last) = (range.start / length, (range.end - 1) / length);
+            let is_cut = range.end % length != 0 && range.end != self.size;
+            let (first, last) = match origin {
+                Origin::Payload { .. } => (first, last + 1),
+                // A block that is zero as a whole isn't written.
+                Origin::Zero if range.start % length == 0 || first < next => (last, last + u64::from(is_cut)),
+                Origin::Zero => {
+                    count += 1;
+                    next = first + 1;
+                    (last, last + u64::from(is_cut))
+                }
+            };
+            count += last.saturating_sub(first.max(next));
+            next = next.max(last);
+        }
+        count
+    }
+
     /// The parts that make up these bytes, ascending, as far as the file goes.
     pub fn parts(&self, range: Range<u64>) -> Vec<Part> {
         let end = range.end.min(self.size);

@@ -716,7 +716,6 @@ impl Desk for Connection {
         Ok(self.clock.map_or(0, |clock| clock.moment + clock.asked_at.elapsed().as_secs() + 1))
     }
 
-    /// Those of the first tier. Logs are written there alone.
     fn blocks(&mut self) -> Result<Option<Blocks>, Unanswered> {
         let found = match self.look_up(&[PLACES]) {
             Ok(found) => found.unwrap_or_default(),
@@ -724,6 +723,10 @@ impl Desk for Connection {
             Err(fault) => return Err(fault.into()),
         };
         found_places(&found).map(Some).ok_or_else(|| nonsense(&[PLACES]).into())
+    }
+
+    fn is_ending(&self) -> bool {
+        self.ending.has_begun()
     }
 
     fn longest_term(&self) -> u64 {

@@ -171,13 +171,22 @@ pub enum Wish {
     Path(Vec<u8>),
 }
 
-/// How many blocks of 4,096 bytes there are where logs are written to.
+/// How many blocks of 4,096 bytes there are.
 #[derive(Clone, Copy, Debug, PartialEq, Eq)]
 pub struct Blocks {
-    /// All of them.
+    /// All of them where logs are written to.
     pub all: u32,
-    /// Those that are free.
+    /// Those of them that are free.
     pub free: u32,
+    /// All of the slower tiers, to which the server moves some.
+    pub slower_all: u32,
+    /// Those of them that are free.
+    pub slower_free: u32,
+}
+
+impl Blocks {
+    /// How many bytes a block has.
+    pub const LENGTH: u64 = 4096;
 }
 
 /// A desk, as one client comes to it.
@@ -207,6 +216,11 @@ pub trait Desk: Shown {
     /// How many blocks there are, where that is told.
     fn blocks(&mut self) -> Result<Option<Blocks>, Unanswered> {
         Ok(None)
+    }
+
+    /// Whether who calls is about to end: then nothing is waited for that others have to do.
+    fn is_ending(&self) -> bool {
+        false
     }
 
     /// For how many moments a lease may live at most.

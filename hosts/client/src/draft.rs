@@ -3,9 +3,11 @@
 use crate::bytes::{FileBytes, Origin, Part};
 use crate::change::Change;
 use crate::client::Client;
+use crate::desk::Blocks;
 use crate::entry::{Entry, Kind, GREATEST_MODE, PAYLOAD_LIMIT};
 use crate::fault::Fault;
 use crate::judge::{Effect, Found, Held, Judge};
+use crate::leases::Leases;
 use crate::log::Log;
 use crate::name::Name;
 use crate::node::Header;
@@ -37,8 +39,8 @@ pub struct Draft {
     next: u32,
     /// Numbers that were found to be free. Nobody else gives them to a node.
     free: BTreeSet<u32>,
-    /// When the nodes were made that the log changes, as far as that is known.
-    meant: BTreeMap<u32, u64>,
+    /// When the nodes were made that the log changes, as far as that is known, and since when there was a lease.
+    meant: BTreeMap<u32, (u64, u64)>,
     /// The file of the last entry and the place behind its payload, where that is a Write.
     last_write: Option<(u32, u64)>,
 }
@@ -114,17 +116,23 @@ impl Draft {
     }
 
     /// Of these nodes, each with when it was made, those that the log changes are meant by their numbers.
-    pub(crate) fn mean(&mut self, some: &HashMap<u32, u64>) {
+    pub(crate) fn mean(&mut self, some: &HashMap<u32, u64>, leases: &Leases) {
         for (number, born) in some {
-            if self.needs(*number) {
-                self.meant.insert(*number, *born);
+            if let Some(since) = leases.since(*number).filter(|_| self.needs(*number)) {
+                self.meant.insert(*number, (*born, since));
             }
         }
     }
 
     /// The nodes that are meant by their numbers.
     pub(crate) fn meant(&self) -> HashMap<u32, u64> {
-        self.meant.iter().map(|(number, born)| (*number, *born)).collect()
+        self.meant_by(|_, _| true).into_iter().collect()
+    }
+
+    /// Those of them of whose numbers and leases this holds, with when they were made.
+    pub(crate) fn meant_by(&self, is_one: impl Fn(u32, u64) -> bool) -> Vec<(u32, u64)> {
+        let some = self.meant.iter().filter(|(number, (_, since))| is_one(**number, *since));
+        some.map(|(number, (born, _))| (*number, *born)).collect()
     }
 
     /// Whether this log needs a lease on a node.
@@ -450,6 +458,43 @@ impl Draft {
         if is_last {
             self.files.remove(&found.number);
         }
+    }
+
+    // ---- Room
+
+    /// How many blocks the log writes.
+    pub(crate) fn blocks(&self) -> u64 {
+        self.files.values().map(|file| file.written_blocks(Blocks::LENGTH)).sum()
+    }
+
+    /// How many it writes at most, by its length alone.
+    pub(crate) fn most_blocks(&self) -> u64 {
+        self.log.as_bytes().len() as u64 / Blocks::LENGTH + 2 * self.log.len() as u64
+    }
+
+    /// Whether an entry that takes a name of this node away, or cuts it, may be done before the log: that has changed nothing of what
+    /// the entry is about.
+    pub(crate) fn is_apart(&self, entry: &Entry, number: u32) -> bool {
+        let is_as_before = |number: &u32| !self.nodes.contains_key(number) && !self.moved.contains(number);
+        let is_other = is_as_before(&number) && !self.names.contains_key(&number);
+        match entry {
+            Entry::Truncate { .. } => is_other,
+            Entry::Unlink { directory, name, .. } => {
+                let is_named = self.names.get(directory).map_or(false, |names| names.contains_key(name));
+                is_other && !is_named && is_as_before(directory)
+            }
+            _ => false,
+        }
+    }
+
+    /// An empty log of the same client, which is handed in before this one.
+    pub(crate) fn lend(&mut self) -> Draft {
+        Draft { paths: self.paths.lend(), ..Draft::new(self.client.clone()) }
+    }
+
+    /// That log was handed in, or refused.
+    pub(crate) fn take_back(&mut self, lent: Draft) {
+        self.paths.take_back(lent.paths);
     }
 
     // ---- Whether it was done

@@ -5,6 +5,7 @@ use crate::draft::Draft;
 use crate::entry::Entry;
 use crate::failure::{Failure, HandInFault, Lost};
 use crate::fault::{Fault, Reason};
+use crate::room::Waiting;
 use crate::session::{Session, FIRST_PAUSE};
 use std::ops::RangeInclusive;
 use std::time::Instant;
@@ -29,6 +30,9 @@ impl<D: Desk> Session<D> {
             self.land();
             return Ok(());
         }
+        if let Some(fault) = self.still_lacks_room()? {
+            return Err(fault);
+        }
         let (mut times, mut before) = (0, None);
         loop {
             let said = match self.hand_in()? {
@@ -41,7 +45,10 @@ impl<D: Desk> Session<D> {
                     self.land();
                     return Ok(());
                 }
-                Answer::NoRoom { need, free } => return Err(HandInFault::NoRoom { need, free }),
+                Answer::NoRoom { need, free } => {
+                    self.note_no_room(need);
+                    return Err(HandInFault::NoRoom { need, free });
+                }
                 Answer::NoSpace => return Err(HandInFault::NoSpace),
                 Answer::Wrong(wrong) => return Err(HandInFault::Wrong(wrong)),
                 said => said,
@@ -56,18 +63,24 @@ impl<D: Desk> Session<D> {
         }
     }
 
-    /// Hands the log in as by `sync`. Where a lease that it needs isn't to be had now, this waits for it, at most for `patience`,
-    /// and gives up meanwhile what others want.
+    /// Hands the log in as by `sync`. Where a lease that it needs isn't to be had now, or blocks have to go to slower tiers before,
+    /// this waits for it, at most for `patience`, and gives up meanwhile what others want.
     pub fn sync_patiently(&mut self) -> Result<(), HandInFault> {
         let until = Instant::now() + self.options.patience;
-        let mut pause = FIRST_PAUSE;
+        let (mut pause, mut room) = (FIRST_PAUSE, Waiting::new(self.options.patience));
         loop {
-            match self.sync() {
-                Err(fault) if fault.may_pass() && !self.is_waiting && Instant::now() < until => {}
-                ended => return ended,
+            let ended = self.sync();
+            let waits = match &ended {
+                _ if self.is_waiting || self.desk.is_ending() => false,
+                Err(HandInFault::NoRoom { .. }) => self.waits_for_room(&mut room),
+                Err(fault) => fault.may_pass() && Instant::now() < until,
+                Ok(()) => false,
+            };
+            if !waits {
+                return ended;
             }
             match self.wait_a_while(&mut pause) {
-                Err(Failure::HandIn(fault)) if !fault.may_pass() => return Err(fault),
+                Err(Failure::HandIn(fault)) if !fault.may_pass() && !matches!(fault, HandInFault::NoRoom { .. }) => return Err(fault),
                 Err(Failure::Unanswered(fault)) => return Err(fault.into()),
                 // What isn't given up now ends by its end.
                 _ => {}
@@ -77,6 +90,9 @@ impl<D: Desk> Session<D> {
 
     /// Hands the log in once. A log that changes nothing needn't be.
     fn hand_in(&mut self) -> Result<Answer, Unanswered> {
+        if self.means_others()? {
+            return Ok(Answer::Entry(0, Reason::NoSuchNode));
+        }
         let plan = self.draft.plan();
         if plan.is_empty() {
             return Ok(Answer::Yes);
@@ -84,6 +100,19 @@ impl<D: Desk> Session<D> {
         let said = self.desk.submit(self.draft.log().as_bytes(), &plan.to_bytes());
         self.is_uncertain = matches!(said, Err(Unanswered::Unknown | Unanswered::Gone(_)));
         said
+    }
+
+    /// Whether a node that the log changes has gone, and another one has its number and its lease. Where a lease was held without a
+    /// gap none has.
+    fn means_others(&mut self) -> Result<bool, Unanswered> {
+        let regained = self.draft.meant_by(|number, since| self.leases.since(number).map_or(false, |now| now != since));
+        for (number, born) in regained {
+            self.desk.header(number).map_err(Unanswered::Gone)?;
+            if self.desk.stamp(number).map(|stamp| stamp.born) != Some(born) {
+                return Ok(true);
+            }
+        }
+        Ok(false)
     }
 
     /// Whether the log was done when it was last handed in. Where nobody can say, handing it in again does no harm: it changes
@@ -101,6 +130,7 @@ impl<D: Desk> Session<D> {
         self.calls.clear();
         self.began = None;
         self.is_uncertain = false;
+        self.note_room();
     }
 
     /// Makes the log anew of its entries, over the tree as it is now. Returns the calls that can't be done. No lease is waited

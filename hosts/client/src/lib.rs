@@ -33,6 +33,7 @@ pub mod paths;
 pub mod plan;
 pub mod program;
 mod replies;
+mod room;
 pub mod session;
 pub mod shown;
 mod wants;

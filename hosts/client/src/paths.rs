@@ -52,6 +52,16 @@ impl Paths {
         self.named.clear();
     }
 
+    /// What a server has shown, for another log.
+    pub(crate) fn lend(&mut self) -> Paths {
+        Paths { shown: std::mem::take(&mut self.shown), named: HashMap::new() }
+    }
+
+    /// Takes back what was lent.
+    pub(crate) fn take_back(&mut self, lent: Paths) {
+        self.shown = lent.shown;
+    }
+
     fn last(&self, number: u32) -> Option<&(u32, Name)> {
         self.named.get(&number).or_else(|| self.shown.get(&number))
     }

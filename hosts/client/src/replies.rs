@@ -254,13 +254,15 @@ pub(crate) fn found_names(bytes: &[u8]) -> Option<(Vec<(Name, u32)>, bool)> {
     (has_more == 0 || !names.is_empty()).then_some((names, has_more == 1))
 }
 
-/// How many places a tier has, and how many of them are free.
+/// How many places the tiers have, and how many of them are free.
 pub(crate) fn found_places(bytes: &[u8]) -> Option<Blocks> {
     let mut fields = Fields(bytes);
     if fields.byte()? != FOUND_PLACES {
         return None;
     }
-    Some(Blocks { all: fields.word()?, free: fields.word()? })
+    let mut tier = || Some((fields.word()?, fields.word()?));
+    let [(all, free), (second, second_free), (third, third_free)] = [tier()?, tier()?, tier()?];
+    Some(Blocks { all, free, slower_all: second.saturating_add(third), slower_free: second_free.saturating_add(third_free) })
 }
 
 /// What a look-up has found; none where there is no such node, or it is one of the other kind.

@@ -12,6 +12,7 @@ use crate::judge::Held;
 use crate::leases::Leases;
 use crate::name::Name;
 use crate::node::{Header, ROOT};
+use crate::room::Room;
 use crate::shown::{Shown, Stamp, Unshown};
 use std::collections::HashMap;
 use std::ops::RangeInclusive;
@@ -86,6 +87,7 @@ pub struct Session<D> {
     pub(crate) course: Course,
     /// When the nodes were made that calls mean by their numbers.
     pub(crate) meant: HashMap<u32, u64>,
+    pub(crate) room: Room,
 }
 
 /// The leases of a client, and which nodes it means.
@@ -125,6 +127,7 @@ impl<D: Desk> Session<D> {
             wished: HashMap::new(),
             course: Course::default(),
             meant: HashMap::new(),
+            room: Room::default(),
         }
     }
 
@@ -237,7 +240,7 @@ impl<D: Desk> Session<D> {
 
     /// Looks something up, over what the server shows. That asks the modes that are kept: where it refuses, those of the log may
     /// allow it, which is handed in for that.
-    fn look<T>(&mut self, look_up: impl Fn(&mut Draft, &mut dyn Shown) -> Result<T, Unshown>) -> Result<T, Failure> {
+    pub(crate) fn look<T>(&mut self, look_up: impl Fn(&mut Draft, &mut dyn Shown) -> Result<T, Unshown>) -> Result<T, Failure> {
         let again = |session: &mut Session<D>| {
             let Session { desk, cache, leases, draft, .. } = session;
             look_up(draft, &mut Cached { shown: desk, cache, leases })
@@ -374,7 +377,8 @@ impl<D: Desk> Session<D> {
 
     /// Gives a file another size.
     pub fn truncate(&mut self, number: u32, size: u64) -> Result<(), Failure> {
-        self.change(&Entry::Truncate { number, size })
+        self.begin_call()?;
+        self.enter_to_free(&Entry::Truncate { number, size })
     }
 
     /// Gives a file one more name.
@@ -384,7 +388,8 @@ impl<D: Desk> Session<D> {
 
     /// Takes a name away, of a file or of an empty directory.
     pub fn unlink(&mut self, directory: u32, name: &Name, kind: Kind) -> Result<(), Failure> {
-        self.change(&Entry::Unlink { directory, name: name.clone(), kind })
+        self.begin_call()?;
+        self.enter_to_free(&Entry::Unlink { directory, name: name.clone(), kind })
     }
 
     /// Gives a node another name. What had that name loses it.
@@ -419,7 +424,7 @@ impl<D: Desk> Session<D> {
     }
 
     /// Takes an entry into the log.
-    fn enter(&mut self, entry: &Entry) -> Result<(), Failure> {
+    pub(crate) fn enter(&mut self, entry: &Entry) -> Result<(), Failure> {
         self.insist(entry.number(), |session| session.try_enter(entry), |fault| Failure::of(fault, entry))?;
         self.calls.push(self.call..=self.call);
         Ok(())
@@ -459,7 +464,7 @@ impl<D: Desk> Session<D> {
         let Session { desk, cache, leases, draft, meant, .. } = self;
         let leases = &*leases;
         draft.enter(&mut Cached { shown: desk, cache, leases }, &Guard { leases, meant }, entry)?;
-        draft.mean(meant);
+        draft.mean(meant, leases);
         self.began.get_or_insert_with(Instant::now);
         Ok(())
     }
@@ -484,7 +489,7 @@ impl<D: Desk> Session<D> {
                 self.sync_patiently()?;
                 continue;
             }
-            if !refusal.may_pass() || self.is_waiting || Instant::now() >= until {
+            if !refusal.may_pass() || self.is_waiting || self.desk.is_ending() || Instant::now() >= until {
                 return Err(Failure::Lease(number, refusal));
             }
             self.wait_a_while(&mut pause)?;

@@ -140,8 +140,7 @@ fn answer_of<D: Desk>(volume: &mut Volume<D>, request: &mut Request<'_>, is_chan
         }
         Operation::StatFileSystem => volume.blocks().map(file_system_reply),
         Operation::Sync => volume.sync().map(|()| Reply::default()),
-        // A close does nothing here. The kernel tells of none any more then.
-        Operation::Flush => Err(Errno::ENOSYS),
+        Operation::Flush => volume.flush(node).map(|()| Reply::default()),
         Operation::Access => {
             let mask = request.word()?;
             volume.access(node, mask).map(|()| Reply::default())
@@ -253,7 +252,8 @@ fn open_reply(handle: u64, flags: u32) -> Reply {
 /// `fuse_kstatfs`: blocks, and nodes, of which a desk has so many at most. How many of these are free nobody tells.
 fn file_system_reply(blocks: Blocks) -> Reply {
     let mut reply = Reply::default();
-    reply.long(blocks.all.into()).long(blocks.free.into()).long(blocks.free.into());
+    let (all, free) = (blocks.all.saturating_add(blocks.slower_all), blocks.free.saturating_add(blocks.slower_free));
+    reply.long(all.into()).long(free.into()).long(free.into());
     reply.long(GREATEST_NUMBER.into()).long(GREATEST_NUMBER.into());
     reply.word(4096).word(255).word(4096).word(0).zeros(24);
     reply

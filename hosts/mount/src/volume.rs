@@ -158,10 +158,23 @@ impl<D: Desk> Volume<D> {
         self.owed.take().map_or(Ok(()), Err)
     }
 
-    /// How many blocks there are, and how many of them are free: where that isn't told, as many as a desk has at most.
+    /// How many blocks there are, and how many of them are free: where that isn't told, as many as a tier has at most.
     pub fn blocks(&mut self) -> Result<Blocks, Errno> {
         let blocks = self.session.desk().blocks().map_err(|fault| fault.errno())?;
-        Ok(blocks.unwrap_or(Blocks { all: 65_536, free: 65_536 }))
+        Ok(blocks.unwrap_or(Blocks { all: 65_536, free: 65_536, slower_all: 0, slower_free: 0 }))
+    }
+
+    /// A descriptor is closed. Where room is scarce the log is handed in, so that who has written hears whether it has room.
+    pub fn flush(&mut self, id: u64) -> Result<(), Errno> {
+        let number = match self.nodes.number(id) {
+            Ok(number) => number,
+            // Nothing of it is in the log any more.
+            Err(_) => return Ok(()),
+        };
+        if self.session.is_scarce(number).map_err(|failure| self.told(&failure))? {
+            self.sync()?;
+        }
+        Ok(())
     }
 
     // ---- Which node is meant
@@ -388,6 +401,7 @@ impl<D: Desk> Volume<D> {
     /// Writes bytes at an offset, or behind the last byte of the file.
     pub fn write(&mut self, id: u64, offset: u64, bytes: &[u8], flags: u32) -> Result<Written, Errno> {
         let number = self.meant(id)?;
+        self.session.make_room(bytes.len()).map_err(|failure| self.told(&failure))?;
         let written = match flags & APPEND {
             0 => self.session.write(number, offset, bytes).map(|count| (offset, count)),
             _ => self.session.append(number, bytes),
