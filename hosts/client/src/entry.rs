@@ -126,6 +126,23 @@ impl Entry {
         }
     }
 
+    /// The same entry about nodes of other numbers.
+    pub(crate) fn with_numbers(&self, other: impl Fn(u32) -> u32) -> Entry {
+        let mut entry = self.clone();
+        match &mut entry {
+            Entry::Create { directory, number, .. } | Entry::Link { directory, number, .. } => {
+                (*directory, *number) = (other(*directory), other(*number));
+            }
+            Entry::Write { number, .. } | Entry::Truncate { number, .. } => *number = other(*number),
+            Entry::Chmod { number, .. } | Entry::Regroup { number, .. } => *number = other(*number),
+            Entry::Unlink { directory, .. } => *directory = other(*directory),
+            Entry::Rename { directory, new_directory, .. } => {
+                (*directory, *new_directory) = (other(*directory), other(*new_directory));
+            }
+        }
+        entry
+    }
+
     /// Puts its bytes behind others. A payload of over 65,536 bytes, or a mode over 0o1777, makes bytes that are no entry.
     pub fn spell(&self, out: &mut Vec<u8>) {
         out.push(self.tag());

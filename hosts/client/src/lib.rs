@@ -22,6 +22,7 @@ pub mod fault;
 mod hand_in;
 pub mod judge;
 pub mod leases;
+pub mod leftover;
 mod line;
 pub mod log;
 pub mod looks;

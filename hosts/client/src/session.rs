@@ -408,6 +408,24 @@ impl<D: Desk> Session<D> {
         self.change(&Entry::Regroup { number, group })
     }
 
+    /// Takes an entry that an earlier session has left.
+    pub(crate) fn take_again(&mut self, entry: &Entry) -> Result<(), Failure> {
+        self.begin_call()?;
+        self.enter(entry)
+    }
+
+    /// This number for a new node, where it is free, or another one.
+    pub(crate) fn number_like(&mut self, number: u32) -> Result<u32, Failure> {
+        let Session { desk, cache, leases, draft, .. } = self;
+        let mut shown = Cached { shown: desk, cache, leases };
+        let found = match draft.is_free(&mut shown, number) {
+            Ok(true) => Ok(number),
+            Ok(false) => draft.free_number(&mut shown),
+            Err(fault) => Err(fault.into()),
+        };
+        found.map_err(|fault| Failure::Entry { errno: fault.errno(), fault })
+    }
+
     /// The next call begins. A log of which nobody knows whether it was done takes no entry: that is found out before.
     fn begin_call(&mut self) -> Result<(), Failure> {
         self.call += 1;
