@@ -80,7 +80,9 @@ impl<D: Desk> Session<D> {
                 return ended;
             }
             match self.wait_a_while(&mut pause) {
-                Err(Failure::HandIn(fault)) if !fault.may_pass() && !matches!(fault, HandInFault::NoRoom { .. }) => return Err(fault),
+                Err(Failure::HandIn(fault)) if !fault.may_pass() && !matches!(fault, HandInFault::NoRoom { .. }) => {
+                    return Err(fault)
+                }
                 Err(Failure::Unanswered(fault)) => return Err(fault.into()),
                 // What isn't given up now ends by its end.
                 _ => {}

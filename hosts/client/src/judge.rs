@@ -128,7 +128,8 @@ impl Judge<'_> {
             return Ok(());
         }
         check(self.held.holds(number), Reason::NoLease(number))?;
-        let is_meant = self.held.meant(number).map_or(true, |born| self.shown.stamp(number).map(|stamp| stamp.born) == Some(born));
+        let is_meant =
+            self.held.meant(number).map_or(true, |born| self.shown.stamp(number).map(|stamp| stamp.born) == Some(born));
         check(is_meant, Reason::NoSuchNode)
     }
 

@@ -169,7 +169,8 @@ impl<D: Desk> Volume<D> {
             Err(failure) if failure.errno() == Errno::ENOENT => None,
             Err(failure) => return Err(self.told(&failure)),
         };
-        let replaced = there.filter(|(number, _)| *number != moved).map(|(number, header)| (self.identify(number), number, header));
+        let replaced =
+            there.filter(|(number, _)| *number != moved).map(|(number, header)| (self.identify(number), number, header));
         match (there, replaced) {
             (Some(_), _) if !replaces => return Err(Errno::EEXIST),
             (_, Some((id, number, other))) if !header.is_directory() && self.is_to_hide(id, number, &other)? => {

@@ -16,7 +16,7 @@ struct OpenFile {
 
 /// What is to be done when a file was closed for the last time.
 #[derive(Debug, Default, PartialEq, Eq)]
-pub struct Leftover {
+pub struct Closed {
     pub late_mode: Option<u16>,
     pub hidden: Option<(u32, Name)>,
 }
@@ -37,15 +37,15 @@ impl Handles {
     }
 
     /// A file is closed once. What is left to do, where that was the last time.
-    pub fn close(&mut self, id: u64) -> Leftover {
+    pub fn close(&mut self, id: u64) -> Closed {
         match self.files.get_mut(&id) {
             Some(file) if file.count > 1 => {
                 file.count -= 1;
-                Leftover::default()
+                Closed::default()
             }
             _ => {
                 let file = self.files.remove(&id).unwrap_or_default();
-                Leftover { late_mode: file.late_mode, hidden: file.hidden }
+                Closed { late_mode: file.late_mode, hidden: file.hidden }
             }
         }
     }
@@ -107,7 +107,7 @@ mod tests {
         handles.open(5);
         handles.open(5);
         handles.set_late_mode(5, Some(0o400));
-        assert_eq!(handles.close(5), Leftover::default());
+        assert_eq!(handles.close(5), Closed::default());
         assert_eq!(handles.close(5).late_mode, Some(0o400));
         assert!(!handles.is_open(5));
     }

@@ -11,10 +11,10 @@ use kfs_client::node::GREATEST_NUMBER;
 use kfs_client::{Desk, Kind};
 use nix::errno::Errno;
 use nix::poll::{poll, PollFd, PollFlags};
-use nix::sys::signalfd::SignalFd;
 use std::fs::File;
 use std::io::{self, IoSlice, Read, Write};
 use std::os::unix::io::AsRawFd;
+use std::os::unix::net::UnixStream;
 use std::time::{Duration, Instant};
 
 /// After how long what is due is done.
@@ -33,8 +33,8 @@ const KEEPS_BYTES: u32 = 1 << 1;
 /// The flag of a Rename that replaces nothing.
 const REPLACES_NOTHING: u32 = 1;
 
-/// Answers the kernel until the tree is unmounted, or a signal comes.
-pub fn serve<D: Desk>(device: &mut File, signals: &mut SignalFd, volume: &mut Volume<D>) -> io::Result<()> {
+/// Answers the kernel until the tree is unmounted, or there is something to read at `ends`.
+pub fn serve<D: Desk>(device: &mut File, ends: &UnixStream, volume: &mut Volume<D>) -> io::Result<()> {
     let mut bytes = vec![0; REQUEST];
     let (mut polled, mut looks) = (Instant::now(), Looks::new(LONGEST_LOOK));
     loop {
@@ -42,7 +42,7 @@ pub fn serve<D: Desk>(device: &mut File, signals: &mut SignalFd, volume: &mut Vo
         if polled.elapsed() >= PAUSE {
             volume.poll();
             polled = Instant::now();
-            if has_signal(device, signals, Duration::ZERO)? {
+            if has_ended(device, ends, Duration::ZERO)? {
                 return Ok(());
             }
         }
@@ -55,7 +55,7 @@ pub fn serve<D: Desk>(device: &mut File, signals: &mut SignalFd, volume: &mut Vo
             Err(fault) => match fault.raw_os_error().map(Errno::from_i32) {
                 Some(Errno::ENODEV) => return Ok(()),
                 Some(Errno::EAGAIN) if looks.goes_on() => {}
-                Some(Errno::EAGAIN) if has_signal(device, signals, PAUSE)? => return Ok(()),
+                Some(Errno::EAGAIN) if has_ended(device, ends, PAUSE)? => return Ok(()),
                 // The caller has given up meanwhile.
                 Some(Errno::ENOENT | Errno::EINTR | Errno::EAGAIN) => {}
                 _ => return Err(fault),
@@ -64,9 +64,9 @@ pub fn serve<D: Desk>(device: &mut File, signals: &mut SignalFd, volume: &mut Vo
     }
 }
 
-/// Waits for a request or a signal. Returns whether there is a signal.
-fn has_signal(device: &File, signals: &SignalFd, most: Duration) -> io::Result<bool> {
-    let mut waits = [PollFd::new(device.as_raw_fd(), PollFlags::POLLIN), PollFd::new(signals.as_raw_fd(), PollFlags::POLLIN)];
+/// Waits for a request or the end. Returns whether that has come.
+fn has_ended(device: &File, ends: &UnixStream, most: Duration) -> io::Result<bool> {
+    let mut waits = [PollFd::new(device.as_raw_fd(), PollFlags::POLLIN), PollFd::new(ends.as_raw_fd(), PollFlags::POLLIN)];
     match poll(&mut waits, most.as_millis() as i32) {
         Ok(0) | Err(Errno::EINTR) => Ok(false),
         Ok(_) => Ok(waits[1].revents().map_or(false, |events| !events.is_empty())),
@@ -320,7 +320,8 @@ fn read_directory<D: Desk>(volume: &mut Volume<D>, request: &mut Request<'_>, is
             break;
         }
         let is_own = matches!(text.as_slice(), b"." | b"..");
-        let shown = if text == b"." { volume.shape(request.node).map(|shape| (request.node, shape)) } else { volume.shape_of(number) };
+        let shown =
+            if text == b"." { volume.shape(request.node).map(|shape| (request.node, shape)) } else { volume.shape_of(number) };
         let (id, shape) = match shown {
             Ok(shown) => shown,
             // A name that went since the list was made leads nowhere.

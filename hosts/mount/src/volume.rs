@@ -1,14 +1,20 @@
 //! The calls of a file system over a session: what the desk has no entry for is done here, as far as one mount can.
 
-use crate::attributes::{Clocks, Shape};
-use crate::handles::{Handles, Leftover};
+use crate::attributes::{now, Clocks, Shape};
+use crate::handles::{Closed, Handles};
 use crate::links::{target_of, LENGTH};
 use crate::nodes::{Nodes, ROOT};
 use kfs_client::client::Access;
 use kfs_client::desk::Blocks;
+use kfs_client::leftover::Leftover;
 use kfs_client::{Desk, Failure, Fault, HandInFault, Header, Name, Reason, Session};
 use nix::errno::Errno;
 use std::collections::HashMap;
+use std::fs::{self, OpenOptions};
+use std::io::{self, Write};
+use std::os::unix::fs::{DirBuilderExt, OpenOptionsExt};
+use std::path::{Path, PathBuf};
+use std::time::{Duration, Instant};
 
 /// The mode that a link is shown with.
 const LINK_MODE: u16 = 0o777;
@@ -62,17 +68,35 @@ pub struct Volume<D> {
     owed: Option<Errno>,
     /// What the kernel has of the bytes of each file.
     kept: HashMap<u64, Kept>,
+    telling: Telling,
 }
 
-/// Tells people on standard error why a log isn't kept. Returns whether calls are lost.
-fn tell(fault: &HandInFault) -> bool {
-    eprintln!("kfs-mount: a log isn't kept: {fault}");
-    match fault {
-        HandInFault::Refused { lost, .. } => {
-            lost.iter().for_each(|call| eprintln!("kfs-mount: lost: {call}"));
-            !lost.is_empty()
+/// What was told people last on standard error.
+#[derive(Debug, Default)]
+struct Telling(Option<(String, Instant)>);
+
+impl Telling {
+    /// How long the same isn't told again.
+    const PAUSE: Duration = Duration::from_secs(10);
+
+    fn tell(&mut self, text: String) {
+        let is_new = self.0.as_ref().map_or(true, |(last, at)| *last != text || at.elapsed() >= Self::PAUSE);
+        if is_new {
+            eprintln!("kfs-mount: {text}");
+            self.0 = Some((text, Instant::now()));
         }
-        _ => false,
+    }
+
+    /// Tells why a log isn't kept. Returns whether calls are lost.
+    fn tell_fault(&mut self, fault: &HandInFault) -> bool {
+        self.tell(format!("a log isn't kept: {fault}"));
+        match fault {
+            HandInFault::Refused { lost, .. } => {
+                lost.iter().for_each(|call| eprintln!("kfs-mount: lost: {call}"));
+                !lost.is_empty()
+            }
+            _ => false,
+        }
     }
 }
 
@@ -102,6 +126,7 @@ impl<D: Desk> Volume<D> {
             removed: HashMap::new(),
             owed: None,
             kept: HashMap::new(),
+            telling: Telling::default(),
         }
     }
 
@@ -122,8 +147,8 @@ impl<D: Desk> Volume<D> {
     /// now: so the next who asks that all is kept is told, too. By `ESTALE` the kernel looks the names anew that led to the node.
     pub(crate) fn told(&mut self, failure: &Failure) -> Errno {
         match failure {
-            Failure::HandIn(fault) if tell(fault) => self.owed = Some(failure.errno()),
-            Failure::Lease(..) => eprintln!("kfs-mount: a lease isn't to be had: {failure}"),
+            Failure::HandIn(fault) if self.telling.tell_fault(fault) => self.owed = Some(failure.errno()),
+            Failure::Lease(..) => self.telling.tell(format!("a lease isn't to be had: {failure}")),
             _ => {}
         }
         if is_gone(failure) {
@@ -149,10 +174,31 @@ impl<D: Desk> Volume<D> {
         self.session.close().map_err(|failure| self.told(&failure))
     }
 
+    /// Hands in what an earlier mount has left. Returns how many of its entries can't be done any more.
+    pub fn take_leftover(&mut self, left: &Leftover) -> Result<usize, Errno> {
+        let lost = self.session.take_leftover(left).map_err(|failure| self.told(&failure))?;
+        lost.iter().for_each(|call| eprintln!("kfs-mount: lost: {call}"));
+        Ok(lost.len())
+    }
+
+    /// Keeps the log in a new file of a folder, and tells which; none where the log is empty.
+    pub fn keep_log(&self, folder: &Path) -> io::Result<Option<PathBuf>> {
+        let left = match self.session.leftover() {
+            Some(left) => left,
+            None => return Ok(None),
+        };
+        fs::DirBuilder::new().recursive(true).mode(0o700).create(folder)?;
+        let path = folder.join(format!("client-{}-{}.left", left.client(), now().as_millis()));
+        let mut file = OpenOptions::new().write(true).create_new(true).mode(0o600).open(&path)?;
+        file.write_all(&left.to_bytes())?;
+        file.sync_all()?;
+        Ok(Some(path))
+    }
+
     /// Hands all in. Where a lease was lost, and another client has it, that one is waited for.
     pub fn sync(&mut self) -> Result<(), Errno> {
         if let Err(fault) = self.session.sync_patiently() {
-            tell(&fault);
+            self.telling.tell_fault(&fault);
             return Err(fault.errno());
         }
         self.owed.take().map_or(Ok(()), Err)
@@ -388,7 +434,7 @@ impl<D: Desk> Volume<D> {
     }
 
     pub fn close_file(&mut self, id: u64) -> Result<(), Errno> {
-        let Leftover { late_mode, hidden } = self.handles.close(id);
+        let Closed { late_mode, hidden } = self.handles.close(id);
         if let Some((directory, name)) = hidden {
             return self.remove_hidden(directory, &name);
         }
