@@ -142,6 +142,7 @@ impl<D: Desk> Session<D> {
         if let Answer::Entry(_, Reason::NoLease(_)) = said {
             // Others may have ended, too. What isn't granted now is found out at its entry.
             let needed: Vec<_> = self.draft.needed().into_iter().map(|number| (number, LeaseKind::Write)).collect();
+            self.leases.numbers().into_iter().for_each(|number| self.note_loss(number));
             self.leases.forget_all();
             self.ask_leases(&needed)?;
         }

@@ -15,6 +15,7 @@ use crate::node::{Header, ROOT};
 use crate::room::Room;
 use crate::shown::{Shown, Stamp, Unshown};
 use std::collections::HashMap;
+use std::fmt;
 use std::ops::RangeInclusive;
 use std::thread::sleep;
 use std::time::{Duration, Instant};
@@ -88,6 +89,17 @@ pub struct Session<D> {
     /// When the nodes were made that calls mean by their numbers.
     pub(crate) meant: HashMap<u32, u64>,
     pub(crate) room: Room,
+    losses: Losses,
+}
+
+/// What is called before a lease on a directory goes, and with it what was kept of its names.
+#[derive(Default)]
+struct Losses(Option<Box<dyn FnMut() + Send>>);
+
+impl fmt::Debug for Losses {
+    fn fmt(&self, to: &mut fmt::Formatter<'_>) -> fmt::Result {
+        to.write_str(if self.0.is_some() { "Losses(told)" } else { "Losses(untold)" })
+    }
 }
 
 /// The leases of a client, and which nodes it means.
@@ -128,6 +140,7 @@ impl<D: Desk> Session<D> {
             course: Course::default(),
             meant: HashMap::new(),
             room: Room::default(),
+            losses: Losses::default(),
         }
     }
 
@@ -144,6 +157,21 @@ impl<D: Desk> Session<D> {
     /// How it behaves from now on. `age` stays as it was.
     pub fn options_mut(&mut self) -> &mut Options {
         &mut self.options
+    }
+
+    /// Has this called before other clients may change names of a directory that they couldn't change so far: for who keeps such
+    /// names outside of the session.
+    pub fn tell_losses(&mut self, told: impl FnMut() + Send + 'static) {
+        self.losses.0 = Some(Box::new(told));
+    }
+
+    /// A lease has ended, or is about to be given up.
+    pub(crate) fn note_loss(&mut self, number: u32) {
+        let is_file = self.cache.last_header(number).map_or(false, |header| !header.is_directory());
+        if let Some(told) = self.losses.0.as_mut().filter(|_| !is_file) {
+            told();
+        }
+        self.cache.forget(number);
     }
 
     /// The desk itself.
@@ -236,6 +264,17 @@ impl<D: Desk> Session<D> {
             _ if self.header_of_now(number)?.is_directory() => Err(Failure::Missing(Reason::IsDirectory)),
             found => found,
         }
+    }
+
+    /// The bytes of a short file that is opened, at most so many, as they are later than this call begins. They don't count as read.
+    pub fn read_to_open(&mut self, number: u32, most: usize) -> Result<Vec<u8>, Failure> {
+        self.pass_time()?;
+        self.bytes_ahead(number);
+        let bytes = self.look(|draft, shown| draft.read(shown, number, 0, most))?;
+        if bytes.is_empty() {
+            self.header_of_now(number)?;
+        }
+        Ok(bytes)
     }
 
     /// Looks something up, over what the server shows. That asks the modes that are kept: where it refuses, those of the log may
@@ -587,7 +626,7 @@ impl<D: Desk> Session<D> {
     pub(crate) fn pass_time(&mut self) -> Result<u64, Unanswered> {
         let moment = self.desk.moment()?;
         for number in self.leases.set_moment(moment) {
-            self.cache.forget(number);
+            self.note_loss(number);
         }
         Ok(moment)
     }
@@ -637,7 +676,7 @@ impl<D: Desk> Session<D> {
         let handed_in = if is_held || self.draft.needs(number) { self.sync() } else { Ok(()) };
         if is_held {
             self.leases.forget(number);
-            self.cache.forget(number);
+            self.note_loss(number);
             self.given_up.insert(number, Instant::now());
         }
         // Also one that has ended here, and one of an earlier session of this client: it may be live still.

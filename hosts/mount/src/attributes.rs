@@ -117,10 +117,11 @@ pub fn attribute_reply(id: u64, shape: &Shape, clocks: &Clocks) -> Reply {
     reply
 }
 
-/// `fuse_entry_out`. An id is given to one node alone, so its generation is 0.
-pub fn entry(id: u64, shape: &Shape, clocks: &Clocks, reply: &mut Reply) {
+/// `fuse_entry_out`. An id is given to one node alone, so its generation is 0. The kernel keeps the name for a while, or looks it up
+/// anew each time.
+pub fn entry(id: u64, shape: &Shape, keeps_name: bool, clocks: &Clocks, reply: &mut Reply) {
     let number = number_of(id);
-    reply.long(id).long(0).long(0).long(0).word(KEPT).word(KEPT);
+    reply.long(id).long(0).long(0).long(0).word(if keeps_name { KEPT } else { 0 }).word(KEPT);
     attributes(number, shape, clocks.of(number), reply);
 }
 
@@ -136,7 +137,7 @@ mod tests {
         let clocks = Clocks::default();
         assert_eq!(attribute_reply(5, &shape, &clocks).0.len(), 16 + 88);
         let mut reply = Reply::default();
-        entry(1 << 32 | 5, &shape, &clocks, &mut reply);
+        entry(1 << 32 | 5, &shape, true, &clocks, &mut reply);
         assert_eq!(reply.0.len(), 128);
         assert_eq!((&reply.0[..8], &reply.0[40..48]), (&(1u64 << 32 | 5).to_ne_bytes()[..], &5u64.to_ne_bytes()[..]));
     }

@@ -1,5 +1,6 @@
 //! What is open: files, and lists of names that are being read.
 
+use crate::attributes::Shape;
 use kfs_client::Name;
 use std::collections::HashMap;
 
@@ -12,7 +13,20 @@ struct OpenFile {
     late_mode: Option<u16>,
     /// The name that it has got in place of its last one. It goes with the last close.
     hidden: Option<(u32, Name)>,
+    /// What it was when it was opened last.
+    seen: Option<Seen>,
 }
+
+/// A file as it was when it was opened: whoever has it open reads this once another client has removed it.
+#[derive(Clone, Debug, PartialEq, Eq)]
+pub struct Seen {
+    pub shape: Shape,
+    /// All of its bytes, where they are few.
+    pub bytes: Option<Vec<u8>>,
+}
+
+/// How many bytes of open files are kept at most.
+const SEEN: usize = 1 << 24;
 
 /// What is to be done when a file was closed for the last time.
 #[derive(Debug, Default, PartialEq, Eq)]
@@ -21,12 +35,22 @@ pub struct Closed {
     pub hidden: Option<(u32, Name)>,
 }
 
+/// Names of a directory that are read.
+#[derive(Debug, Default)]
+pub struct List {
+    pub names: Vec<(Name, u32)>,
+    /// Since when there was a lease on the directory.
+    pub since: Option<u64>,
+}
+
 /// All that is open.
 #[derive(Debug, Default)]
 pub struct Handles {
     /// By the ids of nodes.
     files: HashMap<u64, OpenFile>,
-    lists: HashMap<u64, Vec<(Name, u32)>>,
+    /// How many bytes of them are kept.
+    seen: usize,
+    lists: HashMap<u64, List>,
     next: u64,
     hidden_count: u64,
 }
@@ -45,9 +69,25 @@ impl Handles {
             }
             _ => {
                 let file = self.files.remove(&id).unwrap_or_default();
+                self.seen -= length(&file.seen);
                 Closed { late_mode: file.late_mode, hidden: file.hidden }
             }
         }
+    }
+
+    /// Keeps what a file is that is opened now. Where there is no more room for its bytes they aren't kept.
+    pub fn see(&mut self, id: u64, shape: Shape, bytes: Option<Vec<u8>>) {
+        if let Some(file) = self.files.get_mut(&id) {
+            self.seen -= length(&file.seen);
+            let room = SEEN - self.seen;
+            file.seen = Some(Seen { shape, bytes: bytes.filter(|bytes| bytes.len() <= room) });
+            self.seen += length(&file.seen);
+        }
+    }
+
+    /// What a file was when it was opened.
+    pub fn seen(&self, id: u64) -> Option<&Seen> {
+        self.files.get(&id)?.seen.as_ref()
     }
 
     pub fn is_open(&self, id: u64) -> bool {
@@ -82,14 +122,19 @@ impl Handles {
     }
 
     /// Keeps a list of names while it is read. Returns its handle.
-    pub fn open_list(&mut self, names: Vec<(Name, u32)>) -> u64 {
+    pub fn open_list(&mut self, list: List) -> u64 {
         self.next += 1;
-        self.lists.insert(self.next, names);
+        self.lists.insert(self.next, list);
         self.next
     }
 
     pub fn list(&self, handle: u64) -> &[(Name, u32)] {
-        self.lists.get(&handle).map_or(&[], Vec::as_slice)
+        self.lists.get(&handle).map_or(&[], |list| &list.names)
+    }
+
+    /// Since when a lease on the directory was held when the list was made.
+    pub fn list_since(&self, handle: u64) -> Option<u64> {
+        self.lists.get(&handle)?.since
     }
 
     pub fn close_list(&mut self, handle: u64) {
@@ -97,9 +142,14 @@ impl Handles {
     }
 }
 
+fn length(seen: &Option<Seen>) -> usize {
+    seen.as_ref().and_then(|seen| seen.bytes.as_ref()).map_or(0, Vec::len)
+}
+
 #[cfg(test)]
 mod tests {
     use super::*;
+    use kfs_client::{Header, Kind};
 
     #[test]
     fn what_is_left_comes_with_the_last_close() {
@@ -110,5 +160,21 @@ mod tests {
         assert_eq!(handles.close(5), Closed::default());
         assert_eq!(handles.close(5).late_mode, Some(0o400));
         assert!(!handles.is_open(5));
+    }
+
+    #[test]
+    fn few_bytes_of_open_files_are_kept() {
+        let mut handles = Handles::default();
+        let header = Header { kind: Kind::File, mode: 0o644, uid: 1, gid: 2, links: 1, size: 3 };
+        let shape = Shape { header, is_link: false };
+        (5..7).for_each(|id| handles.open(id));
+        handles.see(5, shape, Some(vec![0; SEEN - 3]));
+        handles.see(6, shape, Some(vec![1; 4]));
+        assert!(handles.seen(5).unwrap().bytes.is_some() && handles.seen(6).unwrap().bytes.is_none());
+        handles.see(5, shape, Some(vec![2; 3]));
+        handles.see(6, shape, Some(vec![1; 4]));
+        assert_eq!(handles.seen(6).unwrap().bytes, Some(vec![1; 4]));
+        (5..7).for_each(|id| drop(handles.close(id)));
+        assert_eq!((handles.seen, handles.seen(5)), (0, None));
     }
 }

@@ -17,8 +17,11 @@ const HEAD: usize = 40;
 /// reads that nobody waits for: behind these the kernel tells of a close late, and a file that is removed then was still open.
 pub const WANTED: u32 = 1 << 3 | 1 << 5 | 1 << 13 | 1 << 14 | 1 << 22;
 
-/// The code of that message (`FUSE_NOTIFY_INVAL_INODE`).
+/// The codes of messages that the kernel hasn't asked for: `FUSE_NOTIFY_INVAL_INODE`, and `FUSE_NOTIFY_INC_EPOCH`.
 const INVALID_NODE: u32 = 2;
+const INVALID_NAMES: u32 = 8;
+/// The first version of the kernel's protocol that has the latter (Linux 6.16).
+const NAMES_MINOR: u32 = 44;
 
 /// What the kernel asks for.
 #[derive(Clone, Copy, Debug, PartialEq, Eq)]
@@ -195,6 +198,19 @@ pub fn reply_head(unique: u64, answer: &Result<Reply, Errno>) -> Reply {
     head
 }
 
+/// A message that the kernel hasn't asked for: it looks up each name anew that it has.
+pub fn forget_names() -> Reply {
+    let mut notice = Reply::default();
+    notice.word(16).word(INVALID_NAMES).long(0);
+    notice
+}
+
+/// Whether the kernel whose first request this is knows that message.
+pub fn forgets_names(mut request: Request<'_>) -> bool {
+    let (major, minor) = (request.word(), request.word());
+    request.operation == Operation::Init && major == Ok(MAJOR) && minor.map_or(false, |minor| minor >= NAMES_MINOR)
+}
+
 /// A message that the kernel hasn't asked for: what it knows of a node's header isn't so any more. It asks for it when it is wanted.
 pub fn forget_header(id: u64) -> Reply {
     let mut notice = Reply::default();
@@ -249,5 +265,8 @@ mod tests {
         let reply = init_reply(&mut request).unwrap();
         assert_eq!(reply.0.len(), 64);
         assert_eq!(reply.0[12..16], WANTED.to_ne_bytes());
+        assert!(forgets_names(Request::of(&bytes.0).unwrap()));
+        bytes.0[44] = 43;
+        assert!(!forgets_names(Request::of(&bytes.0).unwrap()));
     }
 }

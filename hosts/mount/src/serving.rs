@@ -3,7 +3,7 @@
 use crate::attributes::{attribute_reply, entry, now, type_bits, Shape};
 use crate::changes::Attributes;
 use crate::nodes::number_of;
-use crate::protocol::{forget_header, init_reply, reply_head, Operation, Reply, Request, REQUEST};
+use crate::protocol::{forget_header, forget_names, forgets_names, init_reply, reply_head, Operation, Reply, Request, REQUEST};
 use crate::volume::{appends, Volume};
 use kfs_client::desk::Blocks;
 use kfs_client::looks::Looks;
@@ -83,6 +83,11 @@ fn answer<D: Desk>(device: &mut File, volume: &mut Volume<D>, bytes: &[u8]) -> i
     if is_without_answer(volume, &mut request) {
         return Ok(());
     }
+    if Request::of(bytes).map_or(false, forgets_names) {
+        let mut device = device.try_clone()?;
+        // Where the tree isn't mounted any more, the kernel keeps no names.
+        volume.tell_losses(move || drop(device.write(&forget_names().0)));
+    }
     let (unique, node) = (request.unique, request.node);
     volume.begin_request();
     let mut is_changed = false;
@@ -127,7 +132,7 @@ fn answer_of<D: Desk>(volume: &mut Volume<D>, request: &mut Request<'_>, is_chan
         Operation::Init => init_reply(request),
         Operation::Lookup => {
             let found = volume.lookup(node, request.text()?)?;
-            Ok(entry_reply(volume, found))
+            Ok(entry_reply(volume, node, found))
         }
         Operation::GetAttributes => {
             let shape = volume.shape(node)?;
@@ -168,17 +173,17 @@ fn answer_of_names<D: Desk>(volume: &mut Volume<D>, request: &mut Request<'_>) -
                 return Err(Errno::EPERM);
             }
             let found = volume.make(node, request.text()?, Kind::File, (mode & 0o1777) as u16)?;
-            Ok(entry_reply(volume, found))
+            Ok(entry_reply(volume, node, found))
         }
         Operation::MakeDirectory => {
             let (mode, _umask) = (request.word()?, request.word()?);
             let found = volume.make_directory(node, request.text()?, mode)?;
-            Ok(entry_reply(volume, found))
+            Ok(entry_reply(volume, node, found))
         }
         Operation::SymbolicLink => {
             let (name, target) = (request.text()?, request.text()?);
             let found = volume.make_link(node, name, target)?;
-            Ok(entry_reply(volume, found))
+            Ok(entry_reply(volume, node, found))
         }
         Operation::Unlink => volume.unlink(node, request.text()?, Kind::File).map(|()| Reply::default()),
         Operation::RemoveDirectory => volume.unlink(node, request.text()?, Kind::Directory).map(|()| Reply::default()),
@@ -195,7 +200,7 @@ fn answer_of_names<D: Desk>(volume: &mut Volume<D>, request: &mut Request<'_>) -
         Operation::Link => {
             let id = request.long()?;
             let shape = volume.link(id, node, request.text()?)?;
-            Ok(entry_reply(volume, (id, shape)))
+            Ok(entry_reply(volume, node, (id, shape)))
         }
         _ => Err(Errno::ENOSYS),
     }
@@ -215,7 +220,7 @@ fn answer_of_file<D: Desk>(volume: &mut Volume<D>, request: &mut Request<'_>, is
             let (flags, mode) = (request.word()?, request.word()?);
             request.skip(8)?;
             let found = volume.create(node, request.text()?, mode)?;
-            let mut reply = entry_reply(volume, found);
+            let mut reply = entry_reply(volume, node, found);
             reply.bytes(&open_reply(0, if appends(flags) { ASKS_ALWAYS } else { 0 }).0);
             Ok(reply)
         }
@@ -236,9 +241,11 @@ fn answer_of_file<D: Desk>(volume: &mut Volume<D>, request: &mut Request<'_>, is
     }
 }
 
-fn entry_reply<D>(volume: &Volume<D>, (id, shape): (u64, Shape)) -> Reply {
+/// What the kernel is told of a node by a name of a directory.
+fn entry_reply<D: Desk>(volume: &mut Volume<D>, directory: u64, (id, shape): (u64, Shape)) -> Reply {
     let mut reply = Reply::default();
-    entry(id, &shape, &volume.clocks, &mut reply);
+    let keeps_name = volume.keeps_names(directory);
+    entry(id, &shape, keeps_name, &volume.clocks, &mut reply);
     reply
 }
 
@@ -312,6 +319,7 @@ fn read_directory<D: Desk>(volume: &mut Volume<D>, request: &mut Request<'_>, is
     let next = volume.handles.list(handle).iter().skip((offset as usize).saturating_sub(2)).take(most / LISTED);
     let next: Vec<u32> = next.map(|(_, number)| *number).collect();
     volume.expect(next.into_iter());
+    let keeps_names = volume.keeps_list(request.node, handle);
     let mut at = offset;
     while let Some((text, number)) = listed(volume, handle, request.node, at) {
         at += 1;
@@ -333,7 +341,7 @@ fn read_directory<D: Desk>(volume: &mut Volume<D>, request: &mut Request<'_>, is
         if is_plus && is_own {
             reply.zeros(128);
         } else if is_plus {
-            entry(id, &shape, &volume.clocks, &mut reply);
+            entry(id, &shape, keeps_names, &volume.clocks, &mut reply);
         }
         reply.long(number.into()).long(at).word(text.len() as u32).word(type_bits(&shape) >> 12).bytes(&text);
         reply.zeros((8 - text.len() % 8) % 8);

@@ -1,7 +1,7 @@
 //! The calls of a file system over a session: what the desk has no entry for is done here, as far as one mount can.
 
 use crate::attributes::{now, Clocks, Shape};
-use crate::handles::{Closed, Handles};
+use crate::handles::{Closed, Handles, List, Seen};
 use crate::links::{target_of, LENGTH};
 use crate::nodes::{Nodes, ROOT};
 use kfs_client::client::Access;
@@ -24,6 +24,8 @@ pub(crate) const WRITE_ONLY: u32 = 0o1;
 const READ_AND_WRITE: u32 = 0o2;
 const TRUNCATE: u32 = 0o1000;
 const APPEND: u32 = 0o2000;
+/// Of a file with fewer bytes they are read when it is opened.
+const FEW_BYTES: u64 = 65_536;
 /// How often a name is looked up that led to a node which went meanwhile.
 const LOOKS: u32 = 4;
 
@@ -69,6 +71,8 @@ pub struct Volume<D> {
     /// What the kernel has of the bytes of each file.
     kept: HashMap<u64, Kept>,
     telling: Telling,
+    /// Whether the kernel is told once it has to look names up anew.
+    tells_losses: bool,
 }
 
 /// What was told people last on standard error.
@@ -127,6 +131,7 @@ impl<D: Desk> Volume<D> {
             owed: None,
             kept: HashMap::new(),
             telling: Telling::default(),
+            tells_losses: false,
         }
     }
 
@@ -306,6 +311,16 @@ impl<D: Desk> Volume<D> {
         if let Some(shape) = self.removed.get(&id) {
             return Ok(*shape);
         }
+        match self.shape_now(id) {
+            Err(Errno::ESTALE) => {
+                let Seen { shape, .. } = self.handles.seen(id).ok_or(Errno::ESTALE)?;
+                Ok(Shape { header: Header { links: 0, ..shape.header }, ..*shape })
+            }
+            found => found,
+        }
+    }
+
+    fn shape_now(&mut self, id: u64) -> Result<Shape, Errno> {
         let number = self.nodes.number(id)?;
         let header = self.session.header(number).map_err(|failure| self.told(&failure))?;
         self.confirm(id, number)?;
@@ -352,12 +367,32 @@ impl<D: Desk> Volume<D> {
     /// All names of a directory, as a list that stays while it is read.
     pub fn open_list(&mut self, id: u64) -> Result<u64, Errno> {
         if self.removed.contains_key(&id) {
-            return Ok(self.handles.open_list(Vec::new()));
+            return Ok(self.handles.open_list(List::default()));
         }
         let number = self.nodes.number(id)?;
+        let before = self.since(number)?;
         let names = self.session.list(number, None, usize::MAX).map_err(|failure| self.told(&failure))?;
         self.confirm_directory(id, number)?;
-        Ok(self.handles.open_list(names))
+        let since = self.since(number)?.filter(|since| Some(*since) == before);
+        Ok(self.handles.open_list(List { names, since }))
+    }
+
+    /// Whether the kernel may keep names of a directory that it is told now: it is told once others may change them.
+    pub fn keeps_names(&mut self, directory: u64) -> bool {
+        let number = self.nodes.number(directory);
+        self.tells_losses && number.and_then(|number| self.since(number)).map_or(false, |since| since.is_some())
+    }
+
+    /// The same of a list that was made before.
+    pub fn keeps_list(&mut self, directory: u64, handle: u64) -> bool {
+        let since = self.nodes.number(directory).and_then(|number| self.since(number)).unwrap_or(None);
+        self.tells_losses && since.is_some() && since == self.handles.list_since(handle)
+    }
+
+    /// Has this called before others may change names of which the kernel keeps some.
+    pub fn tell_losses(&mut self, told: impl FnMut() + Send + 'static) {
+        self.tells_losses = true;
+        self.session.tell_losses(told);
     }
 
     /// The headers of these nodes are wanted now.
@@ -371,6 +406,18 @@ impl<D: Desk> Volume<D> {
     }
 
     pub fn read(&mut self, id: u64, start: u64, most: usize) -> Result<Vec<u8>, Errno> {
+        match self.read_now(id, start, most) {
+            // Another client has removed it.
+            Err(Errno::ESTALE) => {
+                let seen = self.handles.seen(id).and_then(|seen| seen.bytes.as_ref()).ok_or(Errno::ESTALE)?;
+                let from = usize::try_from(start).unwrap_or(usize::MAX).min(seen.len());
+                Ok(seen[from..from.saturating_add(most).min(seen.len())].to_vec())
+            }
+            read => read,
+        }
+    }
+
+    fn read_now(&mut self, id: u64, start: u64, most: usize) -> Result<Vec<u8>, Errno> {
         let number = self.nodes.number(id)?;
         let bytes = self.session.read(number, start, most).map_err(|failure| self.told(&failure))?;
         self.confirm(id, number)?;
@@ -420,17 +467,28 @@ impl<D: Desk> Volume<D> {
         }
         let header = self.session.header_of_now(number).map_err(|failure| self.told(&failure))?;
         self.confirm(id, number)?;
-        self.handles.open(id);
-        let since = self.since(number)?;
+        let is_resized = self.nodes.has_other_size(number, header.size);
+        let (since, is_direct) = (self.since(number)?, appends(flags));
         let keeps = since.is_some() && self.kept.get(&id) == Some(&Kept::Since(since));
+        let reads = flags & ACCESS != WRITE_ONLY && header.size < FEW_BYTES && !keeps && !header.is_directory();
+        let bytes = match header.size {
+            0 if reads => Some(Vec::new()),
+            _ if reads => Some(self.bytes_of_now(id, number)?),
+            _ => None,
+        };
+        self.handles.open(id);
+        self.handles.see(id, Shape { header, is_link: false }, bytes);
         if !keeps {
             self.kept.insert(id, Kept::Since(since));
         }
-        if flags & ACCESS != WRITE_ONLY {
-            self.session.bytes_ahead(number);
-        }
-        let is_direct = appends(flags);
-        Ok(Opened { keeps: keeps && !is_direct, is_direct, is_resized: self.nodes.has_other_size(number, header.size) })
+        Ok(Opened { keeps: keeps && !is_direct, is_direct, is_resized })
+    }
+
+    /// All bytes of a short file, which is opened. Where it is gone by now its name leads elsewhere, and is looked up anew.
+    fn bytes_of_now(&mut self, id: u64, number: u32) -> Result<Vec<u8>, Errno> {
+        let bytes = self.session.read_to_open(number, FEW_BYTES as usize).map_err(|failure| self.told(&failure))?;
+        self.confirm(id, number)?;
+        Ok(bytes)
     }
 
     pub fn close_file(&mut self, id: u64) -> Result<(), Errno> {
