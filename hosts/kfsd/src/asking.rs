@@ -56,7 +56,7 @@ async fn told_by(answer: oneshot::Receiver<Answer>) -> Result<Told, Instead> {
 }
 
 /// The node of this number; none within where there is none.
-async fn node_at(shared: &Shared, client: u32, number: u32) -> Result<Option<Found>, Instead> {
+pub async fn node_at(shared: &Shared, client: u32, number: u32) -> Result<Option<Found>, Instead> {
     let said = said_by(shared.queue.push_as(client, node_look_up(number))).await?;
     said.found().and_then(node_in).ok_or(Instead::Said(said.said))
 }

@@ -13,6 +13,8 @@ use crate::frames::{
     answer_in, asked, found_in, moment, reply, shorten, times, told_again, wanted, welcome, Asked, Head, Refusal, HEAD,
     NUMBERED_HEAD,
 };
+use crate::locking::{lock, Locking};
+use crate::locks::Line;
 use crate::outcomes::{Outcomes, Stands};
 use crate::queue::{Answer, Asker, Call, Permits, Queue};
 use crate::rules::Rules;
@@ -256,7 +258,9 @@ async fn serve_all(
     let owed = Owed::default();
     let limits = shared.limits();
     let (frames, bytes) = (Allowance::new(limits.frames_a_connection), Allowance::new(limits.bytes_a_connection));
+    let locking = Locking::new(&shared, place.account.user.client);
     let mut reader = Reader {
+        line: locking.line,
         from: BufReader::with_capacity(BUFFER, from),
         owed: &owed,
         account: Arc::clone(&place.account),
@@ -325,6 +329,8 @@ async fn closing(shared: &Shared, account: &Arc<Account>, limit: impl Fn(&Limits
 
 /// The half of a connection that frames come from.
 struct Reader<'a, R> {
+    /// By which its locks are known.
+    line: Line,
     from: BufReader<R>,
     owed: &'a Owed,
     account: Arc<Account>,
@@ -383,6 +389,9 @@ impl<R: AsyncRead + Unpin> Reader<'_, R> {
         if let Some(said) = self.said_here(head.number, what) {
             self.shared.term.holds().await;
             return self.put(head, frame, Said::Here(said)).await;
+        }
+        if matches!(what, Asked::Lock(_)) {
+            self.account.calls.pause().await;
         }
         if let Some(said) = self.said_later(head.number, what) {
             return self.put(head, frame, said).await;
@@ -493,6 +502,7 @@ impl<R: AsyncRead + Unpin> Reader<'_, R> {
                     async move { setting.await.map_or_else(|instead| instead.reply(number), |told| told.reply(number)) };
                 Some(Said::Later(Box::pin(reply)))
             }
+            Asked::Lock(ask) => Some(Said::Later(Box::pin(lock(shared, Arc::clone(&self.account), self.line, number, ask)))),
             _ => None,
         }
     }
@@ -524,9 +534,8 @@ async fn take(of_connection: &Arc<Allowance>, of_user: &Arc<Allowance>, count: u
 /// The reply that tells which leases others want: when there is one behind this serial, after a while, or when kfsd stops.
 async fn wants_of(shared: Arc<Shared>, number: u32, client: u32, behind: u64) -> Vec<u8> {
     let (mut changed, mut stopping) = (shared.following.wanted(), shared.stopping.clone());
-    let now = || Instant::now();
     let waiting = async {
-        while !*stopping.borrow_and_update() && shared.following.wants().told(client, behind, now()).is_empty() {
+        while !*stopping.borrow_and_update() && shared.following.told(client, behind).is_empty() {
             tokio::select! {
                 is_gone = changed.changed() => if is_gone.is_err() { return },
                 is_gone = stopping.changed() => if is_gone.is_err() { return },
@@ -535,8 +544,7 @@ async fn wants_of(shared: Arc<Shared>, number: u32, client: u32, behind: u64) ->
     };
     // Whether there is one or not.
     let _ = timeout(WAITING, waiting).await;
-    let wants = shared.following.wants();
-    wanted(number, behind, &wants.told(client, behind, now()))
+    wanted(number, behind, &shared.following.told(client, behind))
 }
 
 /// Writes replies in the order of their frames, each as soon as it is there. Those that are there together are written at once.

@@ -26,7 +26,7 @@ use nix::sys::resource::{getrlimit, setrlimit, Resource};
 use std::io;
 use std::path::{Path, PathBuf};
 use std::sync::{Arc, Mutex};
-use std::time::Duration;
+use std::time::{Duration, Instant};
 use thiserror::Error;
 use tokio::signal::unix::{signal, SignalKind};
 use tokio::sync::watch;
@@ -101,6 +101,8 @@ struct Daemon {
     rules: watch::Sender<Arc<Rules>>,
     stopping: watch::Sender<bool>,
     desk: JoinHandle<Result<(), DeskFault>>,
+    /// No client can have had a lock before.
+    is_new: bool,
 }
 
 /// Runs until SIGTERM or SIGINT, and stops then.
@@ -120,6 +122,7 @@ pub async fn run(path: &Path) -> Result<(), DaemonFault> {
         return daemon.end_desk().await;
     }
     let sockets = Sockets::bind(&daemon.config.socket, &daemon.config.control)?;
+    daemon.shared.following.locks().begin(daemon.is_new, Instant::now());
     info!("clients may connect to {}", daemon.config.socket.display());
     daemon.serve(sockets, signals).await
 }
@@ -175,6 +178,14 @@ impl Place {
         }
     }
 
+    /// Whether no desk was there before. Of a volume another member may have been the first.
+    fn is_new(&self) -> Result<bool, DaemonFault> {
+        match self {
+            Place::Alone(folder, store) => Ok(!has_files(folder, store.had_desk())?),
+            Place::Member(_) => Ok(false),
+        }
+    }
+
     fn term(&self) -> Term {
         match self {
             Place::Alone(..) => Term::for_good(),
@@ -200,6 +211,7 @@ impl Place {
 
 impl Daemon {
     fn start(config: Config, path: &Path, place: Place) -> Result<(Daemon, watch::Receiver<bool>), DaemonFault> {
+        let is_new = place.is_new()?;
         let clients = Arc::new(place.clients(&config)?);
         clients.list(&config.users);
         let (rules, now) = watch::channel(Arc::new(rules_of(&config, &clients, &Table::default())));
@@ -226,7 +238,7 @@ impl Daemon {
             of_desk.queue.give_up();
             ended
         });
-        Ok((Daemon { config, path: path.to_path_buf(), clients, shared, rules, stopping, desk }, ready))
+        Ok((Daemon { config, path: path.to_path_buf(), clients, shared, rules, stopping, desk, is_new }, ready))
     }
 
     /// Waits until the desk is open. False where it has ended, or a signal says to stop.

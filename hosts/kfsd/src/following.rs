@@ -4,11 +4,12 @@ use crate::calls::{Change, Note, Told};
 use crate::clock::Clock;
 use crate::journal::{self, Part};
 use crate::leases::Leases;
+use crate::locks::Locks;
 use crate::outcomes::{Finder, Outcomes, KEPT};
 use crate::space::{Held, Space};
 use crate::store::{Changes, Outcome};
 use crate::times::Times;
-use crate::wants::Wants;
+use crate::wants::{News, Wants};
 use std::collections::{HashMap, VecDeque};
 use std::io;
 use std::path::Path;
@@ -63,6 +64,7 @@ pub struct Following {
     pub clock: Clock,
     pub outcomes: Outcomes,
     leases: Mutex<Leases>,
+    locks: Mutex<Locks>,
     wants: Mutex<Wants>,
     times: Mutex<Times>,
     space: Mutex<Space>,
@@ -81,6 +83,7 @@ impl Default for Following {
             clock: Clock::default(),
             outcomes: Outcomes::default(),
             leases: Mutex::default(),
+            locks: Mutex::default(),
             wants: Mutex::default(),
             times: Mutex::default(),
             space: Mutex::default(),
@@ -96,6 +99,29 @@ impl Following {
     /// The leases.
     pub fn leases(&self) -> MutexGuard<'_, Leases> {
         self.leases.lock().unwrap_or_else(PoisonError::into_inner)
+    }
+
+    /// The locks of files, which nobody else knows.
+    pub fn locks(&self) -> MutexGuard<'_, Locks> {
+        self.locks.lock().unwrap_or_else(PoisonError::into_inner)
+    }
+
+    /// Changes the locks. Who waits for what is free by that is told.
+    pub fn with_locks<T>(&self, change: impl FnOnce(&mut Locks) -> T) -> T {
+        let mut locks = self.locks();
+        locks.set_serial(self.wants().next_serial());
+        let changed = change(&mut locks);
+        if locks.take_freed() {
+            self.is_wanted.send_replace(());
+        }
+        changed
+    }
+
+    /// What is new for a client behind a serial.
+    pub fn told(&self, client: u32, behind: u64) -> Vec<News> {
+        let locks = self.locks();
+        let wants = self.wants();
+        wants.told(client, behind, &locks.told(client, wants.known(behind)), Instant::now())
     }
 
     /// The leases that others want.
@@ -210,6 +236,9 @@ impl Following {
         }
         leases.apply(note, told);
         leases.landed(&changes);
+        for (node, _) in changes.iter().filter(|(_, change)| *change == Change::Gone) {
+            self.locks().gone(*node);
+        }
         if !changes.is_empty() {
             self.times().changed(&changes, time);
         }

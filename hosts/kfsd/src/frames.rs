@@ -1,7 +1,8 @@
 //! Frames and replies (docs/PROTOCOL.md), and what kfsd itself refuses (docs/KFSD.md).
 
+use crate::locks::Ask;
 use crate::times::Stamp;
-use crate::wants::Want;
+use crate::wants::News;
 use std::io;
 use tokio::io::{AsyncRead, AsyncReadExt};
 
@@ -66,6 +67,9 @@ const TIMES: u8 = 0xf4;
 
 /// The tag before a node (4) and a time (8): its owner sets when it was modified. And the answer's.
 const SET_TIME: u8 = 0xf5;
+
+/// The tag before a question for a lock, and the answer's.
+pub const LOCK: u8 = 0xf7;
 
 /// The tag of a look-up of a node's header, and of what it finds.
 const NODE: u8 = 0x40;
@@ -189,9 +193,10 @@ pub fn moment(number: u32, now: u64, longest: u64) -> Vec<u8> {
     reply(number, &said)
 }
 
-/// The reply that tells which leases of a client others want, and the serial of the last one. Each is told with an empty path:
-/// how the other one leads to the node is its own business, and may name what the holder may not search.
-pub fn wanted(number: u32, behind: u64, wants: &[Want]) -> Vec<u8> {
+/// The reply that tells what is new for a client: leases of it that others want, and locks for which it waits; and the serial of the
+/// last of them. No path is told: how the other one leads to the node is its own business, and may name what the holder may not
+/// search.
+pub fn wanted(number: u32, behind: u64, wants: &[News]) -> Vec<u8> {
     let mut said = vec![WANTED];
     said.extend_from_slice(&wants.last().map_or(behind, |want| want.serial).to_be_bytes());
     // There are 64 at most.
@@ -199,7 +204,7 @@ pub fn wanted(number: u32, behind: u64, wants: &[Want]) -> Vec<u8> {
     for want in wants {
         said.extend_from_slice(&want.by.to_be_bytes());
         said.extend_from_slice(&want.node.to_be_bytes());
-        said.extend_from_slice(&[0; 2]);
+        said.extend_from_slice(&(want.what as u16).to_be_bytes());
     }
     reply(number, &said)
 }
@@ -242,15 +247,16 @@ pub struct Found {
     pub is_file: bool,
     pub mode: u16,
     pub owner: u32,
+    pub group: u32,
 }
 
 /// The node in what such a look-up has found: none within where there is no such node.
 pub fn node_in(found: &[u8]) -> Option<Option<Found>> {
     match *found {
         [FOUND_NODE, 0] => Some(None),
-        [FOUND_NODE, kind, m, n, a, b, c, d, ..] => {
+        [FOUND_NODE, kind, m, n, a, b, c, d, g0, g1, g2, g3, ..] => {
             let (mode, owner) = (u16::from_be_bytes([m, n]), u32::from_be_bytes([a, b, c, d]));
-            Some(Some(Found { is_file: kind == FILE, mode, owner }))
+            Some(Some(Found { is_file: kind == FILE, mode, owner, group: u32::from_be_bytes([g0, g1, g2, g3]) }))
         }
         _ => None,
     }
@@ -285,6 +291,8 @@ pub enum Asked {
     Times(u32),
     /// The owner of this node sets when it was modified. kfsd answers, and asks the desk before.
     SetTime(u32, i64),
+    /// A lock. kfsd answers, and asks the desk before.
+    Lock(Ask),
     /// How the call of this number ended. kfsd answers.
     Outcome(u64),
     /// A call of this client.
@@ -307,6 +315,7 @@ pub fn asked(body: &[u8]) -> Asked {
         [SET_TIME, a, b, c, d, t0, t1, t2, t3, t4, t5, t6, t7] => {
             Asked::SetTime(u32::from_be_bytes([a, b, c, d]), i64::from_be_bytes([t0, t1, t2, t3, t4, t5, t6, t7]))
         }
+        [LOCK, ref question @ ..] => Ask::of(question).map_or(Asked::Other, Asked::Lock),
         [NUMBERED, n0, n1, n2, n3, n4, n5, n6, n7, ref call @ ..] => {
             let number = u64::from_be_bytes([n0, n1, n2, n3, n4, n5, n6, n7]);
             match asked(call) {
@@ -449,13 +458,16 @@ mod tests {
         let set = [&[SET_TIME, 0, 0, 1, 0][..], &[0xff; 8]].concat();
         assert_eq!((asked(&set), asked(&set[..12])), (Asked::SetTime(256, -1), Asked::Other));
         assert_eq!(asked(&[HELLO, 0]), Asked::Other);
+        let lock = [&[LOCK, 0, 0, 1, 0][..], &[0; 31]].concat();
+        assert!(matches!(asked(&lock), Asked::Lock(question) if question.node == 256));
+        assert_eq!(asked(&lock[..35]), Asked::Other);
     }
 
     #[test]
     fn nodes_and_names_are_looked_up() {
         assert_eq!(node_look_up(256), [0x40, 0, 0, 1, 0]);
         let found = [&[1, 2, 1, 0xff, 0, 0, 1, 0][..], &[9; 14]].concat();
-        assert_eq!(node_in(&found), Some(Some(Found { is_file: false, mode: 0x1ff, owner: 256 })));
+        assert_eq!(node_in(&found), Some(Some(Found { is_file: false, mode: 0x1ff, owner: 256, group: 0x0909_0909 })));
         assert_eq!((node_in(&[1, 0]), node_in(&[4, 1]), node_in(&[])), (Some(None), None, None));
         assert_eq!(name_look_up(256, b"a"), [0x43, 0, 0, 1, 0, b'a']);
         assert_eq!((number_in(&[5, 1, 0, 0, 1, 0]), number_in(&[5, 0]), number_in(&[4, 5])), (Some(256), None, None));

@@ -28,6 +28,8 @@ pub mod following;
 pub mod frames;
 pub mod journal;
 pub mod leases;
+pub mod locking;
+pub mod locks;
 pub mod log;
 pub mod meter;
 pub mod metrics;
