@@ -6,6 +6,7 @@
 use crate::desk::{Answer, Blocks, Desk, LeaseRefusal, Unanswered, Wanted, Wish};
 use crate::ending::Ending;
 use crate::line::{Door, Line};
+use crate::locks::{HeldLocks, Lock, LockAnswer, LockHow};
 use crate::name::Name;
 use crate::node::{Header, ROOT};
 use crate::replies::{
@@ -78,7 +79,7 @@ pub enum Unconnected {
 
 /// The moment that kfsd has told. It is a second of its clock.
 #[derive(Clone, Copy, Debug)]
-struct Clock {
+pub(crate) struct Clock {
     moment: u64,
     /// Before the question: the answer may have been under way for long, and kfsd's clock has gone on since it was given.
     asked_at: Instant,
@@ -92,12 +93,12 @@ pub struct Connection {
     door: Door,
     /// The door of the connection on which it is told what others want.
     side_door: Door,
-    line: Option<Line>,
-    client: u32,
+    pub(crate) line: Option<Line>,
+    pub(crate) client: u32,
     grant: [u32; 2],
-    number: u32,
+    pub(crate) number: u32,
     /// None where kfsd tells no moment, and takes no numbered calls.
-    clock: Option<Clock>,
+    pub(crate) clock: Option<Clock>,
     /// The number of the next numbered call. Its upper half is random, so that other processes of the user have others.
     next_call: u64,
     wants: Option<Wants>,
@@ -114,6 +115,8 @@ pub struct Connection {
     /// Whether kfsd tells stamps of nodes, and those that it has told.
     has_stamps: bool,
     stamps: HashMap<u32, Stamp>,
+    /// The locks that are set again where the connection ends.
+    pub(crate) locks: HeldLocks,
 }
 
 /// A look-up that was asked for ahead.
@@ -148,6 +151,7 @@ impl Connection {
             row: None,
             has_stamps: false,
             stamps: HashMap::new(),
+            locks: HeldLocks::default(),
         };
         connection.grant = connection.hello()?;
         Ok(connection)
@@ -211,6 +215,7 @@ impl Connection {
             Some(Reply::Refused(136)) => return Err(Unconnected::NoClient),
             _ => return Err(Unconnected::Nonsense),
         };
+        self.set_locks_again(&mut line)?;
         let asked_at = Instant::now();
         self.clock = match exchange(&mut line, self.number, self.client, &[MOMENT])? {
             Some(Reply::Moment(moment, longest)) => Some(Clock { moment, asked_at, longest }),
@@ -231,7 +236,7 @@ impl Connection {
     }
 
     /// Connects anew, where the connection is gone.
-    fn connect(&mut self) -> io::Result<()> {
+    pub(crate) fn connect(&mut self) -> io::Result<()> {
         if self.line.is_none() {
             let told = self.hello().map_err(|fault| io::Error::new(io::ErrorKind::NotConnected, fault))?;
             if told != self.grant {
@@ -342,7 +347,7 @@ impl Connection {
     }
 
     /// The same of what may be asked twice: again and again, where the server or the connection has ended meanwhile.
-    fn ask_again(&mut self, body: &[u8]) -> Result<Reply, Unshown> {
+    pub(crate) fn ask_again(&mut self, body: &[u8]) -> Result<Reply, Unshown> {
         loop {
             match self.ask(body) {
                 Ok(Reply::Refused(128)) | Err(Unshown::Gone(_)) if self.asks_again() => {}
@@ -398,7 +403,7 @@ fn put_frame(out: &mut Vec<u8>, number: u32, client: u32, body: &[u8]) {
 }
 
 /// Sends a frame, and reads its reply. None where that is no reply.
-fn exchange(line: &mut Line, number: u32, client: u32, body: &[u8]) -> io::Result<Option<Reply>> {
+pub(crate) fn exchange(line: &mut Line, number: u32, client: u32, body: &[u8]) -> io::Result<Option<Reply>> {
     // Where kfsd refuses the connection it has said so before it closed: that can be read still.
     let mut frame = Vec::new();
     put_frame(&mut frame, number, client, body);
@@ -629,7 +634,7 @@ impl Connection {
     }
 
     /// Takes what has come without waiting, and waits for one.
-    fn take_all_ahead(&mut self, wait_for: Option<u64>) -> io::Result<()> {
+    pub(crate) fn take_all_ahead(&mut self, wait_for: Option<u64>) -> io::Result<()> {
         if let Some(at) = wait_for.and_then(|serial| self.ahead.iter().position(|asked| asked.serial == serial)) {
             self.settle_to(self.ahead.len() - at - 1)?;
         }
@@ -739,6 +744,7 @@ impl Desk for Connection {
 
     /// Where the connection has ended, so that nobody would be told any more, there is a new one as soon as kfsd takes it.
     fn wanted_by_others(&mut self) -> Result<Vec<Wish>, Unanswered> {
+        self.keep_locks();
         let Connection { wants, side_door, .. } = self;
         Ok(wants.as_mut().map_or_else(Vec::new, |wants| {
             let told = wants.told();
@@ -746,5 +752,21 @@ impl Desk for Connection {
             let _no_kfsd = wants.ask_again(side_door);
             told
         }))
+    }
+
+    fn has_locks(&mut self) -> bool {
+        self.knows_locks()
+    }
+
+    fn lock(&mut self, lock: &Lock, how: LockHow) -> Result<Option<LockAnswer>, Unanswered> {
+        self.ask_lock(lock, how)
+    }
+
+    fn held_locks(&mut self) -> Option<&mut HeldLocks> {
+        Some(&mut self.locks)
+    }
+
+    fn freed_locks(&mut self) -> Vec<u32> {
+        self.wants.as_mut().map_or_else(Vec::new, Wants::take_freed)
     }
 }

@@ -1,6 +1,7 @@
 //! The calls of a desk, as a client makes them, and what they are answered.
 
 use crate::fault::Reason;
+use crate::locks::{HeldLocks, Lock, LockAnswer, LockHow};
 use crate::shown::{Shown, Unshown};
 use nix::errno::Errno;
 use thiserror::Error;
@@ -230,4 +231,24 @@ pub trait Desk: Shown {
 
     /// What others want of this client's leases, since this was asked last.
     fn wanted_by_others(&mut self) -> Result<Vec<Wish>, Unanswered>;
+
+    /// Whether locks of files hold between all clients of the server.
+    fn has_locks(&mut self) -> bool {
+        false
+    }
+
+    /// Asks for a lock of a file, and remembers it. None where the server knows of none.
+    fn lock(&mut self, _lock: &Lock, _how: LockHow) -> Result<Option<LockAnswer>, Unanswered> {
+        Ok(None)
+    }
+
+    /// The locks that this client has, where the server knows of any.
+    fn held_locks(&mut self) -> Option<&mut HeldLocks> {
+        None
+    }
+
+    /// The files on which a lock in the way of one that is waited for has gone, since this was asked last.
+    fn freed_locks(&mut self) -> Vec<u32> {
+        Vec::new()
+    }
 }

@@ -24,6 +24,8 @@ pub mod judge;
 pub mod leases;
 pub mod leftover;
 mod line;
+mod locking;
+pub mod locks;
 pub mod log;
 pub mod looks;
 pub mod memory;

@@ -125,6 +125,15 @@ impl Line {
         }
     }
 
+    /// Whether the other end has closed, where nothing was asked: else there is a reply to read first.
+    pub fn is_ended(&mut self) -> bool {
+        match self.has_more() {
+            Ok(false) => false,
+            Ok(true) => self.fill().is_err(),
+            Err(_) => true,
+        }
+    }
+
     /// The next reply, if it has come.
     pub fn next_if_there(&mut self) -> io::Result<Option<(u32, Vec<u8>)>> {
         loop {

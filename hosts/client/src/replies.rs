@@ -3,6 +3,7 @@
 use crate::desk::{Answer, Blocks, LeaseRefusal, RowPart, Unanswered, Wrong};
 use crate::entry::Kind;
 use crate::fault::Reason;
+use crate::locks::{Conflict, LockAnswer, LockKind};
 use crate::name::Name;
 use crate::node::Header;
 use crate::shown::{FoundAhead, Stamp, Unshown};
@@ -11,6 +12,8 @@ use crate::shown::{FoundAhead, Stamp, Unshown};
 pub(crate) const HELLO: u8 = 0xf0;
 /// The same of the moment.
 pub(crate) const MOMENT: u8 = 0xf1;
+/// The body that asks for a lock, and the tag of its answer.
+pub(crate) const LOCK: u8 = 0xf7;
 /// The first bytes of what they find: of a header, of why the client may not ask, of a name, of names, of bytes, and of places.
 const FOUND_NODE: u8 = 1;
 const FOUND_FAULT: u8 = 4;
@@ -40,6 +43,8 @@ pub(crate) enum Reply {
     Welcome(u32, [u32; 2], Option<Row>),
     /// The moment, and for how many moments a lease may live at most; 0 for ever.
     Moment(u64, u64),
+    /// What is said to a question for a lock.
+    Lock(LockAnswer),
 }
 
 /// Who a client is at the server.
@@ -91,6 +96,7 @@ pub(crate) fn reply_of(said: &[u8]) -> Option<Reply> {
         REFUSED => Reply::Refused(fields.byte()?),
         HELLO => Reply::Welcome(fields.word()?, [fields.word()?, fields.word()?], row_in(&mut fields)),
         MOMENT => Reply::Moment(fields.long()?, fields.long()?),
+        LOCK => Reply::Lock(lock_answer(&mut fields)?),
         _ => return None,
     };
     Some(reply)
@@ -102,6 +108,30 @@ fn row_in(fields: &mut Fields<'_>) -> Option<Row> {
     let count = fields.short()?;
     let groups = (0..count).map(|_| fields.word()).collect::<Option<Vec<u32>>>()?;
     Some(Row { uid, gid, is_privileged, groups })
+}
+
+fn lock_answer(fields: &mut Fields<'_>) -> Option<LockAnswer> {
+    let answer = match fields.byte()? {
+        0 => LockAnswer::Granted,
+        1 => LockAnswer::Conflicts(conflict(fields)?),
+        2 => LockAnswer::Deadlock,
+        3 => LockAnswer::TooMany,
+        4 => LockAnswer::NotYet,
+        5 => LockAnswer::NoSuchNode,
+        6 => LockAnswer::NotAllowed,
+        _ => return None,
+    };
+    Some(answer)
+}
+
+fn conflict(fields: &mut Fields<'_>) -> Option<Conflict> {
+    let kind = match fields.byte()? {
+        0 => LockKind::Read,
+        1 => LockKind::Write,
+        2 => LockKind::Unlock,
+        _ => return None,
+    };
+    Some(Conflict { kind, first: fields.long()?, last: fields.long()?, pid: fields.word()? })
 }
 
 /// Whether kfsd refuses the connection, whatever was asked.

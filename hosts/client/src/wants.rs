@@ -8,6 +8,10 @@ use std::os::unix::net::UnixStream;
 
 /// The tag of the question, before the serial of the last want that was told, and of the answer.
 const WANTED: u8 = 0xf3;
+/// What stands behind the node of a lease that another one wants, and of a lock that may be had now. Anything else is the length of a
+/// path, which an earlier kfsd told.
+const LEASE: u16 = 0;
+const LOCK: u16 = 1;
 /// How many bytes stand before the wants of an answer: its head, tag, serial and count.
 const HEAD: usize = 19;
 
@@ -22,6 +26,8 @@ pub(crate) struct Wants {
     is_unknown: bool,
     /// Whether the connection has ended.
     is_gone: bool,
+    /// Files on which the way to a lock was freed, that nobody was told of yet.
+    freed: Vec<u32>,
 }
 
 impl Wants {
@@ -33,7 +39,8 @@ impl Wants {
     fn ask_behind(door: &mut Door, client: u32, serial: u64) -> io::Result<Wants> {
         let stream = door.connect()?;
         stream.set_nonblocking(true)?;
-        let mut wants = Wants { stream, client, serial, left: Vec::new(), is_unknown: false, is_gone: false };
+        let mut wants =
+            Wants { stream, client, serial, left: Vec::new(), is_unknown: false, is_gone: false, freed: Vec::new() };
         wants.send()?;
         Ok(wants)
     }
@@ -57,6 +64,11 @@ impl Wants {
         self.stream.write_all(&frame)
     }
 
+    /// The files on which the way to a lock was freed, as far as `told` has heard of them.
+    pub fn take_freed(&mut self) -> Vec<u32> {
+        std::mem::take(&mut self.freed)
+    }
+
     /// What was told since this was asked last, without waiting. Each is told once, so what was told is answered also where the
     /// connection has ended meanwhile.
     pub fn told(&mut self) -> Vec<Wish> {
@@ -64,9 +76,10 @@ impl Wants {
         while !self.is_unknown && !self.is_gone && self.has_more() {
             while let Some(answer) = self.next_answer() {
                 match answer_of(&answer) {
-                    Some((serial, told)) => {
+                    Some(Told { serial, wishes: told, freed }) => {
                         self.serial = serial;
                         wishes.extend(told);
+                        self.freed.extend(freed);
                         self.is_gone |= self.send().is_err();
                     }
                     None => self.is_unknown = true,
@@ -100,20 +113,36 @@ impl Wants {
     }
 }
 
-/// The serial of the last want of an answer, and what is wanted: a node, or a path of which kfsd doesn't know the node.
-fn answer_of(bytes: &[u8]) -> Option<(u64, Vec<Wish>)> {
+/// What an answer tells.
+#[derive(Debug, Default, PartialEq, Eq)]
+struct Told {
+    /// That of the last one.
+    serial: u64,
+    /// What is wanted: a node, or a path of which kfsd doesn't know the node.
+    wishes: Vec<Wish>,
+    /// The files on which the way to a lock is freed.
+    freed: Vec<u32>,
+}
+
+fn answer_of(bytes: &[u8]) -> Option<Told> {
     let head = bytes.get(..HEAD).filter(|head| head[8] == WANTED)?;
     let serial = u64::from_be_bytes(head[9..17].try_into().ok()?);
     let count = u16::from_be_bytes([head[17], head[18]]);
-    let (mut at, mut wishes) = (HEAD, Vec::new());
+    let (mut at, mut told) = (HEAD, Told { serial, ..Told::default() });
     for _ in 0..count {
         let node = u32::from_be_bytes(bytes.get(at + 4..at + 8)?.try_into().ok()?);
-        let length = usize::from(u16::from_be_bytes(bytes.get(at + 8..at + 10)?.try_into().ok()?));
-        let path = bytes.get(at + 10..at + 10 + length)?;
-        wishes.push(if length == 0 { Wish::Node(node) } else { Wish::Path(path.to_vec()) });
-        at += 10 + length;
+        match u16::from_be_bytes(bytes.get(at + 8..at + 10)?.try_into().ok()?) {
+            LEASE => told.wishes.push(Wish::Node(node)),
+            LOCK => told.freed.push(node),
+            length => {
+                let path = bytes.get(at + 10..at + 10 + usize::from(length))?;
+                told.wishes.push(Wish::Path(path.to_vec()));
+                at += path.len();
+            }
+        }
+        at += 10;
     }
-    Some((serial, wishes))
+    Some(told)
 }
 
 #[cfg(test)]
@@ -122,11 +151,13 @@ mod tests {
 
     #[test]
     fn wants_are_read_from_an_answer() {
-        let mut bytes = vec![0, 0, 0, 0, 0, 0, 0, 0, WANTED, 0, 0, 0, 0, 0, 0, 1, 2, 0, 2];
+        let mut bytes = vec![0, 0, 0, 0, 0, 0, 0, 0, WANTED, 0, 0, 0, 0, 0, 0, 1, 2, 0, 3];
         bytes.extend([0, 0, 0, 8, 0, 0, 0, 0, 0, 2, b'/', b'a']);
+        bytes.extend([0, 0, 0, 7, 0, 0, 1, 2, 0, 1]);
         bytes.extend([0, 0, 0, 8, 0, 0, 1, 1, 0, 0]);
-        assert_eq!(answer_of(&bytes), Some((258, vec![Wish::Path(b"/a".to_vec()), Wish::Node(257)])));
-        assert_eq!(answer_of(&bytes[..40]), None);
+        let wishes = vec![Wish::Path(b"/a".to_vec()), Wish::Node(257)];
+        assert_eq!(answer_of(&bytes), Some(Told { serial: 258, wishes, freed: vec![258] }));
+        assert_eq!(answer_of(&bytes[..50]), None);
         assert_eq!(answer_of(&[0, 0, 0, 6, 0, 0, 0, 0, 2, 3, 0, 0, 0, 0]), None);
     }
 }
