@@ -213,6 +213,11 @@ impl<D: Desk> Session<D> {
         self.header(number)
     }
 
+    /// What was shown of a node without a lease is asked for again from now on.
+    pub fn look_anew(&mut self, number: u32) {
+        self.cache.look_anew(number);
+    }
+
     /// Whether the node's bits grant this.
     pub fn access(&mut self, number: u32, access: Access) -> Result<(), Failure> {
         let header = self.header(number)?;

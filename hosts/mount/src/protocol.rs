@@ -17,6 +17,9 @@ const HEAD: usize = 40;
 /// reads that nobody waits for: behind these the kernel tells of a close late, and a file that is removed then was still open.
 pub const WANTED: u32 = 1 << 3 | 1 << 5 | 1 << 13 | 1 << 14 | 1 << 22;
 
+/// And where locks hold between mounts: to be asked for those of fcntl() and of flock().
+pub const LOCKS: u32 = 1 << 1 | 1 << 10;
+
 /// The codes of messages that the kernel hasn't asked for: `FUSE_NOTIFY_INVAL_INODE`, and `FUSE_NOTIFY_INC_EPOCH`.
 const INVALID_NODE: u32 = 2;
 const INVALID_NAMES: u32 = 8;
@@ -47,6 +50,9 @@ pub enum Operation {
     Release,
     Sync,
     Flush,
+    GetLock,
+    SetLock,
+    SetLockWaiting,
     Init,
     OpenDirectory,
     ReadDirectory,
@@ -87,6 +93,9 @@ impl Operation {
             27 => Operation::OpenDirectory,
             28 => Operation::ReadDirectory,
             29 => Operation::ReleaseDirectory,
+            31 => Operation::GetLock,
+            32 => Operation::SetLock,
+            33 => Operation::SetLockWaiting,
             34 => Operation::Access,
             35 => Operation::Create,
             36 => Operation::Interrupt,
@@ -219,15 +228,22 @@ pub fn forget_header(id: u64) -> Reply {
     notice
 }
 
+/// The same of all its bytes, too.
+pub fn forget_node(id: u64) -> Reply {
+    let mut notice = Reply::default();
+    notice.word(16 + 24).word(INVALID_NODE).long(0).long(id).long(0).long(0);
+    notice
+}
+
 /// The answer to the first request.
-pub fn init_reply(request: &mut Request<'_>) -> Result<Reply, Errno> {
+pub fn init_reply(request: &mut Request<'_>, has_locks: bool) -> Result<Reply, Errno> {
     let (major, _minor) = (request.word()?, request.word()?);
     let (read_ahead, flags) = (request.word()?, request.word()?);
     let mut reply = Reply::default();
     if major != MAJOR {
         return Err(Errno::EPROTO);
     }
-    reply.word(MAJOR).word(MINOR).word(read_ahead).word(flags & WANTED);
+    reply.word(MAJOR).word(MINOR).word(read_ahead).word(flags & (WANTED | if has_locks { LOCKS } else { 0 }));
     // how much may be under way in the background, the longest write, the grain of times, the most pages of a request
     reply.short(64).short(48).word(MOST_BYTES).word(1).short((MOST_BYTES / 4096) as u16).short(0);
     reply.zeros(32);
@@ -261,12 +277,13 @@ mod tests {
     fn the_first_answer_has_64_bytes() {
         let mut bytes = Reply::default();
         bytes.word(104).word(26).long(2).zeros(24).word(7).word(45).word(131_072).word(u32::MAX);
-        let mut request = Request::of(&bytes.0).unwrap();
-        let reply = init_reply(&mut request).unwrap();
-        assert_eq!(reply.0.len(), 64);
-        assert_eq!(reply.0[12..16], WANTED.to_ne_bytes());
         assert!(forgets_names(Request::of(&bytes.0).unwrap()));
         bytes.0[44] = 43;
         assert!(!forgets_names(Request::of(&bytes.0).unwrap()));
+        for (has_locks, due) in [(false, WANTED), (true, WANTED | LOCKS)] {
+            let reply = init_reply(&mut Request::of(&bytes.0).unwrap(), has_locks).unwrap();
+            assert_eq!(reply.0.len(), 64);
+            assert_eq!(reply.0[12..16], due.to_ne_bytes());
+        }
     }
 }

@@ -3,7 +3,8 @@
 use crate::attributes::{attribute_reply, entry, now, type_bits, Shape};
 use crate::changes::Attributes;
 use crate::nodes::number_of;
-use crate::protocol::{forget_header, forget_names, forgets_names, init_reply, reply_head, Operation, Reply, Request, REQUEST};
+use crate::protocol::{forget_header, forget_names, forgets_names, init_reply, Operation, Reply, Request, REQUEST};
+use crate::telling::{put_reply, Teller};
 use crate::volume::{appends, Volume};
 use kfs_client::desk::Blocks;
 use kfs_client::looks::Looks;
@@ -12,13 +13,16 @@ use kfs_client::{Desk, Kind};
 use nix::errno::Errno;
 use nix::poll::{poll, PollFd, PollFlags};
 use std::fs::File;
-use std::io::{self, IoSlice, Read, Write};
+use std::io::{self, Read, Write};
 use std::os::unix::io::AsRawFd;
 use std::os::unix::net::UnixStream;
 use std::time::{Duration, Instant};
 
-/// After how long what is due is done.
+/// After how long what is due is done, and where a program waits for a lock.
 const PAUSE: Duration = Duration::from_millis(100);
+const SHORT_PAUSE: Duration = Duration::from_millis(10);
+/// How long what is being told is waited for at the end.
+const LAST_TOLD: Duration = Duration::from_secs(5);
 /// For how long the next request is looked for behind an answer, before this sleeps until it comes.
 const LONGEST_LOOK: Duration = Duration::from_micros(50);
 /// How many bytes a name takes in a list at least, with what it leads to.
@@ -37,27 +41,38 @@ const REPLACES_NOTHING: u32 = 1;
 pub fn serve<D: Desk>(device: &mut File, ends: &UnixStream, volume: &mut Volume<D>) -> io::Result<()> {
     let mut bytes = vec![0; REQUEST];
     let (mut polled, mut looks) = (Instant::now(), Looks::new(LONGEST_LOOK));
+    let (mut teller, mut ended) = (Teller::new(device)?, None);
     loop {
+        let pause = if volume.locking.is_waiting() { SHORT_PAUSE } else { PAUSE };
         // Also where requests come without a pause.
-        if polled.elapsed() >= PAUSE {
+        if polled.elapsed() >= pause {
             volume.poll();
+            volume.poll_locks().into_iter().try_for_each(|told| teller.tell(told))?;
             polled = Instant::now();
             if has_ended(device, ends, Duration::ZERO)? {
-                return Ok(());
+                ended.get_or_insert_with(Instant::now);
             }
+        }
+        // What the thread tells may wait for an answer.
+        if ended.map_or(false, |since: Instant| !teller.is_busy() || since.elapsed() >= LAST_TOLD) {
+            return Ok(());
         }
         match device.read(&mut bytes) {
             Ok(count) => {
                 looks.found();
-                answer(device, volume, &bytes[..count])?;
+                answer(device, &mut teller, volume, &bytes[..count])?;
                 looks.begin();
             }
             Err(fault) => match fault.raw_os_error().map(Errno::from_i32) {
                 Some(Errno::ENODEV) => return Ok(()),
                 Some(Errno::EAGAIN) if looks.goes_on() => {}
-                Some(Errno::EAGAIN) if has_ended(device, ends, PAUSE)? => return Ok(()),
+                Some(Errno::EAGAIN) => {
+                    if has_ended(device, ends, pause)? {
+                        ended.get_or_insert_with(Instant::now);
+                    }
+                }
                 // The caller has given up meanwhile.
-                Some(Errno::ENOENT | Errno::EINTR | Errno::EAGAIN) => {}
+                Some(Errno::ENOENT | Errno::EINTR) => {}
                 _ => return Err(fault),
             },
         }
@@ -75,7 +90,7 @@ fn has_ended(device: &File, ends: &UnixStream, most: Duration) -> io::Result<boo
 }
 
 /// Answers a request, where it has an answer.
-fn answer<D: Desk>(device: &mut File, volume: &mut Volume<D>, bytes: &[u8]) -> io::Result<()> {
+fn answer<D: Desk>(device: &mut File, teller: &mut Teller, volume: &mut Volume<D>, bytes: &[u8]) -> io::Result<()> {
     let mut request = match Request::of(bytes) {
         Ok(request) => request,
         Err(_) => return Ok(()),
@@ -90,20 +105,20 @@ fn answer<D: Desk>(device: &mut File, volume: &mut Volume<D>, bytes: &[u8]) -> i
     }
     let (unique, node) = (request.unique, request.node);
     volume.begin_request();
-    let mut is_changed = false;
-    let answer = answer_of(volume, &mut request, &mut is_changed);
-    if is_changed {
-        // Before the answer, so that who goes on behind it is told of the node as it is. The kernel may not have it any more.
-        let _not_known = device.write(&forget_header(node).0);
-    }
-    let head = reply_head(unique, &answer);
-    let said = answer.as_ref().map_or(&[][..], |reply| &reply.0);
-    // The kernel takes a reply whole, or not at all.
-    match device.write_vectored(&[IoSlice::new(&head.0), IoSlice::new(said)]) {
-        // The caller has given up meanwhile.
-        Err(fault) if fault.raw_os_error() == Some(Errno::ENOENT as i32) => Ok(()),
-        written => written.map(|_all| ()),
-    }
+    let told = match request.operation {
+        Operation::Interrupt => volume.interrupt(&mut request),
+        Operation::GetLock | Operation::SetLock | Operation::SetLockWaiting => volume.lock(&mut request),
+        _ => {
+            let mut is_changed = false;
+            let answer = answer_of(volume, &mut request, &mut is_changed);
+            if is_changed {
+                // Before the answer, so that who goes on behind it is told of the node as it is. The kernel may not have it any more.
+                let _not_known = device.write(&forget_header(node).0);
+            }
+            return put_reply(device, unique, &answer);
+        }
+    };
+    told.map_or(Ok(()), |told| teller.tell(told))
 }
 
 /// Takes over what the kernel tells, and wants no answer to. Whether it was that.
@@ -119,7 +134,7 @@ fn is_without_answer<D: Desk>(volume: &mut Volume<D>, request: &mut Request<'_>)
                 }
             }
         }
-        Operation::Interrupt | Operation::Destroy => {}
+        Operation::Destroy => {}
         _ => return false,
     }
     true
@@ -129,7 +144,7 @@ fn is_without_answer<D: Desk>(volume: &mut Volume<D>, request: &mut Request<'_>)
 fn answer_of<D: Desk>(volume: &mut Volume<D>, request: &mut Request<'_>, is_changed: &mut bool) -> Result<Reply, Errno> {
     let node = request.node;
     match request.operation {
-        Operation::Init => init_reply(request),
+        Operation::Init => init_reply(request, volume.begin_locking()),
         Operation::Lookup => {
             let found = volume.lookup(node, request.text()?)?;
             Ok(entry_reply(volume, node, found))
@@ -145,7 +160,10 @@ fn answer_of<D: Desk>(volume: &mut Volume<D>, request: &mut Request<'_>, is_chan
         }
         Operation::StatFileSystem => volume.blocks().map(file_system_reply),
         Operation::Sync => volume.sync().map(|()| Reply::default()),
-        Operation::Flush => volume.flush(node).map(|()| Reply::default()),
+        Operation::Flush => {
+            volume.flush_locks(request)?;
+            volume.flush(node).map(|()| Reply::default())
+        }
         Operation::Access => {
             let mask = request.word()?;
             volume.access(node, mask).map(|()| Reply::default())
@@ -214,14 +232,15 @@ fn answer_of_file<D: Desk>(volume: &mut Volume<D>, request: &mut Request<'_>, is
             let opened = volume.open(node, request.word()?)?;
             *is_changed = opened.is_resized;
             let keeps = if opened.keeps { KEEPS_BYTES } else { 0 };
-            Ok(open_reply(0, if opened.is_direct { ASKS_ALWAYS } else { keeps }))
+            Ok(open_reply(volume.locking.next_handle(), if opened.is_direct { ASKS_ALWAYS } else { keeps }))
         }
         Operation::Create => {
             let (flags, mode) = (request.word()?, request.word()?);
             request.skip(8)?;
             let found = volume.create(node, request.text()?, mode)?;
             let mut reply = entry_reply(volume, node, found);
-            reply.bytes(&open_reply(0, if appends(flags) { ASKS_ALWAYS } else { 0 }).0);
+            let handle = volume.locking.next_handle();
+            reply.bytes(&open_reply(handle, if appends(flags) { ASKS_ALWAYS } else { 0 }).0);
             Ok(reply)
         }
         Operation::Read => {
@@ -237,7 +256,10 @@ fn answer_of_file<D: Desk>(volume: &mut Volume<D>, request: &mut Request<'_>, is
             reply.word(written.count as u32).word(0);
             Ok(reply)
         }
-        _ => volume.close_file(node).map(|()| Reply::default()),
+        _ => {
+            volume.release_locks(request)?;
+            volume.close_file(node).map(|()| Reply::default())
+        }
     }
 }
 

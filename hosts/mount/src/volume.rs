@@ -3,6 +3,7 @@
 use crate::attributes::{now, Clocks, Shape};
 use crate::handles::{Closed, Handles, List, Seen};
 use crate::links::{target_of, LENGTH};
+use crate::locking::Locking;
 use crate::nodes::{Nodes, ROOT};
 use kfs_client::client::Access;
 use kfs_client::desk::Blocks;
@@ -31,7 +32,7 @@ const LOOKS: u32 = 4;
 
 /// What the kernel has of a file's bytes.
 #[derive(Clone, Copy, Debug, PartialEq, Eq)]
-enum Kept {
+pub(crate) enum Kept {
     /// All that it has it was told under a lease that was held without a gap since then; where there is none it has nothing.
     Since(Option<u64>),
     /// Some it was told without a lease.
@@ -69,7 +70,8 @@ pub struct Volume<D> {
     /// What the next who asks that all is kept is told: calls were lost since, and nobody was told.
     owed: Option<Errno>,
     /// What the kernel has of the bytes of each file.
-    kept: HashMap<u64, Kept>,
+    pub(crate) kept: HashMap<u64, Kept>,
+    pub locking: Locking,
     telling: Telling,
     /// Whether the kernel is told once it has to look names up anew.
     tells_losses: bool,
@@ -132,6 +134,7 @@ impl<D: Desk> Volume<D> {
             kept: HashMap::new(),
             telling: Telling::default(),
             tells_losses: false,
+            locking: Locking::default(),
         }
     }
 
@@ -161,6 +164,12 @@ impl<D: Desk> Volume<D> {
         } else {
             failure.errno()
         }
+    }
+
+    /// Who asks next that all is kept is told that it isn't, and people are told why.
+    pub(crate) fn owe(&mut self, text: String, errno: Errno) {
+        self.telling.tell(text);
+        self.owed = Some(errno);
     }
 
     /// The next request begins.
@@ -421,6 +430,7 @@ impl<D: Desk> Volume<D> {
         let number = self.nodes.number(id)?;
         let bytes = self.session.read(number, start, most).map_err(|failure| self.told(&failure))?;
         self.confirm(id, number)?;
+        self.look_at_locks(number)?;
         self.note_kept(id, number)?;
         Ok(bytes)
     }
@@ -505,12 +515,14 @@ impl<D: Desk> Volume<D> {
     /// Writes bytes at an offset, or behind the last byte of the file.
     pub fn write(&mut self, id: u64, offset: u64, bytes: &[u8], flags: u32) -> Result<Written, Errno> {
         let number = self.meant(id)?;
+        self.look_at_locks(number)?;
         self.session.make_room(bytes.len()).map_err(|failure| self.told(&failure))?;
         let written = match flags & APPEND {
             0 => self.session.write(number, offset, bytes).map(|count| (offset, count)),
             _ => self.session.append(number, bytes),
         };
         let (at, count) = written.map_err(|failure| self.told(&failure))?;
+        self.look_at_locks(number)?;
         self.note_kept(id, number)?;
         self.clocks.write(number);
         let is_elsewhere = at != offset;
@@ -525,6 +537,7 @@ impl<D: Desk> Volume<D> {
     }
 
     pub(crate) fn truncate(&mut self, number: u32, size: u64) -> Result<(), Errno> {
+        self.look_at_locks(number)?;
         self.session.truncate(number, size).map_err(|failure| self.told(&failure))?;
         self.nodes.forget_size(number);
         self.clocks.write(number);
