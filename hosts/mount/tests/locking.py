@@ -8,6 +8,7 @@ import sqlite3
 import struct
 import time
 
+import beside
 from mounts import SOON, USER, can_mount, has_look_ups, in_child, make_shared, mounted_by, unmount, wait, words_for
 from running import Daemon, user
 
@@ -301,6 +302,7 @@ def a_database(folder, uid, path):
     base.execute("create table rows (uid integer, number integer)")
     base.close()
     os.chmod(path, 0o666)
+    beside.sync(path)
 
 
 def put_all(folders, mode, count):
