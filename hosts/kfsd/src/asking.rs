@@ -1,13 +1,13 @@
-//! What kfsd asks the desk in a client's name before it answers the client: whose a node is whose time is set, and where the
-//! path of a lease leads.
+//! What kfsd asks the desk in a client's name before it answers the client: whose a node is on which something is set, and where
+//! the path of a lease leads.
 //!
 //! The desk gives a lease by path to whoever may search the directories. Then one who may do nothing with a node would keep its
 //! owner from it. So kfsd finds the node, and asks for the lease by its number, for which the desk asks permission on the node.
 
-use crate::calls::{drop_of, lease_by_number, lease_by_path, time_call, Setting, Told, Why, Wish};
+use crate::calls::{drop_of, lease_by_number, lease_by_path, marks_call, time_call, Marking, Setting, Told, Why, Wish};
 use crate::connection::Shared;
 use crate::following::Doubt;
-use crate::frames::{name_look_up, node_in, node_look_up, number_in, Found, Refusal, Reply, TimeSet};
+use crate::frames::{name_look_up, node_in, node_look_up, number_in, Found, Given, HowSet, Refusal, Reply};
 use crate::queue::Answer;
 use crate::users::{Account, User};
 use std::sync::Arc;
@@ -61,17 +61,33 @@ pub async fn node_at(shared: &Shared, client: u32, number: u32) -> Result<Option
     said.found().and_then(node_in).ok_or(Instead::Said(said.said))
 }
 
-/// Sets when a node was modified, where the client may. The desk tells who owns it, and keeps the time among its calls.
-pub async fn set_time(shared: Arc<Shared>, account: Arc<Account>, node: u32, time: i64) -> Result<TimeSet, Instead> {
+/// Sets something on a node, where the client may. The desk tells who owns it, and keeps what is set among its calls.
+pub async fn set_on(shared: Arc<Shared>, account: Arc<Account>, node: u32, given: Given) -> Result<HowSet, Instead> {
     let user = &account.user;
-    match node_at(&shared, user.client, node).await? {
-        None => return Ok(TimeSet::NoNode),
-        Some(found) if found.owner != user.uid && !user.privileged => return Ok(TimeSet::NotOwner),
-        Some(_) => {}
+    let found = said_by(shared.queue.push_look(user.client, node)).await?;
+    match found.found().and_then(node_in) {
+        None => return Err(Instead::Said(found.said)),
+        Some(None) => return Ok(HowSet::NoNode),
+        Some(Some(found)) if found.owner != user.uid && !user.privileged => return Ok(HowSet::NotOwner),
+        Some(Some(_)) => {}
     }
+    match given {
+        Given::Time(time) => set_time(&shared, node, time).await,
+        Given::Marks(marks) => set_marks(&shared, node, Marking { marks, born: found.born().unwrap_or(0) }).await,
+    }
+}
+
+async fn set_time(shared: &Shared, node: u32, time: i64) -> Result<HowSet, Instead> {
     let is_first = shared.following.times().of(node).is_none();
     told_by(shared.queue.push_own(time_call(node, Setting { time, is_first }))).await?;
-    Ok(TimeSet::Set)
+    Ok(HowSet::Set)
+}
+
+async fn set_marks(shared: &Shared, node: u32, set: Marking) -> Result<HowSet, Instead> {
+    told_by(shared.queue.push_own(marks_call(node, set))).await?;
+    // Where it is gone meanwhile, another one may have its number.
+    let is_same = shared.following.times().of(node).map_or(false, |stamp| stamp.born == set.born);
+    Ok(if is_same { HowSet::Set } else { HowSet::NoNode })
 }
 
 /// Where a path leads, and the directory with its last name.

@@ -1,6 +1,7 @@
 //! Calls of a desk and their answers as bytes (docs/FORMATS.md), as far as kfsd follows what the desk does.
 
 use crate::bytes::Bytes;
+use std::collections::HashSet;
 
 const SUBMIT: u8 = 1;
 const LEASE: u8 = 2;
@@ -9,8 +10,12 @@ const TICK: u8 = 4;
 const MIGRATE: u8 = 5;
 const LEASE_BY_NUMBER: u8 = 6;
 
-/// No block has this tier: it says that a call of moves sets a time.
+/// No block has these tiers: they say that a call of moves sets a time, or marks.
 const TIME_TIER: u8 = 0xfe;
+const MARKS_TIER: u8 = 0xfd;
+
+/// How many bytes of a call's front and of its end its print is made of.
+const SAMPLE: usize = 1024;
 
 /// A call for a lease.
 #[derive(Clone, Copy, Debug, PartialEq, Eq)]
@@ -26,6 +31,8 @@ pub struct Wish {
 /// What a log does to a node, as its plan says.
 #[derive(Clone, Copy, Debug, PartialEq, Eq)]
 pub enum Change {
+    /// It is made.
+    Made,
     /// The bytes of a file, or the names of a directory.
     Bytes,
     /// It is new, or its header is another.
@@ -34,6 +41,8 @@ pub enum Change {
     Gone,
     /// Its owner sets when it was modified.
     Time(Setting),
+    /// Its owner sets its marks.
+    Marks(Marking),
 }
 
 /// When a node was modified, as its owner sets it.
@@ -45,6 +54,32 @@ pub struct Setting {
     pub is_first: bool,
 }
 
+/// Marks that an owner sets on a node, and when the node was made that it means: else another one has its number meanwhile.
+#[derive(Clone, Copy, Debug, PartialEq, Eq)]
+pub struct Marking {
+    pub marks: u8,
+    pub born: i64,
+}
+
+/// A log, as far as it is followed.
+#[derive(Clone, Debug, PartialEq, Eq)]
+pub struct Log {
+    /// Names all that the log changes, where it is right. It is read once the log has landed: until then its rows would take several
+    /// times the memory of its bytes.
+    plan: Vec<u8>,
+    /// The nodes that the log makes, which the plan doesn't tell from those that it changes.
+    made: Vec<u32>,
+    print: u64,
+}
+
+/// What a call has changed.
+#[derive(Clone, Debug, PartialEq, Eq)]
+pub struct Landing {
+    pub changes: Vec<(u32, Change)>,
+    /// Tells the call from others.
+    pub print: u64,
+}
+
 /// What kfsd follows of a call.
 #[derive(Clone, Debug, PartialEq, Eq)]
 pub enum Note {
@@ -52,11 +87,13 @@ pub enum Note {
     Drop {
         client: u32,
     },
-    /// A log, by the bytes of its plan. A plan that is right names all that the log changes. It is read once the log has landed:
-    /// until then its rows would take several times the memory of its bytes.
-    Submit(Vec<u8>),
+    Submit(Log),
     /// kfsd's own call that keeps the time which an owner sets on a node.
     Time(u32, Setting),
+    /// The same of marks.
+    Marks(u32, Marking),
+    /// The look-up of a node's header, behind which kfsd tells what it keeps of the node.
+    Look(u32),
     /// Nothing is followed, or it is told by the answer.
     Nothing,
 }
@@ -78,26 +115,32 @@ impl Note {
         }
     }
 
-    /// What it changes where it is done.
-    pub fn changes(&self) -> Vec<(u32, Change)> {
-        match self {
-            Note::Submit(plan) => changes_in(plan).unwrap_or_default(),
-            Note::Time(node, set) => vec![(*node, Change::Time(*set))],
-            _ => Vec::new(),
-        }
+    /// What it changes where it is done; none where it changes nothing.
+    pub fn landing(&self) -> Option<Landing> {
+        let landing = match self {
+            Note::Submit(log) => Landing { changes: log.changes(), print: log.print },
+            Note::Time(node, set) => {
+                Landing { changes: vec![(*node, Change::Time(*set))], print: print_of(&time_call(*node, *set)) }
+            }
+            Note::Marks(node, set) => {
+                Landing { changes: vec![(*node, Change::Marks(*set))], print: print_of(&marks_call(*node, *set)) }
+            }
+            _ => return None,
+        };
+        Some(landing).filter(|landing| !landing.changes.is_empty())
     }
 
     fn read(body: &[u8]) -> Option<Note> {
         let mut bytes = Bytes(body);
         let tag = bytes.byte()?;
         if tag == MIGRATE {
-            return time_in(body);
+            return set_in(body);
         }
         let client = bytes.word()?;
         match tag {
             SUBMIT => {
-                let _log = bytes.counted()?;
-                Some(Note::Submit(bytes.counted()?.to_vec()))
+                let (log, plan) = (bytes.counted()?, bytes.counted()?);
+                Some(Note::Submit(Log { plan: plan.to_vec(), made: made_in(log), print: print_of(body) }))
             }
             LEASE | LEASE_BY_NUMBER => {
                 let (writes, end) = (bytes.byte()? == 1, bytes.long()?);
@@ -111,6 +154,67 @@ impl Note {
             _ => None,
         }
     }
+}
+
+/// A number by which a call is told from others: FNV-1a of its length, its front and its end.
+fn print_of(body: &[u8]) -> u64 {
+    let (front, end) = (&body[..body.len().min(SAMPLE)], &body[body.len() - body.len().min(SAMPLE)..]);
+    let bytes = (body.len() as u64).to_be_bytes();
+    let all = bytes.iter().chain(front).chain(end);
+    all.fold(0xcbf2_9ce4_8422_2325, |hash, byte| (hash ^ u64::from(*byte)).wrapping_mul(0x0000_0100_0000_01b3))
+}
+
+impl Log {
+    fn changes(&self) -> Vec<(u32, Change)> {
+        let found = match changes_in(&self.plan) {
+            Some(found) => found,
+            None => return Vec::new(),
+        };
+        let rows: HashSet<u32> = found.iter().filter(|(_, change)| *change == Change::Header).map(|(node, _)| *node).collect();
+        // One without a row is gone again by the end of the log.
+        let made = self.made.iter().filter(|node| rows.contains(node)).map(|node| (*node, Change::Made));
+        made.chain(found.iter().copied()).collect()
+    }
+}
+
+/// The numbers of the nodes that a log makes, each once. Of what is no log those before the fault.
+fn made_in(log: &[u8]) -> Vec<u32> {
+    let mut bytes = Bytes(log);
+    let _magic_version_and_client = bytes.take(9);
+    let count = bytes.half().unwrap_or(0);
+    let mut found: Vec<u32> = (0..count).map_while(|_| entry_in(&mut bytes)).flatten().collect();
+    found.sort_unstable();
+    found.dedup();
+    found
+}
+
+/// The node that the next entry makes, where it makes one; none where no entry follows.
+fn entry_in(bytes: &mut Bytes<'_>) -> Option<Option<u32>> {
+    match bytes.byte()? {
+        1 => {
+            let (_directory, _name) = (bytes.word()?, named(bytes)?);
+            let node = bytes.word()?;
+            let _kind_and_mode = bytes.take(3)?;
+            return Some(Some(node));
+        }
+        2 => {
+            let _node_and_offset = bytes.take(12)?;
+            let _payload = bytes.counted()?;
+        }
+        3 => drop(bytes.take(12)?),
+        4 => drop((bytes.take(8)?, named(bytes)?)),
+        5 => drop((bytes.word()?, named(bytes)?, bytes.byte()?)),
+        6 => drop((bytes.word()?, named(bytes)?, bytes.word()?, named(bytes)?)),
+        7 => drop(bytes.take(6)?),
+        8 => drop(bytes.take(8)?),
+        _ => return None,
+    }
+    Some(None)
+}
+
+fn named<'a>(bytes: &mut Bytes<'a>) -> Option<&'a [u8]> {
+    let length = bytes.byte()?;
+    bytes.take(length.into())
 }
 
 /// What a plan changes, each node as often as it has rows of different kinds.
@@ -150,24 +254,44 @@ fn put(found: &mut Vec<(u32, Change)>, node: u32, change: Change) {
     }
 }
 
-/// The call that keeps the time which an owner sets on a node: a call of moves that the desk refuses and keeps, since no node
-/// has the number 0.
+/// The call that keeps the time which an owner sets on a node.
 pub fn time_call(node: u32, set: Setting) -> Vec<u8> {
+    refused_moves(TIME_TIER, node, set.is_first.into(), set.time)
+}
+
+/// The call that keeps the marks which an owner sets on a node.
+pub fn marks_call(node: u32, set: Marking) -> Vec<u8> {
+    refused_moves(MARKS_TIER, node, set.marks.into(), set.born)
+}
+
+/// A call of moves that the desk refuses and keeps, since no node has the number 0.
+fn refused_moves(tier: u8, node: u32, word: u32, time: i64) -> Vec<u8> {
     let mut body = vec![MIGRATE, 0, 2, 0, 0, 0, 0];
     body.extend_from_slice(&node.to_be_bytes());
-    body.push(TIME_TIER);
-    body.extend_from_slice(&u32::from(set.is_first).to_be_bytes());
-    body.extend_from_slice(&set.time.to_be_bytes());
-    body.push(TIME_TIER);
+    body.push(tier);
+    body.extend_from_slice(&word.to_be_bytes());
+    body.extend_from_slice(&time.to_be_bytes());
+    body.push(tier);
     body.extend_from_slice(&[0; 4]);
     body
 }
 
-fn time_in(body: &[u8]) -> Option<Note> {
+/// What such a call sets.
+fn set_in(body: &[u8]) -> Option<Note> {
     let mut bytes = Bytes(body.get(7..)?);
-    let (node, _tier, first, time) = (bytes.word()?, bytes.byte()?, bytes.word()?, bytes.long()? as i64);
-    let set = Setting { time, is_first: first == 1 };
-    (body == time_call(node, set)).then_some(Note::Time(node, set))
+    let (node, tier, word, time) = (bytes.word()?, bytes.byte()?, bytes.word()?, bytes.long()? as i64);
+    let (note, call) = match tier {
+        TIME_TIER => {
+            let set = Setting { time, is_first: word == 1 };
+            (Note::Time(node, set), time_call(node, set))
+        }
+        MARKS_TIER => {
+            let set = Marking { marks: u8::try_from(word).ok()?, born: time };
+            (Note::Marks(node, set), marks_call(node, set))
+        }
+        _ => return None,
+    };
+    (body == call).then_some(note)
 }
 
 /// The call that sets the moment.
@@ -316,6 +440,65 @@ mod tests {
     }
 
     #[test]
+    fn marks_that_owners_set_are_read() {
+        for born in [i64::MIN, 0, 258, i64::MAX] {
+            let set = Marking { marks: 1, born };
+            let call = marks_call(7, set);
+            assert_eq!(Note::of(&call), Note::Marks(7, set));
+            assert_eq!(Note::of(&call).landing().unwrap().changes, [(7, Change::Marks(set))]);
+            for at in (0..7).chain([11, 12, 13, 14, 24, 28]) {
+                let mut other = call.clone();
+                other[at] ^= 0x40;
+                assert_eq!(Note::of(&other), Note::Nothing, "{at}");
+            }
+        }
+    }
+
+    #[test]
+    fn a_log_says_which_nodes_it_makes() {
+        let create = |node| [&[1, 0, 0, 0, 1, 2, b'a', b'b'][..], &u32::to_be_bytes(node), &[0, 1, 0xa4]].concat();
+        let others = [
+            [&[2, 0, 0, 0, 5][..], &[0; 8], &[0, 0, 0, 3, 1, 0, 0]].concat(),
+            [&[3][..], &[0; 12]].concat(),
+            [&[4][..], &[0; 8], &[1, b'c']].concat(),
+            vec![5, 0, 0, 0, 1, 1, b'c', 0],
+            [&[6, 0, 0, 0, 1, 1, b'c'][..], &[0, 0, 0, 1, 2, b'd', b'e']].concat(),
+            vec![7, 0, 0, 0, 5, 1, 0xa4],
+            [&[8][..], &[0; 8]].concat(),
+        ];
+        let entries = [&[create(9)][..], &others, &[create(5), create(9)]].concat();
+        let log = [&b"KLOG\x02\0\0\0\x07"[..], &(entries.len() as u16).to_be_bytes(), &entries.concat()].concat();
+        assert_eq!(made_in(&log), [5, 9]);
+        assert_eq!(made_in(&log[..log.len() - 1]), [5, 9]);
+        assert_eq!(made_in(&log[..log.len() - create(9).len() - 1]), [9]);
+        for other in [&log[..9], &log[..13], &[]] {
+            assert_eq!(made_in(other), Vec::<u32>::new());
+        }
+    }
+
+    #[test]
+    fn what_is_made_is_told_from_what_changes() {
+        let row = |node: u8, state: u8| [vec![0, 0, 0, node, state], vec![7; if state == 0 { 0 } else { 20 }]].concat();
+        let plan = [b"KPLN\x01\0\0\0\x03\0\0\0\0".to_vec(), row(4, 0), row(5, 1), row(6, 1)].concat();
+        let log = Log { plan, made: vec![5, 7], print: 0 };
+        assert_eq!(log.changes(), [(5, Change::Made), (5, Change::Header), (6, Change::Header), (4, Change::Gone)]);
+    }
+
+    #[test]
+    fn calls_have_prints() {
+        let long = [vec![1; SAMPLE], vec![2; 9], vec![3; SAMPLE]].concat();
+        let mut prints = vec![print_of(&[]), print_of(&[0]), print_of(&[1; SAMPLE]), print_of(&long)];
+        for at in [0, SAMPLE - 1, SAMPLE + 9, long.len() - 1] {
+            let mut other = long.clone();
+            other[at] ^= 1;
+            prints.push(print_of(&other));
+        }
+        prints.sort_unstable();
+        prints.dedup();
+        assert_eq!(prints.len(), 8);
+    }
+
+    #[test]
     fn a_plan_says_what_changes() {
         let mut plan = b"KPLN\x01\0\x02\0\x02\0\0\0\x03".to_vec();
         for name in [b'a', b'b'] {
@@ -331,8 +514,8 @@ mod tests {
         call.extend_from_slice(&(plan.len() as u32).to_be_bytes());
         call.extend_from_slice(&plan);
         let changes = vec![(1, Change::Bytes), (5, Change::Header), (5, Change::Bytes), (4, Change::Gone)];
-        assert_eq!(Note::of(&call), Note::Submit(plan.clone()));
-        assert_eq!(Note::of(&call).changes(), changes);
+        assert_eq!(Note::of(&call), Note::Submit(Log { plan: plan.clone(), made: vec![], print: print_of(&call) }));
+        assert_eq!(Note::of(&call).landing(), Some(Landing { changes, print: print_of(&call) }));
         for cut in 1..plan.len() {
             assert_eq!(changes_in(&plan[..cut]), None);
         }

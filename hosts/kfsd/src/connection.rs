@@ -3,15 +3,15 @@
 //! What it waits for is its own: its reader's bytes, its writer's room, and places of its own user. So it holds up no other user.
 
 use crate::allowance::Allowance;
-use crate::asking::{leasing_of, set_time, Instead, Leasing};
+use crate::asking::{leasing_of, set_on, Instead, Leasing};
 use crate::calls::{path_in, Note, Wish};
 use crate::cluster::term::Term;
 use crate::config::{Duties, Limits, FRAME_COST};
 use crate::figures::Figures;
 use crate::following::Following;
 use crate::frames::{
-    answer_in, asked, found_in, moment, reply, shorten, times, told_again, wanted, welcome, Asked, Head, Refusal, HEAD,
-    NUMBERED_HEAD,
+    answer_in, asked, found_in, moment, node_look_up, reply, shorten, times, told_again, wanted, welcome, Asked, Head, Refusal,
+    HEAD, NUMBERED_HEAD,
 };
 use crate::locking::{lock, Locking};
 use crate::locks::Line;
@@ -407,8 +407,11 @@ impl<R: AsyncRead + Unpin> Reader<'_, R> {
         if matches!(what, Asked::Of(_) | Asked::Numbered(..)) {
             self.account.calls.pause().await;
         }
+        if let Asked::Stamped(node) = what {
+            body = node_look_up(node);
+        }
         let (mut body, note) = match self.leased(body).await {
-            Ok(found) => found,
+            Ok((body, note)) => (body, what.look().or(note)),
             Err(instead) => {
                 if let (Instead::Said(said), Some(begun)) = (&instead, &mut begun) {
                     begun.end(said);
@@ -479,7 +482,7 @@ impl<R: AsyncRead + Unpin> Reader<'_, R> {
     fn said_here(&self, number: u32, what: Asked) -> Option<Vec<u8>> {
         let (user, following) = (&self.account.user, &self.shared.following);
         match what {
-            Asked::Hello => Some(welcome(number, user.client, user.grant)),
+            Asked::Hello => Some(welcome(number, user)),
             Asked::Moment => Some(moment(number, following.clock.now(), self.shared.duties().lease_seconds)),
             Asked::Times(node) => Some(times(number, following.times().of(node))),
             Asked::Outcome(own) => Some(match following.outcomes.look(user.client, own) {
@@ -496,10 +499,10 @@ impl<R: AsyncRead + Unpin> Reader<'_, R> {
         let (shared, client) = (Arc::clone(self.shared), self.account.user.client);
         match what {
             Asked::Wants(behind) => Some(Said::Later(Box::pin(wants_of(shared, number, client, behind)))),
-            Asked::SetTime(node, time) => {
-                let setting = set_time(shared, Arc::clone(&self.account), node, time);
+            Asked::Set(node, given) => {
+                let setting = set_on(shared, Arc::clone(&self.account), node, given);
                 let reply =
-                    async move { setting.await.map_or_else(|instead| instead.reply(number), |told| told.reply(number)) };
+                    async move { setting.await.map_or_else(|instead| instead.reply(number), |told| given.reply(number, told)) };
                 Some(Said::Later(Box::pin(reply)))
             }
             Asked::Lock(ask) => Some(Said::Later(Box::pin(lock(shared, Arc::clone(&self.account), self.line, number, ask)))),

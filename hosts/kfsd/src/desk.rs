@@ -1,6 +1,6 @@
 //! `kfs_serve`: the process, its two pipes, and a new one where it ends before its time.
 
-use crate::calls::{Note, Told};
+use crate::calls::{Landing, Note, Told};
 use crate::clients::{Clients, Refusal};
 use crate::cluster::ClusterFault;
 use crate::connection::Shared;
@@ -15,7 +15,7 @@ use crate::log;
 use crate::meter::Meter;
 use crate::queue::{Answer, Batch, Sent};
 use crate::store::{Changes, Store, StoreFault};
-use crate::times;
+use crate::times::{self, Times};
 use crate::users::FRONT;
 use std::collections::{HashMap, HashSet, VecDeque};
 use std::ffi::OsString;
@@ -225,12 +225,8 @@ impl Desk {
             if let Some(number) = sent.numbered {
                 following.outcomes.end(sent.client, number, answer_of(sent).map(Vec::as_slice));
             }
-            // One that is like it may have been made before. Then its time is later than it was.
-            let changes = sent.note.changes();
-            if !changes.is_empty() && found.recent.iter().any(|made| changes == *made) {
-                following.times().changed(&changes, times::now());
-            }
         }
+        follow_left(&left, &found.recent, &mut following.times());
         self.keep(shared).await?;
         for sent in left {
             let is_own = sent.is_own();
@@ -453,12 +449,29 @@ async fn keep(store: &Arc<Mutex<Store>>, changes: Changes) -> Result<(), DeskFau
 pub fn recall(folder: &Path, store: &mut Store, following: &Following) -> Result<(), DeskFault> {
     let found = following.read(folder, |_, _| true).map_err(DeskFault::Folder)?;
     following.outcomes.begin_with(store.outcomes()?, found.outcomes.into_values().flatten().collect());
-    following.times().begin_with(store.stamps()?);
+    let mut times = following.times();
+    times.begin_with(store.known()?);
     if store.begin()? {
-        // The kfsd before may not have kept these.
-        found.recent.iter().for_each(|changes| following.times().changed(changes, times::now()));
+        // The kfsd before may not have kept those behind the last one that is known.
+        let known = times.known_of(&found.recent).unwrap_or(0);
+        found.recent.iter().skip(known).for_each(|landing| times.changed_again(landing, times::now()));
     }
+    times.go_on_behind(&found.recent);
     Ok(())
+}
+
+/// Follows those of the calls that a process has left which have landed.
+fn follow_left(left: &VecDeque<Sent>, recent: &VecDeque<Landing>, times: &mut Times) {
+    match times.known_of(recent) {
+        Some(known) => recent.iter().skip(known).for_each(|landing| times.changed(landing, times::now())),
+        None => {
+            let landings = left.iter().filter_map(|sent| sent.note.landing());
+            // One that is like it may have been made before. Then its time is later than it was.
+            let made = landings.filter(|landing| recent.contains(landing));
+            made.for_each(|landing| times.changed(&landing, times::now()));
+        }
+    }
+    times.go_on_behind(recent);
 }
 
 /// What a status says that a new start wouldn't mend.
@@ -508,10 +521,7 @@ async fn read_replies(
             flight.ended();
         }
         parts.push(part_of(&sent, &reply));
-        if let Some(asker) = sent.asker {
-            // Where the connection is gone nobody hears it.
-            let _ = asker.to.send(Answer::Said(reply));
-        }
+        hand_out(sent, reply, shared);
         if from.buffer().is_empty() {
             let (worked, waited) = meter.lap(flight.busy_since());
             shared.queue.measured(&parts, worked, waited);
@@ -554,6 +564,17 @@ pub fn take_over(sent: &Sent, reply: &Reply, time: i64, shared: &Shared) {
     if sent.is_long() {
         let is_done = matches!(reply.answer().map(Told::of), Some(Told::Landed | Told::Leased(_)));
         shared.queue.long_answered(sent.client, sent.length, is_done);
+    }
+}
+
+/// Hands a reply to who waits for it, once all before it is taken over: what kfsd keeps of a node is as the desk had it then.
+pub fn hand_out(sent: Sent, mut reply: Reply, shared: &Shared) {
+    if let Note::Look(node) = sent.note {
+        reply.add(shared.following.times().of(node));
+    }
+    if let Some(asker) = sent.asker {
+        // Where the connection is gone nobody hears it.
+        let _ = asker.to.send(Answer::Said(reply));
     }
 }
 

@@ -1,6 +1,6 @@
 //! What kfsd knows of the desk: it follows each call and its answer, and reads the files before `kfs_serve` opens them.
 
-use crate::calls::{Change, Note, Told};
+use crate::calls::{Change, Landing, Note, Told};
 use crate::clock::Clock;
 use crate::journal::{self, Part};
 use crate::leases::Leases;
@@ -28,8 +28,8 @@ const DOUBTS: usize = 4096;
 pub struct Found {
     /// How numbered calls in them ended: of each client the last ones.
     pub outcomes: HashMap<u32, VecDeque<Outcome>>,
-    /// What the last logs that have landed changed, and the times that owners have set between them.
-    pub recent: VecDeque<Vec<(u32, Change)>>,
+    /// The last logs that have landed, and what owners have set between them.
+    pub recent: VecDeque<Landing>,
 }
 
 impl Found {
@@ -43,11 +43,11 @@ impl Found {
     }
 }
 
-/// What a call has changed, by its answer. kfsd's own call for a time has to be kept, and is always refused.
-fn changes_of(note: &Note, told: Told) -> Vec<(u32, Change)> {
+/// What a call has changed, by its answer. kfsd's own call for a time or marks has to be kept, and is always refused.
+fn landing_of(note: &Note, told: Told) -> Option<Landing> {
     match note {
-        Note::Submit(_) if told != Told::Landed => Vec::new(),
-        _ => note.changes(),
+        Note::Submit(_) if told != Told::Landed => None,
+        _ => note.landing(),
     }
 }
 
@@ -141,8 +141,8 @@ impl Following {
 
     /// Takes what isn't kept yet.
     pub fn take_unsaved(&self) -> Changes {
-        let stamps = self.times().take_unsaved();
-        Changes { stamps, ..self.outcomes.take_unsaved() }
+        let (stamps, landed) = self.times().take_unsaved();
+        Changes { stamps, landed, ..self.outcomes.take_unsaved() }
     }
 
     /// Returns when a log had too few free places.
@@ -188,38 +188,40 @@ impl Following {
     pub fn read(&self, folder: &Path, is_asked: impl Fn(u32, u64) -> bool) -> io::Result<Found> {
         let (mut leases, mut found, mut finder) = (Leases::default(), Found::default(), Finder::default());
         let (mut lengths, mut length, mut space) = (VecDeque::new(), 0, Space::default());
+        // Of each call, so that they go as their lengths do.
+        let mut recent = VecDeque::new();
         journal::read(folder, |part| match part {
             Part::State(state) => (leases, space) = (state, Space::default()),
             Part::Node { number, owner, size } => space.put(number, Held::new(owner, size)),
             Part::Call(call, answer) => {
                 let (note, told) = (Note::of(call), Told::of(answer));
-                let changes = changes_of(&note, told);
+                let landing = landing_of(&note, told);
                 leases.apply(&note, told);
-                leases.landed(&changes);
+                landing.iter().for_each(|landing| leases.landed(&landing.changes));
                 space.made(call, answer);
                 if let Some(outcome) = finder.next(call, answer).filter(|one| is_asked(one.client, one.number)) {
                     found.put(outcome);
                 }
-                found.recent.push_back(changes);
+                recent.push_back(landing);
                 lengths.push_back(call.len());
                 length += call.len();
                 while length - lengths.front().copied().unwrap_or(0) > RECENT {
                     length -= lengths.pop_front().unwrap_or(0);
-                    found.recent.pop_front();
+                    recent.pop_front();
                 }
             }
         })?;
+        found.recent = recent.into_iter().flatten().collect();
         self.clock.at_least(leases.moment);
         *self.leases() = leases;
         *self.space() = space;
-        found.recent.retain(|changes| !changes.is_empty());
         Ok(found)
     }
 
     /// Takes over what a call has done that was answered at this time. Answers come in the order of the calls.
     pub fn answered(&self, note: &Note, answer: &[u8], time: i64) {
         let told = Told::of(answer);
-        let changes = changes_of(note, told);
+        let landing = landing_of(note, told);
         let mut leases = self.leases();
         match (note, told) {
             (Note::Lease(wish), Told::Leased(node)) => {
@@ -235,12 +237,12 @@ impl Following {
             _ => {}
         }
         leases.apply(note, told);
-        leases.landed(&changes);
-        for (node, _) in changes.iter().filter(|(_, change)| *change == Change::Gone) {
-            self.locks().gone(*node);
-        }
-        if !changes.is_empty() {
-            self.times().changed(&changes, time);
+        if let Some(landing) = &landing {
+            leases.landed(&landing.changes);
+            for (node, _) in landing.changes.iter().filter(|(_, change)| *change == Change::Gone) {
+                self.locks().gone(*node);
+            }
+            self.times().changed(landing, time);
         }
         if let Note::Lease(wish) = note {
             let noted = self.wants().apply(wish, told, &leases, Instant::now());

@@ -1,7 +1,9 @@
 //! Frames and replies (docs/PROTOCOL.md), and what kfsd itself refuses (docs/KFSD.md).
 
+use crate::calls::Note;
 use crate::locks::Ask;
 use crate::times::Stamp;
+use crate::users::User;
 use crate::wants::News;
 use std::io;
 use tokio::io::{AsyncRead, AsyncReadExt};
@@ -70,11 +72,19 @@ const SET_TIME: u8 = 0xf5;
 
 /// The tag before a question for a lock, and the answer's.
 pub const LOCK: u8 = 0xf7;
+/// The tag before a node (4): its header, and what kfsd keeps of it.
+const STAMPED: u8 = 0xf6;
+
+/// The tag before a node (4) and marks (1): its owner sets its marks. And the answer's.
+const SET_MARKS: u8 = 0xf8;
 
 /// The tag of a look-up of a node's header, and of what it finds.
 const NODE: u8 = 0x40;
 const FOUND_NODE: u8 = 1;
 const FILE: u8 = 1;
+
+/// How many bytes a reply that has found a node has behind its head.
+const HEADER: usize = 23;
 
 /// The tag of what the look-up of a name finds.
 const FOUND_NAME: u8 = 5;
@@ -162,12 +172,16 @@ pub fn reply(number: u32, said: &[u8]) -> Vec<u8> {
     bytes
 }
 
-/// The reply to a hello: the client's number, and the first and last number of its grant.
-pub fn welcome(number: u32, client: u32, grant: [u32; 2]) -> Vec<u8> {
+/// The reply to a hello: the client's number, the first and last number of its grant, and who it is.
+pub fn welcome(number: u32, user: &User) -> Vec<u8> {
     let mut said = vec![WELCOME];
-    for word in [client, grant[0], grant[1]] {
+    for word in [user.client, user.grant[0], user.grant[1], user.uid, user.gid] {
         said.extend_from_slice(&word.to_be_bytes());
     }
+    said.push(user.privileged.into());
+    // There are 16 at most.
+    said.extend_from_slice(&(user.groups.len() as u16).to_be_bytes());
+    user.groups.iter().for_each(|group| said.extend_from_slice(&group.to_be_bytes()));
     reply(number, &said)
 }
 
@@ -218,19 +232,31 @@ pub fn times(number: u32, stamp: Option<Stamp>) -> Vec<u8> {
     reply(number, &said)
 }
 
-/// Why a time is set or isn't.
+/// What a client sets on a node that it owns.
 #[derive(Clone, Copy, Debug, PartialEq, Eq)]
-pub enum TimeSet {
+pub enum Given {
+    /// When it was modified.
+    Time(i64),
+    Marks(u8),
+}
+
+/// Why that is set or isn't.
+#[derive(Clone, Copy, Debug, PartialEq, Eq)]
+pub enum HowSet {
     NoNode = 0,
     Set = 1,
     /// The client neither owns the node nor is privileged.
     NotOwner = 2,
 }
 
-impl TimeSet {
-    /// The reply to the frame of this number.
-    pub fn reply(self, number: u32) -> Vec<u8> {
-        reply(number, &[SET_TIME, self as u8])
+impl Given {
+    /// The reply that tells how that ended.
+    pub fn reply(self, number: u32, how: HowSet) -> Vec<u8> {
+        let tag = match self {
+            Given::Time(_) => SET_TIME,
+            Given::Marks(_) => SET_MARKS,
+        };
+        reply(number, &[tag, how as u8])
     }
 }
 
@@ -289,8 +315,10 @@ pub enum Asked {
     Wants(u64),
     /// When this node was changed. kfsd answers.
     Times(u32),
-    /// The owner of this node sets when it was modified. kfsd answers, and asks the desk before.
-    SetTime(u32, i64),
+    /// The owner of this node sets something on it. kfsd answers, and asks the desk before.
+    Set(u32, Given),
+    /// The header of this node, and what kfsd keeps of it.
+    Stamped(u32),
     /// A lock. kfsd answers, and asks the desk before.
     Lock(Ask),
     /// How the call of this number ended. kfsd answers.
@@ -305,6 +333,16 @@ pub enum Asked {
     Other,
 }
 
+impl Asked {
+    /// What kfsd follows of a look-up whose reply it adds to.
+    pub fn look(self) -> Option<Note> {
+        match self {
+            Asked::Stamped(node) => Some(Note::Look(node)),
+            _ => None,
+        }
+    }
+}
+
 /// Looks at the tag of a body, and at the client behind it.
 pub fn asked(body: &[u8]) -> Asked {
     match *body {
@@ -313,9 +351,12 @@ pub fn asked(body: &[u8]) -> Asked {
         [WANTED, s0, s1, s2, s3, s4, s5, s6, s7] => Asked::Wants(u64::from_be_bytes([s0, s1, s2, s3, s4, s5, s6, s7])),
         [TIMES, a, b, c, d] => Asked::Times(u32::from_be_bytes([a, b, c, d])),
         [SET_TIME, a, b, c, d, t0, t1, t2, t3, t4, t5, t6, t7] => {
-            Asked::SetTime(u32::from_be_bytes([a, b, c, d]), i64::from_be_bytes([t0, t1, t2, t3, t4, t5, t6, t7]))
+            let time = i64::from_be_bytes([t0, t1, t2, t3, t4, t5, t6, t7]);
+            Asked::Set(u32::from_be_bytes([a, b, c, d]), Given::Time(time))
         }
         [LOCK, ref question @ ..] => Ask::of(question).map_or(Asked::Other, Asked::Lock),
+        [STAMPED, a, b, c, d] => Asked::Stamped(u32::from_be_bytes([a, b, c, d])),
+        [SET_MARKS, a, b, c, d, marks] => Asked::Set(u32::from_be_bytes([a, b, c, d]), Given::Marks(marks)),
         [NUMBERED, n0, n1, n2, n3, n4, n5, n6, n7, ref call @ ..] => {
             let number = u64::from_be_bytes([n0, n1, n2, n3, n4, n5, n6, n7]);
             match asked(call) {
@@ -373,6 +414,22 @@ impl Reply {
             [FOUND, found @ ..] => Some(found),
             _ => None,
         }
+    }
+
+    /// When the node was made that was found, where that stands behind its header.
+    pub fn born(&self) -> Option<i64> {
+        let born = self.said.get(HEADER..HEADER + 8)?;
+        born.try_into().ok().map(i64::from_be_bytes)
+    }
+
+    /// Puts what is kept of a node behind its header. Where there is no such node, or the frame is refused, the reply stays.
+    pub fn add(&mut self, stamp: Option<Stamp>) {
+        if !matches!(*self.said, [FOUND, FOUND_NODE, kind, ..] if kind != 0) {
+            return;
+        }
+        let times = stamp.map_or([0; 3], |stamp| [stamp.born, stamp.told(), stamp.changed]);
+        times.iter().for_each(|time| self.said.extend_from_slice(&time.to_be_bytes()));
+        self.said.push(stamp.map_or(0, |stamp| stamp.marks));
     }
 
     /// The answer, without its position; none where the frame is refused.
@@ -456,7 +513,10 @@ mod tests {
         assert_eq!(asked(&[WANTED]), Asked::Other);
         assert_eq!(asked(&[TIMES, 0, 0, 1, 0]), Asked::Times(256));
         let set = [&[SET_TIME, 0, 0, 1, 0][..], &[0xff; 8]].concat();
-        assert_eq!((asked(&set), asked(&set[..12])), (Asked::SetTime(256, -1), Asked::Other));
+        assert_eq!((asked(&set), asked(&set[..12])), (Asked::Set(256, Given::Time(-1)), Asked::Other));
+        assert_eq!((asked(&[STAMPED, 0, 0, 1, 0]), asked(&[STAMPED, 0, 0, 1])), (Asked::Stamped(256), Asked::Other));
+        let marks = [SET_MARKS, 0, 0, 1, 0, 7];
+        assert_eq!((asked(&marks), asked(&marks[..5])), (Asked::Set(256, Given::Marks(7)), Asked::Other));
         assert_eq!(asked(&[HELLO, 0]), Asked::Other);
         let lock = [&[LOCK, 0, 0, 1, 0][..], &[0; 31]].concat();
         assert!(matches!(asked(&lock), Asked::Lock(question) if question.node == 256));
@@ -471,6 +531,34 @@ mod tests {
         assert_eq!((node_in(&[1, 0]), node_in(&[4, 1]), node_in(&[])), (Some(None), None, None));
         assert_eq!(name_look_up(256, b"a"), [0x43, 0, 0, 1, 0, b'a']);
         assert_eq!((number_in(&[5, 1, 0, 0, 1, 0]), number_in(&[5, 0]), number_in(&[4, 5])), (Some(256), None, None));
+    }
+
+    #[test]
+    fn what_is_kept_of_a_node_stands_behind_its_header() {
+        let header = [&[FOUND, FOUND_NODE, 2][..], &[9; 20]].concat();
+        let after = |said: &[u8], stamp| {
+            let mut reply = Reply { number: 1, said: said.to_vec() };
+            reply.add(stamp);
+            reply.said
+        };
+        assert_eq!(after(&header, None), [&header[..], &[0; 25]].concat());
+        let stamp = Stamp { modified: 2, changed: 3, moved: 0, set: Some(-1), born: 258, marks: 1 };
+        let kept = [&[0, 0, 0, 0, 0, 0, 1, 2][..], &[0xff; 8], &[0, 0, 0, 0, 0, 0, 0, 3, 1]].concat();
+        let whole = after(&header, Some(stamp));
+        assert_eq!(whole, [&header[..], &kept].concat());
+        assert_eq!(Reply { number: 1, said: whole }.born(), Some(258));
+        assert_eq!(Reply { number: 1, said: header }.born(), None);
+        for said in [&[FOUND, FOUND_NODE, 0][..], &[REFUSED, 3, 0, 0, 0, 0], &[FOUND, 4, 1]] {
+            assert_eq!(after(said, Some(stamp)), said);
+        }
+    }
+
+    #[test]
+    fn a_client_is_told_who_it_is() {
+        let user = User { uid: 1, gid: 2, client: 7, groups: vec![3, 256], privileged: true, grant: [4, 5] };
+        let words = |words: &[u32]| words.iter().flat_map(|word| word.to_be_bytes()).collect::<Vec<_>>();
+        let said = [vec![WELCOME], words(&[7, 4, 5, 1, 2]), vec![1, 0, 2], words(&[3, 256])].concat();
+        assert_eq!(welcome(9, &user), reply(9, &said));
     }
 
     #[test]

@@ -4,7 +4,7 @@
 use crate::allowance::Taken;
 use crate::calls::Note;
 use crate::cost::{measured, Account, Part};
-use crate::frames::{is_look_up, Head, Reply, CHECKPOINT, HEAD};
+use crate::frames::{is_look_up, node_look_up, Head, Reply, CHECKPOINT, HEAD};
 use crate::outcomes::{Marker, MARKER};
 use crate::space::{Gate, Ruling};
 use crate::users::FRONT;
@@ -139,7 +139,7 @@ impl Sent {
 
     /// Whether something of its answer is kept here.
     pub fn is_kept(&self) -> bool {
-        self.numbered.is_some() || matches!(self.note, Note::Submit(_) | Note::Time(..))
+        self.numbered.is_some() || matches!(self.note, Note::Submit(_) | Note::Time(..) | Note::Marks(..))
     }
 
     /// Whether its client sends no other long frame before it is answered.
@@ -272,6 +272,13 @@ impl Queue {
     /// The same in the name of a client, among kfsd's own calls: for another one, who needn't wait for the client's.
     pub fn push_for(&self, client: u32, body: Vec<u8>) -> oneshot::Receiver<Answer> {
         self.push_in(FRONT, client, body)
+    }
+
+    /// The look-up of a node in the name of a client, behind its calls. What kfsd keeps of the node stands behind the reply.
+    pub fn push_look(&self, client: u32, node: u32) -> oneshot::Receiver<Answer> {
+        let (call, answer) = own_call(client, client, node_look_up(node));
+        self.push(Call { note: Some(Note::Look(node)), ..call });
+        answer
     }
 
     fn push_in(&self, line: u32, client: u32, body: Vec<u8>) -> oneshot::Receiver<Answer> {

@@ -1,9 +1,10 @@
 //! What kfsd itself keeps: a file of SQLite beside the files of the desk.
 
+use crate::bytes::Bytes;
 use crate::folder::{at, is_there, open};
-use crate::times::Stamp;
+use crate::times::{Known, Landed, Stamp};
 use rusqlite::{params, Connection, OpenFlags};
-use std::collections::HashMap;
+use std::collections::{HashMap, VecDeque};
 use std::fs::{self, OpenOptions, Permissions};
 use std::io;
 use std::os::unix::fs::{OpenOptionsExt, PermissionsExt};
@@ -33,6 +34,8 @@ pub struct Changes {
     pub forgotten: Vec<(u32, u64)>,
     /// When nodes were changed; none where they are gone.
     pub stamps: HashMap<u32, Option<Stamp>>,
+    /// What is known of all landings that these stamps are of.
+    pub landed: Landed,
 }
 
 impl Changes {
@@ -65,7 +68,11 @@ const TABLES: &str = "
     CREATE TABLE IF NOT EXISTS running (is_running INTEGER NOT NULL);
     CREATE TABLE IF NOT EXISTS time (node INTEGER PRIMARY KEY, modified INTEGER NOT NULL);
     CREATE TABLE IF NOT EXISTS desk (was_open INTEGER NOT NULL);
+    CREATE TABLE IF NOT EXISTS landed (born INTEGER NOT NULL, prints BLOB NOT NULL);
 ";
+
+/// Columns of a stamp that a file of an older kfsd lacks.
+const LATER: [&str; 2] = ["born", "marks"];
 
 /// What only a desk leaves. A file of an older kfsd doesn't say itself that there was one.
 const TRACES: &str = "
@@ -104,6 +111,7 @@ impl Store {
         let connection =
             Connection::open_with_flags(folder.join(NAME), OpenFlags::default() | OpenFlags::SQLITE_OPEN_NOFOLLOW)?;
         connection.execute_batch(TABLES)?;
+        add_columns(&connection)?;
         let had_desk = connection.query_row(TRACES, [], |row| row.get(0))?;
         Ok(Store { connection, had_desk, has_failed: false })
     }
@@ -134,12 +142,24 @@ impl Store {
         found.collect()
     }
 
-    /// When nodes were changed.
-    pub fn stamps(&self) -> rusqlite::Result<Vec<(u32, Stamp)>> {
-        let text = "SELECT node, stamp.modified, changed, moved, time.modified FROM stamp LEFT JOIN time USING (node)";
+    /// What is known of landings.
+    pub fn known(&self) -> rusqlite::Result<Known> {
+        let mut rows = self.connection.prepare("SELECT born, prints FROM landed")?;
+        let found =
+            rows.query_map([], |row| Ok(Landed { born: row.get(0)?, prints: prints_in(&row.get::<_, Vec<u8>>(1)?) }))?;
+        let landed = found.last().transpose()?.unwrap_or_default();
+        Ok(Known { stamps: self.stamps()?, landed })
+    }
+
+    fn stamps(&self) -> rusqlite::Result<Vec<(u32, Stamp)>> {
+        let text = "
+            SELECT node, stamp.modified, changed, moved, time.modified, born, marks FROM stamp LEFT JOIN time USING (node)
+        ";
         let mut rows = self.connection.prepare(text)?;
         let found = rows.query_map([], |row| {
-            Ok((row.get(0)?, Stamp { modified: row.get(1)?, changed: row.get(2)?, moved: row.get(3)?, set: row.get(4)? }))
+            let (modified, changed, moved) = (row.get(1)?, row.get(2)?, row.get(3)?);
+            let (set, born, marks) = (row.get(4)?, row.get(5)?, row.get(6)?);
+            Ok((row.get(0)?, Stamp { modified, changed, moved, set, born, marks }))
         })?;
         found.collect()
     }
@@ -184,19 +204,46 @@ impl Store {
                 take.execute(params![client, *number as i64])?;
             }
             put_stamps(&all, &changes.stamps)?;
+            if !changes.stamps.is_empty() {
+                put_landed(&all, &changes.landed)?;
+            }
         }
         all.commit()
     }
 }
 
+/// Adds what a file of an older kfsd lacks. What isn't known of a stamp is 0.
+fn add_columns(connection: &Connection) -> rusqlite::Result<()> {
+    let mut rows = connection.prepare("SELECT name FROM pragma_table_info('stamp')")?;
+    let there = rows.query_map([], |row| row.get(0))?.collect::<rusqlite::Result<Vec<String>>>()?;
+    for name in LATER.iter().filter(|name| !there.iter().any(|it| it == *name)) {
+        connection.execute_batch(&format!("ALTER TABLE stamp ADD COLUMN {name} INTEGER NOT NULL DEFAULT 0"))?;
+    }
+    Ok(())
+}
+
+/// The prints that these bytes are.
+fn prints_in(bytes: &[u8]) -> VecDeque<u64> {
+    let mut bytes = Bytes(bytes);
+    std::iter::from_fn(|| bytes.long()).collect()
+}
+
+fn put_landed(all: &Connection, landed: &Landed) -> rusqlite::Result<()> {
+    let prints: Vec<u8> = landed.prints.iter().flat_map(|print| print.to_be_bytes()).collect();
+    all.execute("DELETE FROM landed", [])?;
+    all.execute("INSERT INTO landed (born, prints) VALUES (?, ?)", params![landed.born, prints])?;
+    Ok(())
+}
+
 fn put_stamps(all: &Connection, stamps: &HashMap<u32, Option<Stamp>>) -> rusqlite::Result<()> {
-    let mut put = all.prepare("INSERT OR REPLACE INTO stamp (node, modified, changed, moved) VALUES (?, ?, ?, ?)")?;
+    let mut put =
+        all.prepare("INSERT OR REPLACE INTO stamp (node, modified, changed, moved, born, marks) VALUES (?, ?, ?, ?, ?, ?)")?;
     let mut take = all.prepare("DELETE FROM stamp WHERE node = ?")?;
     let mut set = all.prepare("INSERT OR REPLACE INTO time (node, modified) VALUES (?, ?)")?;
     let mut unset = all.prepare("DELETE FROM time WHERE node = ?")?;
     for (node, stamp) in stamps {
         match stamp {
-            Some(stamp) => put.execute(params![node, stamp.modified, stamp.changed, stamp.moved])?,
+            Some(stamp) => put.execute(params![node, stamp.modified, stamp.changed, stamp.moved, stamp.born, stamp.marks])?,
             None => take.execute(params![node])?,
         };
         match stamp.and_then(|stamp| stamp.set) {
@@ -269,18 +316,46 @@ mod tests {
     }
 
     #[test]
+    fn a_file_of_an_older_kfsd_is_opened() {
+        let room = Room::new("older");
+        let older = Connection::open(room.0.join(NAME)).unwrap();
+        older.execute_batch("
+            CREATE TABLE stamp (node INTEGER PRIMARY KEY, modified INTEGER NOT NULL, changed INTEGER NOT NULL, moved INTEGER NOT NULL);
+            INSERT INTO stamp VALUES (5, 6, 7, 8);
+        ").unwrap();
+        drop(older);
+        let stamp = Stamp { modified: 6, changed: 7, moved: 8, set: None, born: 0, marks: 0 };
+        for _ in 0..2 {
+            let store = Store::open(&room.0).unwrap();
+            assert_eq!(store.known().unwrap(), Known { stamps: vec![(5, stamp)], landed: Landed::default() });
+        }
+        let mut store = Store::open(&room.0).unwrap();
+        let later = Stamp { born: 9, marks: 1, ..stamp };
+        store.keep(&Changes { stamps: HashMap::from([(5, Some(later))]), ..Changes::default() }).unwrap();
+        drop(store);
+        assert_eq!(Store::open(&room.0).unwrap().known().unwrap().stamps, [(5, later)]);
+    }
+
+    #[test]
     fn stamps_are_kept_and_taken() {
         let room = Room::new("stamps");
         let set = |time| Some(time).filter(|time| *time == 6);
-        let stamp = |time| Some(Stamp { modified: time, changed: time + 1, moved: time - 1, set: set(time) });
+        let stamp = |time| {
+            let (born, marks) = (time + 2, time as u8);
+            Some(Stamp { modified: time, changed: time + 1, moved: time - 1, set: set(time), born, marks })
+        };
         let mut store = Store::open(&room.0).unwrap();
         assert!(!store.begin().unwrap());
         let stamps = HashMap::from([(1, stamp(5)), (u32::MAX, stamp(6)), (3, None)]);
-        store.keep(&Changes { stamps, ..Changes::default() }).unwrap();
-        store.keep(&Changes { stamps: HashMap::from([(1, None)]), ..Changes::default() }).unwrap();
+        let landed = |print| Landed { born: print as i64 + 9, prints: [print, u64::MAX].into() };
+        store.keep(&Changes { stamps, landed: landed(1), ..Changes::default() }).unwrap();
+        let stamps = HashMap::from([(1, None)]);
+        store.keep(&Changes { stamps, landed: landed(2), ..Changes::default() }).unwrap();
+        // without stamps there was no landing
+        store.keep(&Changes { outcomes: vec![outcome(7, 1)], landed: landed(3), ..Changes::default() }).unwrap();
         drop(store);
         let mut store = Store::open(&room.0).unwrap();
-        assert_eq!(store.stamps().unwrap(), [(u32::MAX, stamp(6).unwrap())]);
+        assert_eq!(store.known().unwrap(), Known { stamps: vec![(u32::MAX, stamp(6).unwrap())], landed: landed(2) });
         assert!(store.begin().unwrap());
         store.end().unwrap();
         assert!(!store.begin().unwrap());

@@ -1,10 +1,13 @@
 //! When nodes were changed: kfsd keeps the time of the landing, which the desk doesn't know.
 
-use crate::calls::Change;
-use std::collections::HashMap;
+use crate::calls::{Change, Landing};
+use std::collections::{HashMap, VecDeque};
 use std::time::{SystemTime, UNIX_EPOCH};
 
-/// When a node was changed, in nanoseconds since 1970.
+/// By the prints of how many last landings it is found where the journal goes on behind what is known.
+const PRINTS: usize = 16;
+
+/// What is kept of a node. Times are in nanoseconds since 1970.
 #[derive(Clone, Copy, Debug, PartialEq, Eq)]
 pub struct Stamp {
     /// When a file's bytes or a directory's names were.
@@ -15,12 +18,16 @@ pub struct Stamp {
     pub moved: i64,
     /// When it was modified, as its owner has set it since.
     pub set: Option<i64>,
+    /// When it was made, later than all that were made before; 0 where that isn't known.
+    pub born: i64,
+    /// What its owner has marked it with. kfsd doesn't look into it.
+    pub marks: u8,
 }
 
 impl Stamp {
     /// Of a node that is changed as a whole at this time.
     fn at(time: i64) -> Stamp {
-        Stamp { modified: time, changed: time, moved: 0, set: None }
+        Stamp { modified: time, changed: time, moved: 0, set: None, born: 0, marks: 0 }
     }
 
     /// When it was modified, as it is told.
@@ -34,23 +41,59 @@ pub fn now() -> i64 {
     SystemTime::now().duration_since(UNIX_EPOCH).map_or(0, |since| since.as_nanos() as i64)
 }
 
+/// What is known of all landings.
+#[derive(Clone, Debug, Default, PartialEq, Eq)]
+pub struct Landed {
+    /// When the last node was made.
+    pub born: i64,
+    /// The prints of the last landings, that of the last one at the end.
+    pub prints: VecDeque<u64>,
+}
+
+/// All that is known at once.
+#[derive(Clone, Debug, Default, PartialEq, Eq)]
+pub struct Known {
+    pub stamps: Vec<(u32, Stamp)>,
+    pub landed: Landed,
+}
+
 /// The stamps of all nodes of which a landing is known.
 #[derive(Debug, Default)]
 pub struct Times {
     of: HashMap<u32, Stamp>,
     /// What isn't kept yet: none where the node is gone.
     unsaved: HashMap<u32, Option<Stamp>>,
+    landed: Landed,
 }
 
 impl Times {
     /// Takes what was kept.
-    pub fn begin_with(&mut self, kept: Vec<(u32, Stamp)>) {
-        self.of = kept.into_iter().collect();
+    pub fn begin_with(&mut self, kept: Known) {
+        let last = kept.stamps.iter().map(|(_, stamp)| stamp.born).max().unwrap_or(0);
+        self.of = kept.stamps.into_iter().collect();
+        self.landed = Landed { born: kept.landed.born.max(last), ..kept.landed };
     }
 
-    /// The stamps of all nodes.
-    pub fn all(&self) -> Vec<(u32, Stamp)> {
-        self.of.iter().map(|(node, stamp)| (*node, *stamp)).collect()
+    /// How many of the last landings of a journal are known; none where that can't be told. It is told by the prints of the last
+    /// known ones, all of which have to be there. Where they are in several places the first one counts: to take a landing over
+    /// once more does less harm than to leave one out.
+    pub fn known_of(&self, recent: &VecDeque<Landing>) -> Option<usize> {
+        let prints = &self.landed.prints;
+        let is_at = |first: &usize| recent.iter().skip(*first).zip(prints).all(|(landing, print)| landing.print == *print);
+        let last = recent.len().checked_sub(prints.len()).filter(|_| !prints.is_empty())?;
+        (0..=last).find(is_at).map(|first| first + prints.len())
+    }
+
+    /// All landings of a journal are known now, of which these are the last ones.
+    pub fn go_on_behind(&mut self, recent: &VecDeque<Landing>) {
+        let over = recent.len().saturating_sub(PRINTS);
+        self.landed.prints = recent.iter().skip(over).map(|landing| landing.print).collect();
+    }
+
+    /// All that is known now.
+    pub fn all(&self) -> Known {
+        let stamps = self.of.iter().map(|(node, stamp)| (*node, *stamp)).collect();
+        Known { stamps, landed: self.landed.clone() }
     }
 
     /// The stamp of a node.
@@ -58,26 +101,59 @@ impl Times {
         self.of.get(&node).copied()
     }
 
-    /// These were changed at this time.
-    pub fn changed(&mut self, changes: &[(u32, Change)], time: i64) {
-        for (node, change) in changes {
-            let before = || self.of(*node).unwrap_or_else(|| Stamp::at(time));
-            let stamp = match change {
-                Change::Gone => None,
-                Change::Bytes => Some(Stamp::at(time)),
-                Change::Header => Some(Stamp { changed: time, ..before() }),
-                Change::Time(set) if set.is_first || self.of.contains_key(node) => {
-                    Some(Stamp { changed: time, set: Some(set.time), ..before() })
-                }
-                // It is gone.
-                Change::Time(_) => None,
-            };
+    /// A call has changed nodes at this time.
+    pub fn changed(&mut self, landing: &Landing, time: i64) {
+        self.take(landing, time, false);
+    }
+
+    /// The same, maybe once more. Nodes that it has made are born later than they were then, so marks aren't compared with that.
+    pub fn changed_again(&mut self, landing: &Landing, time: i64) {
+        self.take(landing, time, true);
+    }
+
+    fn take(&mut self, landing: &Landing, time: i64, is_again: bool) {
+        for (node, change) in &landing.changes {
+            let before = self.of(*node);
+            let stamp = self.after(before, change, time, is_again);
             match stamp {
                 Some(stamp) => self.of.insert(*node, stamp),
                 None => self.of.remove(node),
             };
-            self.unsaved.insert(*node, stamp);
+            if stamp != before || stamp.is_none() {
+                self.unsaved.insert(*node, stamp);
+            }
         }
+        self.landed.prints.push_back(landing.print);
+        if self.landed.prints.len() > PRINTS {
+            self.landed.prints.pop_front();
+        }
+    }
+
+    /// The stamp of a node behind a change; none where the node is gone.
+    fn after(&mut self, before: Option<Stamp>, change: &Change, time: i64, is_again: bool) -> Option<Stamp> {
+        let known = before.unwrap_or_else(|| Stamp::at(time));
+        let born = before.map_or(0, |stamp| stamp.born);
+        match change {
+            Change::Gone => None,
+            Change::Made => Some(self.made(time)),
+            Change::Bytes => Some(Stamp { born, marks: known.marks, ..Stamp::at(time) }),
+            Change::Header => Some(Stamp { changed: time, ..known }),
+            // Else it is gone.
+            Change::Time(set) => {
+                Some(Stamp { changed: time, set: Some(set.time), ..known }).filter(|_| set.is_first || before.is_some())
+            }
+            Change::Marks(set) if set.born == born || (is_again && before.is_some()) => {
+                Some(Stamp { changed: time, marks: set.marks, ..known })
+            }
+            // It is gone, and another one may have its number.
+            Change::Marks(_) => before,
+        }
+    }
+
+    /// The stamp of a node that is made at this time.
+    fn made(&mut self, time: i64) -> Stamp {
+        self.landed.born = time.max(self.landed.born + 1);
+        Stamp { born: self.landed.born, ..Stamp::at(time) }
     }
 
     /// The nodes whose blocks aren't all on slower tiers, those first that were written longest ago.
@@ -96,47 +172,57 @@ impl Times {
     }
 
     /// Takes what isn't kept yet.
-    pub fn take_unsaved(&mut self) -> HashMap<u32, Option<Stamp>> {
-        std::mem::take(&mut self.unsaved)
+    pub fn take_unsaved(&mut self) -> (HashMap<u32, Option<Stamp>>, Landed) {
+        (std::mem::take(&mut self.unsaved), self.landed.clone())
     }
 }
 
 #[cfg(test)]
 mod tests {
     use super::*;
-    use crate::calls::Setting;
+    use crate::calls::{Marking, Setting};
+
+    fn landing(changes: &[(u32, Change)], print: u64) -> Landing {
+        Landing { changes: changes.to_vec(), print }
+    }
+
+    impl Times {
+        fn change(&mut self, changes: &[(u32, Change)], time: i64) {
+            self.changed(&landing(changes, 0), time);
+        }
+    }
 
     #[test]
     fn stamps_follow_landings() {
         let mut times = Times::default();
-        times.changed(&[(1, Change::Bytes), (5, Change::Header)], 100);
+        times.change(&[(1, Change::Bytes), (5, Change::Header)], 100);
         assert_eq!(times.of(5), Some(Stamp::at(100)));
-        times.changed(&[(5, Change::Header)], 200);
+        times.change(&[(5, Change::Header)], 200);
         assert_eq!(times.of(5), Some(Stamp { changed: 200, ..Stamp::at(100) }));
-        times.changed(&[(5, Change::Header), (5, Change::Bytes)], 300);
+        times.change(&[(5, Change::Header), (5, Change::Bytes)], 300);
         assert_eq!(times.of(5), Some(Stamp::at(300)));
-        times.changed(&[(5, Change::Gone)], 400);
+        times.change(&[(5, Change::Gone)], 400);
         assert_eq!(times.of(5), None);
-        let unsaved = times.take_unsaved();
+        let (unsaved, _) = times.take_unsaved();
         assert_eq!((unsaved[&5], unsaved[&1]), (None, Some(Stamp::at(100))));
-        assert!(times.take_unsaved().is_empty());
+        assert!(times.take_unsaved().0.is_empty());
     }
 
     #[test]
     fn a_time_that_is_set_lasts_until_bytes_are_written() {
         let mut times = Times::default();
-        times.changed(&[(5, Change::Bytes)], 100);
+        times.change(&[(5, Change::Bytes)], 100);
         let set = |time, is_first| Change::Time(Setting { time, is_first });
-        times.changed(&[(5, set(-7, false))], 200);
+        times.change(&[(5, set(-7, false))], 200);
         let stamp = times.of(5).unwrap();
         assert_eq!((stamp.told(), stamp.changed, stamp.modified), (-7, 200, 100));
-        times.changed(&[(5, Change::Header)], 300);
+        times.change(&[(5, Change::Header)], 300);
         assert_eq!(times.of(5).unwrap().told(), -7);
-        times.changed(&[(5, Change::Bytes)], 400);
+        times.change(&[(5, Change::Bytes)], 400);
         assert_eq!(times.of(5), Some(Stamp::at(400)));
         // blocks are moved by when they were written
-        times.changed(&[(6, Change::Bytes)], 500);
-        times.changed(&[(6, set(0, false)), (7, set(9, true)), (8, set(9, false))], 600);
+        times.change(&[(6, Change::Bytes)], 500);
+        times.change(&[(6, set(0, false)), (7, set(9, true)), (8, set(9, false))], 600);
         assert_eq!(times.oldest(), [5, 6, 7]);
         assert_eq!(times.of(7).unwrap().told(), 9);
         // it was gone before it was set
@@ -146,16 +232,74 @@ mod tests {
     #[test]
     fn the_oldest_go_first_and_once() {
         let mut times = Times::default();
-        times.changed(&[(5, Change::Bytes), (6, Change::Bytes)], 100);
-        times.changed(&[(4, Change::Bytes)], 50);
-        times.changed(&[(5, Change::Header)], 200);
+        times.change(&[(5, Change::Bytes), (6, Change::Bytes)], 100);
+        times.change(&[(4, Change::Bytes)], 50);
+        times.change(&[(5, Change::Header)], 200);
         assert_eq!(times.oldest(), [4, 5, 6]);
         times.is_moved(4, 50);
         times.is_moved(5, 99);
         assert_eq!(times.oldest(), [5, 6]);
-        times.changed(&[(4, Change::Header)], 300);
+        times.change(&[(4, Change::Header)], 300);
         assert_eq!(times.oldest(), [5, 6]);
-        times.changed(&[(4, Change::Bytes)], 400);
+        times.change(&[(4, Change::Bytes)], 400);
         assert_eq!(times.oldest(), [5, 6, 4]);
+    }
+    #[test]
+    fn a_node_is_born_once() {
+        let mut times = Times::default();
+        let born = |times: &Times, node| times.of(node).unwrap().born;
+        times.change(&[(5, Change::Made), (6, Change::Made), (1, Change::Bytes), (5, Change::Header)], 100);
+        assert_eq!((born(&times, 1), born(&times, 5), born(&times, 6)), (0, 100, 101));
+        times.change(&[(5, Change::Bytes), (5, Change::Header)], 200);
+        assert_eq!((born(&times, 5), times.of(5).unwrap().modified), (100, 200));
+        times.change(&[(5, Change::Gone), (6, Change::Bytes)], 50);
+        assert_eq!((born(&times, 6), times.of(6).unwrap().modified), (101, 50));
+        times.change(&[(5, Change::Made), (5, Change::Header)], 60);
+        assert_eq!((born(&times, 5), times.of(5).unwrap().modified), (102, 60));
+        let mut other = Times::default();
+        times.change(&[(5, Change::Gone)], 70);
+        other.begin_with(times.all());
+        other.change(&[(5, Change::Made)], 80);
+        assert_eq!(born(&other, 5), 103);
+    }
+
+    #[test]
+    fn marks_go_with_their_node() {
+        let mut times = Times::default();
+        let marks = |times: &Times, node| times.of(node).map(|stamp| (stamp.marks, stamp.changed));
+        let set = |marks, born| Change::Marks(Marking { marks, born });
+        times.change(&[(5, Change::Made)], 100);
+        times.change(&[(5, set(1, 100)), (1, set(3, 0)), (6, set(1, 100))], 200);
+        assert_eq!((marks(&times, 5), marks(&times, 1), marks(&times, 6)), (Some((1, 200)), Some((3, 200)), None));
+        times.change(&[(5, Change::Bytes), (5, Change::Header)], 300);
+        assert_eq!(marks(&times, 5), Some((1, 300)));
+        times.change(&[(5, Change::Gone)], 400);
+        times.change(&[(5, Change::Made)], 500);
+        // it means the one before
+        times.change(&[(5, set(1, 100))], 600);
+        assert_eq!(marks(&times, 5), Some((0, 500)));
+        times.changed_again(&landing(&[(5, set(1, 100)), (6, set(1, 100))], 0), 700);
+        assert_eq!((marks(&times, 5), marks(&times, 6)), (Some((1, 700)), None));
+    }
+
+    #[test]
+    fn it_is_told_where_a_journal_goes_on() {
+        let prints = |prints: &[u64]| prints.iter().map(|print| landing(&[], *print)).collect::<VecDeque<_>>();
+        let mut times = Times::default();
+        assert_eq!(times.known_of(&prints(&[1, 2])), None);
+        times.go_on_behind(&prints(&[1, 2, 3]));
+        assert_eq!(times.known_of(&prints(&[0, 1, 2, 3, 4, 5])), Some(4));
+        assert_eq!(times.known_of(&prints(&[1, 2, 3])), Some(3));
+        // the first of two places counts, and all have to be there
+        assert_eq!(times.known_of(&prints(&[1, 2, 3, 1, 2, 3])), Some(3));
+        for other in [&[2, 3, 4][..], &[3], &[], &[1, 2, 4, 3]] {
+            assert_eq!(times.known_of(&prints(other)), None);
+        }
+        times.changed(&landing(&[], 4), 100);
+        assert_eq!(times.known_of(&prints(&[1, 2, 3, 4, 5])), Some(4));
+        let many: Vec<u64> = (0..PRINTS as u64 + 5).collect();
+        many.iter().for_each(|print| times.changed(&landing(&[], 100 + print), 100));
+        let late: Vec<u64> = (105..130).collect();
+        assert_eq!(times.known_of(&prints(&late)), Some(PRINTS));
     }
 }

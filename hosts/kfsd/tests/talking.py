@@ -17,7 +17,7 @@ def a_client_is_named_by_the_kernel(made):
     with Daemon(*made).start() as daemon, contextlib.closing(daemon.connect(7)) as seven:
         for sender in (7, 8, FRONT):
             seven.send(1, HELLO, sender)
-            assert seven.next() == (1, struct.pack(">BIII", 0xF0, 7, 2, 99))
+            assert seven.next() == (1, struct.pack(">BIIIIIBH", 0xF0, 7, 2, 99, 1000, 1000, 0, 0))
         before = daemon.status()["frames"]["sent"]
         forged = [(8, lease(7, 10)), (8, lease(8, 10)), (7, lease(8, 10)), (FRONT, lease(7, 10)), (FRONT, TICK), (7, TICK), (8, HELLO + HELLO)]
         forged += [(7, bytes([tag]) + struct.pack(">I", 8)) for tag in (1, 2, 3, 6)]

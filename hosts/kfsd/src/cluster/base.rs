@@ -6,7 +6,7 @@ use crate::folder;
 use crate::following::Following;
 use crate::journal;
 use crate::store::Outcome;
-use crate::times::Stamp;
+use crate::times::{Known, Landed, Stamp};
 use std::fs::{self, File, OpenOptions};
 use std::io::{self, ErrorKind, Read, Seek, SeekFrom, Write};
 use std::os::unix::fs::OpenOptionsExt;
@@ -18,7 +18,10 @@ pub const PART: &str = "base.part";
 
 /// The end of the file: the length of what stands before it and behind the state (8), and a word.
 const END: u64 = 16;
-const WORD: &[u8; 8] = b"KFSDBASE";
+const WORD: &[u8; 8] = b"KFSDBAS2";
+
+/// The word of an older kfsd, which doesn't know when nodes were made, nor their marks.
+const OLDER_WORD: &[u8; 8] = b"KFSDBASE";
 
 /// What kfsd knows beside a state.
 #[derive(Clone, Debug, Default, PartialEq, Eq)]
@@ -32,26 +35,29 @@ pub struct Base {
     /// How numbered calls ended, those of a client in their order.
     pub outcomes: Vec<Outcome>,
     pub stamps: Vec<(u32, Stamp)>,
+    /// When the last node was made.
+    pub born: i64,
 }
 
 impl Base {
     /// What is known now, behind the calls of all groups before this number.
     pub fn now(volume: u64, number: u64, moment: u64, following: &Following) -> Base {
-        let (outcomes, stamps) = (following.outcomes.all_done(), following.times().all());
-        Base { volume, number, moment, outcomes, stamps }
+        let (outcomes, Known { stamps, landed }) = (following.outcomes.all_done(), following.times().all());
+        Base { volume, number, moment, outcomes, stamps, born: landed.born }
     }
 
     /// Takes over what stands beside the state in a folder of `kfs_serve`, and the leases in that.
     pub fn recall(self, folder: &Path, following: &Following) -> io::Result<()> {
         following.read(folder, |_, _| false)?;
         following.outcomes.begin_with(self.outcomes, vec![]);
-        following.times().begin_with(self.stamps);
+        let landed = Landed { born: self.born, ..Landed::default() };
+        following.times().begin_with(Known { stamps: self.stamps, landed });
         Ok(())
     }
 
     fn bytes(&self) -> Vec<u8> {
         let mut bytes = Vec::new();
-        for long in [self.volume, self.number, self.moment, self.outcomes.len() as u64] {
+        for long in [self.volume, self.number, self.moment, self.born as u64, self.outcomes.len() as u64] {
             bytes.extend_from_slice(&long.to_be_bytes());
         }
         for outcome in &self.outcomes {
@@ -67,22 +73,26 @@ impl Base {
             bytes.extend_from_slice(&stamp.changed.to_be_bytes());
             bytes.push(u8::from(stamp.set.is_some()));
             bytes.extend_from_slice(&stamp.set.unwrap_or(0).to_be_bytes());
+            bytes.extend_from_slice(&stamp.born.to_be_bytes());
+            bytes.push(stamp.marks);
         }
         bytes
     }
 
-    fn of(bytes: &[u8]) -> Option<Base> {
+    fn of(bytes: &[u8], is_older: bool) -> Option<Base> {
         let mut bytes = Bytes(bytes);
-        let (volume, number, moment, count) = (bytes.long()?, bytes.long()?, bytes.long()?, bytes.long()?);
-        let mut base = Base { volume, number, moment, ..Base::default() };
-        for _ in 0..count {
+        let (volume, number, moment) = (bytes.long()?, bytes.long()?, bytes.long()?);
+        let born = if is_older { 0 } else { bytes.long()? as i64 };
+        let mut base = Base { volume, number, moment, born, ..Base::default() };
+        for _ in 0..bytes.long()? {
             let (client, number, length) = (bytes.word()?, bytes.long()?, bytes.byte()?);
             base.outcomes.push(Outcome { client, number, answer: bytes.take(length.into())?.to_vec() });
         }
         while !bytes.0.is_empty() {
             let (node, modified, changed) = (bytes.word()?, bytes.long()? as i64, bytes.long()? as i64);
             let (is_set, time) = (bytes.byte()? == 1, bytes.long()? as i64);
-            base.stamps.push((node, Stamp { modified, changed, moved: 0, set: is_set.then_some(time) }));
+            let (born, marks) = if is_older { (0, 0) } else { (bytes.long()? as i64, bytes.byte()?) };
+            base.stamps.push((node, Stamp { modified, changed, moved: 0, set: is_set.then_some(time), born, marks }));
         }
         Some(base)
     }
@@ -211,11 +221,15 @@ fn read_end(file: &mut File) -> io::Result<(u64, Base)> {
     let mut last = [0; END as usize];
     file.read_exact(&mut last)?;
     let mut bytes = Bytes(&last);
-    let length = bytes.long().filter(|length| *length <= end && bytes.0 == WORD).ok_or_else(wrong)?;
+    let length = bytes.long().filter(|length| *length <= end).ok_or_else(wrong)?;
+    let is_older = bytes.0 == OLDER_WORD;
+    if !is_older && bytes.0 != WORD {
+        return Err(wrong());
+    }
     file.seek(SeekFrom::Start(end - length))?;
     let mut beside = vec![0; length as usize];
     file.read_exact(&mut beside)?;
-    Ok((end - length, Base::of(&beside).ok_or_else(wrong)?))
+    Ok((end - length, Base::of(&beside, is_older).ok_or_else(wrong)?))
 }
 
 #[cfg(test)]
@@ -237,13 +251,14 @@ mod tests {
         fs::write(from.0.join(FILES[0]), file(3, b"ab")).unwrap();
         fs::write(from.0.join(FILES[1]), [file(4, b"cde"), vec![1, 0, 0, 0, 1, 9]].concat()).unwrap();
         let outcome = |number| Outcome { client: 7, number, answer: vec![1, 2, 3] };
-        let stamp = |set| Stamp { modified: -1, changed: 5, moved: 0, set };
+        let stamp = |set| Stamp { modified: -1, changed: 5, moved: 0, set, born: 77, marks: 3 };
         let base = Base {
             volume: 1,
             number: 2,
             moment: 3,
             outcomes: vec![outcome(9), outcome(u64::MAX)],
             stamps: vec![(5, stamp(None)), (6, stamp(Some(-9)))],
+            born: 99,
         };
         bases.copy(&from.0).unwrap();
         assert_eq!(bases.read().unwrap(), None);
@@ -252,6 +267,18 @@ mod tests {
         bases.put(&to.0).unwrap();
         assert_eq!(fs::read(to.0.join(FILES[0])).unwrap(), file(4, b"cde"));
         assert_eq!(fs::read(to.0.join(FILES[1])).unwrap(), b"");
+    }
+
+    #[test]
+    fn a_state_of_an_older_kfsd_is_read() {
+        let room = Room::new("bases");
+        let longs = |longs: &[u64]| longs.iter().flat_map(|long| long.to_be_bytes()).collect::<Vec<_>>();
+        let beside = [longs(&[1, 2, 3, 0]), vec![0, 0, 0, 5], longs(&[7, 8]), vec![1], longs(&[9])].concat();
+        let file = [&b"state"[..], &beside, &(beside.len() as u64).to_be_bytes(), OLDER_WORD].concat();
+        fs::write(room.0.join(NAME), file).unwrap();
+        let stamp = Stamp { modified: 7, changed: 8, moved: 0, set: Some(9), born: 0, marks: 0 };
+        let base = Base { volume: 1, number: 2, moment: 3, stamps: vec![(5, stamp)], ..Base::default() };
+        assert_eq!(Bases::new(&room.0).read().unwrap(), Some(base));
     }
 
     #[test]

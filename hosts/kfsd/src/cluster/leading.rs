@@ -8,9 +8,9 @@ use super::replica::{bodies, Replica};
 use super::volume::{Lead, Volume};
 use super::{blocking, ClusterFault};
 use crate::connection::Shared;
-use crate::desk::{count_sent, part_of, take_over};
+use crate::desk::{count_sent, hand_out, part_of, take_over};
 use crate::frames::Reply;
-use crate::queue::{Answer, Batch, Sent};
+use crate::queue::{Batch, Sent};
 use crate::times;
 use std::convert::Infallible;
 use std::io::ErrorKind;
@@ -141,10 +141,7 @@ async fn put(leading: &Leading<'_>, mut next: u64, mut made: Receiver<Made>, sha
         }
         for (sent, reply) in said {
             take_over(&sent, &reply, group.time, shared);
-            if let Some(asker) = sent.asker {
-                // Where the connection is gone nobody hears it.
-                let _ = asker.to.send(Answer::Said(reply));
-            }
+            hand_out(sent, reply, shared);
         }
         // All of it is in etcd.
         drop(shared.following.take_unsaved());
