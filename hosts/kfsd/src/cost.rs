@@ -6,12 +6,17 @@ use std::collections::HashMap;
 use std::time::{Duration, Instant};
 
 /// What a call and a look-up cost by themselves, and each byte of a frame, in nanoseconds. A look-up of bytes copies them;
-/// one of names or leases goes through rows.
+/// one of names or leases goes through rows. A move copies a block.
 const CALL: u64 = 8_000;
 const LOOK_UP: u64 = 4_000;
 const BYTE: u64 = 10;
 const ROW_BYTE: u64 = 30;
 const COPIED_BYTES: u64 = 2;
+const MOVE: u64 = 3_500;
+
+/// The tag of a call of moves, and the bytes of each of them.
+const MIGRATE: u8 = 5;
+const MOVE_BYTES: u64 = 13;
 
 /// What each byte of a frame and its reply costs kfsd itself, which carries both.
 const CARRIED_BYTE: u64 = 2;
@@ -68,6 +73,7 @@ fn expected(body: &[u8]) -> u64 {
         Some(&(NAMES | LEASES)) => LOOK_UP + ROW_BYTE * found,
         Some(&READ) => LOOK_UP + found / COPIED_BYTES,
         Some(&PLAN) => LOOK_UP + BYTE * length,
+        Some(&MIGRATE) => CALL + MOVE * (length / MOVE_BYTES),
         Some(tag) if *tag >= 0x40 => LOOK_UP,
         _ => CALL + BYTE * length,
     }
@@ -158,6 +164,8 @@ mod tests {
         assert!(expected(&names) > 20 * expected(&read(65_536)));
         assert!(expected(&read(65_536)) > expected(&read(1)));
         assert!(expected(&[1; 2000]) > 3 * expected(&[3; 9]) && expected(&[3; 9]) > expected(&[0x40, 0, 0, 0, 1]));
+        let moves = [&[MIGRATE, 0, 100][..], &[0; 1300]].concat();
+        assert_eq!((expected(&moves), expected(&moves[..29])), (CALL + 100 * MOVE, CALL + 2 * MOVE));
         assert_eq!((Part::of(7, &read(65_536)).carried, Part::of(7, &[1; 2000]).carried), (131_106, 4_000));
     }
 

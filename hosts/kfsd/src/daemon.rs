@@ -272,7 +272,7 @@ impl Daemon {
         self.put_rules();
         let accepting = tokio::spawn(accept(sockets, Arc::clone(&self.shared)));
         let ticking = tokio::spawn(duties::tick_on(Arc::clone(&self.shared)));
-        let moving = tokio::spawn(moves::move_on(Arc::clone(&self.shared), self.config.tiers));
+        let moving = tokio::spawn(moves::move_on(Arc::clone(&self.shared)));
         let looking = tokio::spawn(duties::look_on(Arc::clone(&self.shared)));
         let lost = loop {
             tokio::select! {

@@ -1,6 +1,6 @@
 //! What kfsd knows of the desk: it follows each call and its answer, and reads the files before `kfs_serve` opens them.
 
-use crate::calls::{Change, Landing, Note, Told};
+use crate::calls::{need_in, Change, Landing, Note, Told};
 use crate::clock::Clock;
 use crate::journal::{self, Part};
 use crate::leases::Leases;
@@ -13,6 +13,7 @@ use crate::wants::{News, Wants};
 use std::collections::{HashMap, VecDeque};
 use std::io;
 use std::path::Path;
+use std::sync::atomic::{AtomicU64, Ordering};
 use std::sync::{Mutex, MutexGuard, PoisonError};
 use std::time::Instant;
 use tokio::sync::{watch, Notify};
@@ -73,7 +74,10 @@ pub struct Following {
     /// Leases whose clients may not be allowed them. Each want puts one here once a second at most.
     doubts: Mutex<VecDeque<Doubt>>,
     is_doubtful: Notify,
-    /// Tells of a log that had too few free places.
+    /// How many places of tier 0 are free, and how many should be, as far as that is known; and tells where fewer are, or a log had
+    /// too few.
+    free: AtomicU64,
+    least: AtomicU64,
     short: Notify,
 }
 
@@ -90,6 +94,8 @@ impl Default for Following {
             is_wanted: watch::channel(()).0,
             doubts: Mutex::default(),
             is_doubtful: Notify::new(),
+            free: AtomicU64::new(u64::MAX),
+            least: AtomicU64::new(0),
             short: Notify::new(),
         }
     }
@@ -145,9 +151,25 @@ impl Following {
         Changes { stamps, landed, ..self.outcomes.take_unsaved() }
     }
 
-    /// Returns when a log had too few free places.
+    /// Returns when a log had too few free places, or fewer are free than should be.
     pub async fn is_short(&self) {
         self.short.notified().await;
+    }
+
+    /// So many places of tier 0 are free, and so many should be.
+    pub fn look_for(&self, free: u64, least: u64) {
+        self.free.store(free, Ordering::Relaxed);
+        self.least.store(least, Ordering::Relaxed);
+    }
+
+    /// A log has taken places of tier 0. It may have freed others, which the desk tells.
+    fn spend(&self, places: u64) {
+        let (before, least) = (self.free.load(Ordering::Relaxed), self.least.load(Ordering::Relaxed));
+        let left = before.saturating_sub(places);
+        self.free.store(left, Ordering::Relaxed);
+        if before >= least && left < least {
+            self.short.notify_one();
+        }
     }
 
     /// Tells of each new want.
@@ -234,6 +256,7 @@ impl Following {
                 }
             }
             (_, Told::NoRoom) => self.short.notify_one(),
+            (_, Told::Landed) => self.spend(need_in(answer)),
             _ => {}
         }
         leases.apply(note, told);

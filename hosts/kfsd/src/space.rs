@@ -82,6 +82,11 @@ impl Space {
         self.sums.get(&owner).copied().unwrap_or(0)
     }
 
+    /// How many blocks a file reaches over; none of what is no file.
+    pub fn blocks_of(&self, node: u32) -> u32 {
+        self.files.get(&node).map_or(0, |held| held.blocks)
+    }
+
     /// A node takes this from now on.
     pub fn put(&mut self, node: u32, held: Held) {
         let before = if held.blocks == 0 { self.files.remove(&node) } else { self.files.insert(node, held) };

@@ -156,11 +156,17 @@ impl Times {
         Stamp { born: self.landed.born, ..Stamp::at(time) }
     }
 
-    /// The nodes whose blocks aren't all on slower tiers, those first that were written longest ago.
-    pub fn oldest(&self) -> Vec<u32> {
-        let mut found: Vec<_> = self.of.iter().filter(|(_, stamp)| stamp.moved != stamp.modified).collect();
-        found.sort_by_key(|(node, stamp)| (stamp.modified, **node));
-        found.into_iter().map(|(node, _)| *node).collect()
+    /// So many nodes whose blocks aren't all on slower tiers, those that were written longest ago, and when each was.
+    pub fn oldest(&self, count: usize) -> Vec<(u32, i64)> {
+        let left = self.of.iter().filter(|(_, stamp)| stamp.moved != stamp.modified);
+        let mut found: Vec<_> = left.map(|(node, stamp)| (*node, stamp.modified)).collect();
+        let age = |(node, modified): &(u32, i64)| (*modified, *node);
+        if found.len() > count {
+            found.select_nth_unstable_by_key(count, age);
+            found.truncate(count);
+        }
+        found.sort_unstable_by_key(age);
+        found
     }
 
     /// All blocks of a file are on slower tiers that was modified at this time. Where it was written since, they aren't.
@@ -223,7 +229,7 @@ mod tests {
         // blocks are moved by when they were written
         times.change(&[(6, Change::Bytes)], 500);
         times.change(&[(6, set(0, false)), (7, set(9, true)), (8, set(9, false))], 600);
-        assert_eq!(times.oldest(), [5, 6, 7]);
+        assert_eq!(times.oldest(9), [(5, 400), (6, 500), (7, 600)]);
         assert_eq!(times.of(7).unwrap().told(), 9);
         // it was gone before it was set
         assert_eq!(times.of(8), None);
@@ -235,14 +241,16 @@ mod tests {
         times.change(&[(5, Change::Bytes), (6, Change::Bytes)], 100);
         times.change(&[(4, Change::Bytes)], 50);
         times.change(&[(5, Change::Header)], 200);
-        assert_eq!(times.oldest(), [4, 5, 6]);
+        assert_eq!(times.oldest(9), [(4, 50), (5, 100), (6, 100)]);
+        assert_eq!(times.oldest(2), [(4, 50), (5, 100)]);
+        assert_eq!((times.oldest(1), times.oldest(0)), (vec![(4, 50)], vec![]));
         times.is_moved(4, 50);
         times.is_moved(5, 99);
-        assert_eq!(times.oldest(), [5, 6]);
+        assert_eq!(times.oldest(9), [(5, 100), (6, 100)]);
         times.change(&[(4, Change::Header)], 300);
-        assert_eq!(times.oldest(), [5, 6]);
+        assert_eq!(times.oldest(9), [(5, 100), (6, 100)]);
         times.change(&[(4, Change::Bytes)], 400);
-        assert_eq!(times.oldest(), [5, 6, 4]);
+        assert_eq!(times.oldest(9), [(5, 100), (6, 100), (4, 400)]);
     }
     #[test]
     fn a_node_is_born_once() {
