@@ -5,7 +5,7 @@ use crate::connection::Shared;
 use crate::duties::found;
 use crate::places::{Places, Room, Spot};
 use crate::queue::Answer;
-use crate::work::{Move, Said, Work};
+use crate::work::{Move, Said, Work, TOGETHER};
 use std::collections::VecDeque;
 use std::sync::Arc;
 use std::time::Duration;
@@ -74,11 +74,16 @@ async fn make_room(shared: &Shared, places: &mut Places, halted: &mut Option<[Ro
         }
         is_begun = true;
         places.stand(rooms);
-        let (count, ended) = move_some(shared, places, (2 * least - free).min(BLOCKS)).await;
+        let goal = (2 * least - free).min(BLOCKS);
+        let (count, ended) = move_some(shared, places, goal).await;
         moved += count;
         *halted = (ended == Ended::NoPlaces && count == 0).then_some(rooms);
         if ended != Ended::AsAsked {
             break;
+        }
+        if goal < TOGETHER as u64 {
+            // Others are written meanwhile, so that the next call has many moves, too. Where few places are free, it is made at once.
+            let _ = timeout(REST, shared.following.is_short()).await;
         }
     }
     if moved > 0 {

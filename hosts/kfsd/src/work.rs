@@ -4,7 +4,7 @@ use crate::places::{Places, Spot};
 use std::collections::{HashMap, VecDeque};
 
 /// The most moves of a call. While `kfs_serve` makes them nobody else is answered, so they are fewer than the desk's 1,024.
-const TOGETHER: usize = 128;
+pub const TOGETHER: usize = 128;
 
 /// How many blocks of a file may turn out not to be mapped. The rest of it stays where it is.
 const HOLES: u32 = 64;

@@ -1,18 +1,24 @@
 """Blocks go to slower tiers where few places of tier 0 are free."""
+import re
 import struct
+import threading
 import time
 
 from loading import image_in
 from looking import has_look_ups
-from running import Daemon, lease, user
+from running import Daemon, lease, lease_by_path, user
 
-from benchmarks import FILE, NameRow, log_of, node, plan_of, put
+from benchmarks import FILE, NameRow, file_gone, log_of, node, plan_of, put
 from fuzzing.codec import Create, Write
 from fuzzing.images import contents_of, finding, placement_of, tree_of
 
-USERS = [user(1000, 7, (2, 999)), user(1001, 8)]
+USERS = [user(1000, 7, (2, 9999)), user(1001, 8)]
 YES, NO_ROOM = 1, 3
 SIZE = 6000  # two blocks
+
+
+def submit(log, plan):
+    return struct.pack(">BII", 1, 7, len(log)) + log + struct.pack(">I", len(plan)) + plan
 
 
 def created(number, fill):
@@ -97,4 +103,105 @@ def all_tiers_are_filled(made):
         print(f"    40 files of two blocks on tiers of 20, 30 and 40 places: {free(daemon)} are free")
 
 
-TESTS = [the_oldest_go_to_slower_tiers, all_tiers_are_filled]
+def rows(daemon):
+    """How many rows the docket has."""
+    return int(re.search(r"rows of the docket: (\d+)", daemon.ask("free"))[1])
+
+
+def moved(daemon):
+    return daemon.status()["desk"]["moved_blocks"]
+
+
+class Program(threading.Thread):
+    """Creates files of two blocks as fast as it can, without a pause where there is no room."""
+
+    def __init__(self, daemon, numbers):
+        super().__init__()
+        self.connection, self.numbers, self.calls, self.refused, self.fault = daemon.connect(7), numbers, 0, 0, None
+
+    def run(self):
+        try:
+            for number in self.numbers:
+                answer = None
+                while answer != YES:
+                    answer = self.connection.ask(1, created(number, number % 251 + 1)).answer[4]
+                    assert answer in (YES, NO_ROOM), answer
+                    self.calls += 1
+                    self.refused += answer == NO_ROOM
+        except BaseException as fault:  # noqa: BLE001
+            self.fault = fault
+
+
+def moves_keep_up_with_programs(made):
+    """Three programs fill a desk as fast as they can. Each call of moves has many blocks of many files, so moves take few rows; kfsd knows by itself when few places are free."""
+    with Daemon(*made, users=USERS, tiers=(1500, 3000, 4000), duties={"free_percent": 20}).start() as daemon:
+        if not has_look_ups(daemon):
+            return
+        assert daemon.connect(7).ask(0, lease(7, 1 << 40, writes=True)).answer
+        before = rows(daemon)
+        programs = [Program(daemon, range(2 + at, 3602, 3)) for at in range(3)]
+        for it in programs:
+            it.start()
+        for it in programs:
+            it.join()
+            assert it.fault is None, it.fault
+        daemon.wait_for(lambda: free(daemon)[0] >= 300)
+        calls = sum(it.calls for it in programs)
+        spent, count = rows(daemon) - before - calls, moved(daemon)
+        assert count >= 7200 - 1500 and sum(free(daemon)) == 8500 - 7200
+        # the places of slower tiers are free but for those that kfsd has filled, so nothing is tried in vain
+        assert 0 < spent <= count / 20, (spent, count)
+        print(f"    {count} blocks of files of two blocks were moved by {spent} calls; of {calls} logs {sum(it.refused for it in programs)} had no room")
+
+
+def a_new_kfsd_finds_free_places(made):
+    """Behind a new start it isn't known which places are free. They are found by a few refusals, behind what is in use, and those before by the next round."""
+    with Daemon(*made, users=USERS, tiers=(500, 1500, 0), duties={"free_percent": 20}).start() as daemon:
+        if not has_look_ups(daemon):
+            return
+        number, spent, count = 2, 0, 0
+        for _ in range(3):
+            seven = daemon.connect(7)
+            assert seven.ask(0, lease(7, 1 << 40, writes=True)).answer
+            before, calls, was = rows(daemon), 0, moved(daemon)
+            for number in range(number, number + 300):
+                answer = None
+                while answer != YES:
+                    answer = seven.ask(1, created(number, number % 251 + 1)).answer[4]
+                    calls += 1
+            number += 1
+            daemon.wait_for(lambda: free(daemon)[0] >= 100)
+            spent, count = spent + rows(daemon) - before - calls, count + moved(daemon) - was
+            assert daemon.stop()[0] == 0
+            daemon.start()
+        assert count > 1000 and spent < 150, (spent, count)
+        print(f"    {count} blocks were moved by {spent} calls, behind two new starts, too")
+
+
+def full_tiers_cost_nothing(made):
+    """Where all tiers are full, logs are answered NoRoom and no row is spent on moves. It goes on once a file on a slower tier is removed."""
+    with Daemon(*made, users=USERS, tiers=(40, 60, 80), duties={"free_percent": 20}).start() as daemon:
+        if not has_look_ups(daemon):
+            return
+        seven = daemon.connect(7)
+        assert seven.ask(0, lease(7, 1 << 40, writes=True)).answer
+        number = 2
+        while free(daemon) != (0, 0, 0):
+            create(daemon, seven, number)
+            number += 1
+        oldest = next(it for it in range(2, number) if tiers_of(daemon)[it] == {1})
+        before, looks = rows(daemon), daemon.status()["frames"]["own"]
+        for count in range(1, 21):
+            assert seven.ask(1, created(number, number)).answer[4] == NO_ROOM
+            time.sleep(0.05)
+            assert rows(daemon) == before + count
+        # kfsd has looked meanwhile, which takes no row
+        daemon.wait_for(lambda: daemon.status()["frames"]["own"] > looks + 5)
+        assert seven.ask(0, lease_by_path(7, 1 << 40, b"/f%d" % oldest, writes=True)).answer[4] == 4
+        assert seven.ask(1, submit(*file_gone(b"f%d" % oldest, oldest))).answer[4] == YES
+        create(daemon, seven, number)
+        assert {1} in tiers_of(daemon).values() and free(daemon)[1] == 0
+        print(f"    {number - 1} files of two blocks on tiers of 40, 60 and 80 places")
+
+
+TESTS = [the_oldest_go_to_slower_tiers, all_tiers_are_filled, moves_keep_up_with_programs, a_new_kfsd_finds_free_places, full_tiers_cost_nothing]
