@@ -592,7 +592,50 @@ async fn end(child: &mut Child, program: &Path) -> Result<ExitStatus, DeskFault>
 #[cfg(test)]
 mod tests {
     use super::*;
+    use crate::calls::{time_call, Change, Setting};
+    use crate::cost::Part;
     use std::os::unix::process::ExitStatusExt;
+    use std::time::Instant;
+
+    /// Calls that set the times of these nodes, as they were sent and as they are in the journal.
+    fn set(nodes: &[u32]) -> (VecDeque<Sent>, VecDeque<Landing>) {
+        let calls = nodes.iter().map(|node| time_call(*node, Setting { time: 5, is_first: true }));
+        let notes: Vec<_> = calls.map(|call| Note::of(&call)).collect();
+        let landings = notes.iter().filter_map(Note::landing).collect();
+        let sent = |note| Sent {
+            number: 1,
+            client: 7,
+            note,
+            came: Instant::now(),
+            numbered: None,
+            is_checkpoint: false,
+            length: 1,
+            part: Part::free(7),
+            cost: 1,
+            asker: None,
+        };
+        (notes.into_iter().map(sent).collect(), landings)
+    }
+
+    #[test]
+    fn of_calls_that_are_left_those_count_that_the_journal_has() {
+        let (left, all) = set(&[1, 2, 3, 4, 5]);
+        let mut times = Times::default();
+        // nothing is known before
+        follow_left(&left, &all.iter().take(2).cloned().collect(), &mut times);
+        let known = |times: &Times| (1..9).filter(|node| times.of(*node).is_some()).collect::<Vec<_>>();
+        assert_eq!(known(&times), [1, 2]);
+        // behind those that are known come two more, of which the first is like one of them
+        let (left, more) = set(&[2, 6, 7]);
+        let before = times.of(1);
+        let recent = all.iter().take(2).chain(&more).take(4).cloned().collect();
+        follow_left(&left, &recent, &mut times);
+        assert_eq!((known(&times), times.of(1)), (vec![1, 2, 6], before));
+        assert_eq!(times.known_of(&recent), Some(4));
+        let gone = Landing { changes: vec![(6, Change::Gone)], print: 0 };
+        times.changed(&gone, 9);
+        assert_eq!((known(&times), times.known_of(&recent)), (vec![1, 2], None));
+    }
 
     #[test]
     fn a_new_start_follows_a_signal_and_want_of_memory() {

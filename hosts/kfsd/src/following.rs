@@ -278,3 +278,35 @@ impl Following {
         }
     }
 }
+
+#[cfg(test)]
+mod tests {
+    use super::*;
+    use std::time::Duration;
+    use tokio::time::timeout;
+
+    #[tokio::test]
+    async fn it_is_told_once_where_few_places_are_free() {
+        let following = Following::default();
+        let landed = |places: u64| [&[1, 0][..], &places.to_be_bytes()].concat();
+        let log = Note::of(&[&[1, 0, 0, 0, 7][..], &[0; 8]].concat());
+        let is_short = || async { timeout(Duration::from_millis(10), following.is_short()).await.is_ok() };
+        following.answered(&log, &landed(1 << 40), 1);
+        assert!(!is_short().await, "nobody has said how many there should be");
+        following.look_for(100, 50);
+        following.answered(&log, &landed(50), 1);
+        assert!(!is_short().await);
+        following.answered(&log, &landed(1), 1);
+        assert!(is_short().await);
+        following.answered(&log, &landed(10), 1);
+        assert!(!is_short().await, "it was told");
+        following.look_for(60, 50);
+        following.answered(&Note::Nothing, &[6, 0, 0, 0, 0, 0, 0, 0, 99], 1);
+        assert!(!is_short().await);
+        following.answered(&log, &landed(60), 1);
+        assert!(is_short().await);
+        // nor does a log that had no room take any
+        following.answered(&log, &[3, 0, 0, 0, 0, 0, 0, 0, 9, 0, 0, 0, 0], 1);
+        assert!(is_short().await);
+    }
+}

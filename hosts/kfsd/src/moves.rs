@@ -97,9 +97,7 @@ async fn move_some(shared: &Shared, places: &mut Places, goal: u64) -> (usize, E
         return (0, Ended::NoPlaces);
     }
     let oldest = shared.following.times().oldest(FILES);
-    if oldest.is_empty() {
-        return (0, Ended::NoFiles);
-    }
+    let are_all = oldest.len() < FILES;
     let files = oldest.into_iter().map(|(node, written)| (node, written, blocks_of(shared, node)));
     let mut work = Work::new(places, files.collect(), goal);
     let mut under_way = VecDeque::new();
@@ -130,7 +128,12 @@ async fn move_some(shared: &Shared, places: &mut Places, goal: u64) -> (usize, E
             work.stop();
         }
     }
-    (work.moved, if work.is_stopped() { Ended::NoPlaces } else { Ended::AsAsked })
+    let ended = match (work.is_stopped(), work.moved) {
+        (true, _) => Ended::NoPlaces,
+        (_, 0) if are_all => Ended::NoFiles,
+        _ => Ended::AsAsked,
+    };
+    (work.moved, ended)
 }
 
 /// How many blocks a file reaches over; none of what is no file.
