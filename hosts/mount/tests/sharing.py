@@ -135,50 +135,61 @@ def fault_of(call):
     return None
 
 
+def give_again(folder, numbers):
+    """Makes and removes files until each of these numbers is that of a new one. Returns their names."""
+    again = {}
+    for index in range(60):
+        with open(f"{folder}/new{index}", "wb") as it:
+            it.write(b"new %d" % index)
+            os.fchmod(it.fileno(), 0o666)
+        beside.sync(folder)
+        again[os.stat(f"{folder}/new{index}").st_ino] = f"new{index}"
+        if numbers <= set(again):
+            return again
+        if len(again) > 3:
+            os.unlink(f"{folder}/{again.pop(next(other for other in again if other not in numbers))}")
+            beside.sync(folder)
+    raise AssertionError((numbers, again))
+
+
 def an_open_file_leads_to_no_other(made):
-    """A number that is given again leads no descriptor of another mount to the new file, to read, to write, or to look names up."""
+    """A number that is given again leads no descriptor of another mount to the new file, to read, to write, or to look names up. What
+    is short is read as it was."""
     if not can_mount():
         return
     # So few numbers are soon given again.
     with shared_by(made, grant=8) as (daemon, (mine, theirs)):
         if not daemon:
             return
-        with open(f"{mine}/old", "wb") as it:
-            it.write(b"old")
-            os.fchmod(it.fileno(), 0o666)
+        due = {"short": b"old", "long": b"old" * 50_000}
+        for name, data in due.items():
+            with open(f"{mine}/{name}", "wb") as it:
+                it.write(data)
+                os.fchmod(it.fileno(), 0o666)
         os.mkdir(f"{mine}/directory")
         beside.sync(mine)
-        number = os.stat(f"{mine}/old").st_ino
-        reader, writer = os.open(f"{theirs}/old", os.O_RDONLY), os.open(f"{theirs}/old", os.O_RDWR)
+        numbers = {os.stat(f"{mine}/{name}").st_ino for name in (*due, "directory")}
+        short, long = (os.open(f"{theirs}/{name}", os.O_RDWR) for name in due)
         inside = os.open(f"{theirs}/directory", os.O_RDONLY)
-        held = os.stat(f"{mine}/directory").st_ino
-        assert os.pread(reader, 9, 0) == b"old"
-        os.unlink(f"{mine}/old")
+        assert (os.pread(short, 9, 0), os.pread(long, 3, 0)) == (b"old", b"old")
+        for name in due:
+            os.unlink(f"{mine}/{name}")
         os.rmdir(f"{mine}/directory")
         beside.sync(mine)
-        again = {}
-        for index in range(40):
-            with open(f"{mine}/new{index}", "wb") as it:
-                it.write(b"new %d" % index)
-                os.fchmod(it.fileno(), 0o666)
-            beside.sync(mine)
-            again[os.stat(f"{mine}/new{index}").st_ino] = f"new{index}"
-            if {number, held} <= set(again):
-                break
-            if len(again) > 2:
-                os.unlink(f"{mine}/{again.pop(next(other for other in again if other not in (number, held)))}")
-                beside.sync(mine)
-        assert {number, held} <= set(again), again
-        due = beside.whole(f"{mine}/{again[number]}")
-        assert fault_of(lambda: os.pread(reader, 4096, 0)) == "ESTALE"
-        assert fault_of(lambda: os.pread(writer, 4096, 0)) == "ESTALE"
-        assert fault_of(lambda: (os.pwrite(writer, b"wrong", 0), os.fsync(writer))) == "ESTALE"
-        assert fault_of(lambda: os.ftruncate(writer, 0)) == "ESTALE"
-        assert fault_of(lambda: os.fchmod(writer, 0o600)) == "ESTALE"
+        again = give_again(mine, numbers)
+        now = {name: beside.whole(f"{mine}/{name}") for name in again.values()}
+        assert (os.pread(short, 4096, 0), os.fstat(short).st_nlink) == (b"old", 0)
+        assert fault_of(lambda: os.pread(long, 4096, 120_000)) == "ESTALE"
+        for descriptor in (short, long):
+            assert fault_of(lambda: (os.pwrite(descriptor, b"wrong", 0), os.fsync(descriptor))) == "ESTALE"
+            assert fault_of(lambda: os.ftruncate(descriptor, 0)) == "ESTALE"
+            assert fault_of(lambda: os.fchmod(descriptor, 0o600)) == "ESTALE"
         assert fault_of(lambda: os.stat("x", dir_fd=inside)) in ("ESTALE", "ENOENT")
         assert fault_of(lambda: os.open("x", os.O_CREAT | os.O_WRONLY, 0o644, dir_fd=inside)) in ("ESTALE", "ENOENT")
-        assert beside.whole(f"{theirs}/{again[number]}") == due
-        for descriptor in (reader, writer, inside):
+        beside.sync(theirs)
+        assert {name: beside.whole(f"{theirs}/{name}") for name in again.values()} == now
+        assert {name: beside.whole(f"{mine}/{name}") for name in again.values()} == now
+        for descriptor in (short, long, inside):
             os.close(descriptor)
 
 
