@@ -19,6 +19,7 @@ use std::collections::hash_map::RandomState;
 use std::collections::{HashMap, VecDeque};
 use std::hash::{BuildHasher, Hasher};
 use std::io;
+use std::os::unix::io::RawFd;
 use std::path::Path;
 use std::thread::sleep;
 use std::time::{Duration, Instant};
@@ -728,6 +729,17 @@ impl Desk for Connection {
             Err(fault) => return Err(fault.into()),
         };
         found_places(&found).map(Some).ok_or_else(|| nonsense(&[PLACES]).into())
+    }
+
+    fn wait_for_news(&mut self, most: Duration) {
+        match &self.wants {
+            Some(wants) => wants.wait(most),
+            None => sleep(most),
+        }
+    }
+
+    fn news(&self) -> Option<RawFd> {
+        self.wants.as_ref().and_then(Wants::news)
     }
 
     fn is_ending(&self) -> bool {

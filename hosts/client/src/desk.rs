@@ -4,6 +4,9 @@ use crate::fault::Reason;
 use crate::locks::{HeldLocks, Lock, LockAnswer, LockHow};
 use crate::shown::{Shown, Unshown};
 use nix::errno::Errno;
+use std::os::unix::io::RawFd;
+use std::thread::sleep;
+use std::time::Duration;
 use thiserror::Error;
 
 /// What a lease is for.
@@ -227,6 +230,17 @@ pub trait Desk: Shown {
     /// For how many moments a lease may live at most.
     fn longest_term(&self) -> u64 {
         u64::MAX
+    }
+
+    /// Waits for so long at most, and not so long where it is told meanwhile that others want something of this client, or that
+    /// something is free for which it waits.
+    fn wait_for_news(&mut self, most: Duration) {
+        sleep(most);
+    }
+
+    /// Where it can be waited for that others want something of this client.
+    fn news(&self) -> Option<RawFd> {
+        None
     }
 
     /// What others want of this client's leases, since this was asked last.

@@ -17,7 +17,6 @@ use crate::shown::{Shown, Stamp, Unshown};
 use std::collections::HashMap;
 use std::fmt;
 use std::ops::RangeInclusive;
-use std::thread::sleep;
 use std::time::{Duration, Instant};
 
 /// How often an entry is tried at least. Each time but the last one more lease was lacking, or the log was full. While a lease is
@@ -30,7 +29,7 @@ const TOGETHER: usize = 256;
 /// How long the first and each later pause is, where another client has the lease.
 pub(crate) const FIRST_PAUSE: Duration = Duration::from_millis(1);
 const LONGEST_PAUSE: Duration = Duration::from_millis(50);
-/// How long a lease that was given up isn't asked for again: longer than a pause of who wants it.
+/// How long no lease for reading is taken on a node on which one was given up.
 const COURTESY: Duration = Duration::from_millis(100);
 /// For how long a node on which another client wanted a lease is leased from one `poll` to the next alone.
 const CONTENDED: Duration = Duration::from_secs(30);
@@ -537,9 +536,6 @@ impl<D: Desk> Session<D> {
     pub(crate) fn take_lease(&mut self, number: u32, kind: LeaseKind) -> Result<(), Failure> {
         let until = Instant::now() + self.options.patience;
         let mut pause = FIRST_PAUSE;
-        if let Some(given_up) = self.given_up.remove(&number) {
-            sleep(COURTESY.saturating_sub(given_up.elapsed()));
-        }
         loop {
             let refusal = match self.ask_lease(number, kind)? {
                 Ok(()) => return Ok(()),
@@ -564,8 +560,8 @@ impl<D: Desk> Session<D> {
         let given = self.give_up_wanted();
         let renewed = self.renew();
         self.is_waiting = false;
-        sleep(*pause);
-        *pause = (*pause * 2).min(LONGEST_PAUSE);
+        self.desk.wait_for_news(*pause);
+        *pause = (*pause * 5 / 4).min(LONGEST_PAUSE);
         given?;
         Ok(renewed?)
     }
@@ -661,6 +657,7 @@ impl<D: Desk> Session<D> {
     /// told a second time.
     fn give_up_contended(&mut self) -> Result<(), Failure> {
         self.wished.retain(|_, at| at.elapsed() < CONTENDED);
+        self.given_up.retain(|_, at| at.elapsed() < COURTESY);
         let held: Vec<u32> = self.wished.keys().copied().filter(|number| self.leases.reads(*number)).collect();
         let given: Vec<_> = held.into_iter().map(|number| self.give_up(number)).collect();
         given.into_iter().collect()
@@ -687,6 +684,12 @@ impl<D: Desk> Session<D> {
         // Also one that has ended here, and one of an earlier session of this client: it may be live still.
         let _none_held = self.desk.drop_lease(number)?;
         Ok(handed_in?)
+    }
+
+    /// Gives up the leases that others want, if they do: call it where `Desk::news` has something to read, or more often than `poll`.
+    pub fn hear(&mut self) -> Result<(), Failure> {
+        self.pass_time()?;
+        self.give_up_wanted()
     }
 
     /// Does what is due: leases that others want are given up, those that are used are renewed, and a log that has waited long

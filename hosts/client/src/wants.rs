@@ -3,15 +3,20 @@
 
 use crate::desk::Wish;
 use crate::line::Door;
+use nix::poll::{poll, PollFd, PollFlags};
 use std::io::{self, ErrorKind, Read, Write};
+use std::os::unix::io::{AsRawFd, RawFd};
 use std::os::unix::net::UnixStream;
+use std::thread::sleep;
+use std::time::Duration;
 
 /// The tag of the question, before the serial of the last want that was told, and of the answer.
 const WANTED: u8 = 0xf3;
-/// What stands behind the node of a lease that another one wants, and of a lock that may be had now. Anything else is the length of a
+/// What stands behind the node of a lease that another one wants, of a lock that may be had now, and of a lease that may. Anything else is the length of a
 /// path, which an earlier kfsd told.
 const LEASE: u16 = 0;
 const LOCK: u16 = 1;
+const FREE: u16 = 2;
 /// How many bytes stand before the wants of an answer: its head, tag, serial and count.
 const HEAD: usize = 19;
 
@@ -67,6 +72,21 @@ impl Wants {
     /// The files on which the way to a lock was freed, as far as `told` has heard of them.
     pub fn take_freed(&mut self) -> Vec<u32> {
         std::mem::take(&mut self.freed)
+    }
+
+    /// Waits until something is told, for so long at most.
+    pub fn wait(&self, most: Duration) {
+        if self.is_gone || self.is_unknown {
+            sleep(most);
+            return;
+        }
+        // A signal ends the wait, too.
+        let _ = poll(&mut [PollFd::new(self.stream.as_raw_fd(), PollFlags::POLLIN)], most.as_millis().max(1) as i32);
+    }
+
+    /// Where it can be waited for that something is told.
+    pub fn news(&self) -> Option<RawFd> {
+        (!self.is_gone && !self.is_unknown).then(|| self.stream.as_raw_fd())
     }
 
     /// What was told since this was asked last, without waiting. Each is told once, so what was told is answered also where the
@@ -134,6 +154,8 @@ fn answer_of(bytes: &[u8]) -> Option<Told> {
         match u16::from_be_bytes(bytes.get(at + 8..at + 10)?.try_into().ok()?) {
             LEASE => told.wishes.push(Wish::Node(node)),
             LOCK => told.freed.push(node),
+            // Who waits for it asks again by itself.
+            FREE => {}
             length => {
                 let path = bytes.get(at + 10..at + 10 + usize::from(length))?;
                 told.wishes.push(Wish::Path(path.to_vec()));

@@ -1,6 +1,6 @@
 //! What kfsd knows of the desk: it follows each call and its answer, and reads the files before `kfs_serve` opens them.
 
-use crate::calls::{need_in, Change, Landing, Note, Told};
+use crate::calls::{need_in, Change, Landing, Note, Told, Why, Wish};
 use crate::clock::Clock;
 use crate::journal::{self, Part};
 use crate::leases::Leases;
@@ -9,7 +9,8 @@ use crate::outcomes::{Finder, Outcomes, KEPT};
 use crate::space::{Held, Space};
 use crate::store::{Changes, Outcome};
 use crate::times::Times;
-use crate::wants::{News, Wants};
+use crate::waiting::Waiting;
+use crate::wants::{News, Wants, What};
 use std::collections::{HashMap, VecDeque};
 use std::io;
 use std::path::Path;
@@ -67,6 +68,7 @@ pub struct Following {
     leases: Mutex<Leases>,
     locks: Mutex<Locks>,
     wants: Mutex<Wants>,
+    waiting: Mutex<Waiting>,
     times: Mutex<Times>,
     space: Mutex<Space>,
     /// Changes with each new want.
@@ -89,6 +91,7 @@ impl Default for Following {
             leases: Mutex::default(),
             locks: Mutex::default(),
             wants: Mutex::default(),
+            waiting: Mutex::default(),
             times: Mutex::default(),
             space: Mutex::default(),
             is_wanted: watch::channel(()).0,
@@ -127,7 +130,38 @@ impl Following {
     pub fn told(&self, client: u32, behind: u64) -> Vec<News> {
         let locks = self.locks();
         let wants = self.wants();
-        wants.told(client, behind, &locks.told(client, wants.known(behind)), Instant::now())
+        let known = wants.known(behind);
+        let locked = locks.told(client, known).into_iter().map(|(node, serial)| (What::Lock, node, serial));
+        let leased = self.waiting().told(client, known).into_iter().map(|(node, serial)| (What::Free, node, serial));
+        let more = locked.chain(leased).map(|(what, node, serial)| News { what, by: client, node, serial });
+        wants.told(client, behind, more, Instant::now())
+    }
+
+    /// Who waits for leases.
+    fn waiting(&self) -> MutexGuard<'_, Waiting> {
+        self.waiting.lock().unwrap_or_else(PoisonError::into_inner)
+    }
+
+    /// Takes over what the answer to a call for a lease, or to one that gives a lease up, is to those who wait for it.
+    fn let_in(&self, note: &Note, told: Told, now: Instant) {
+        let is_told = match (note, told) {
+            (Note::Lease(wish), Told::Leased(node)) => {
+                self.waiting().take(wish.client, node);
+                false
+            }
+            (Note::Lease(Wish { client, node: Some(node), .. }), Told::NoLease(Why::Held(_))) => {
+                self.waiting().wait(*client, *node, now);
+                false
+            }
+            (Note::Drop { client }, Told::Dropped(node)) => {
+                let mut wants = self.wants();
+                self.waiting().give_up(*client, node, now, || wants.next_serial())
+            }
+            _ => false,
+        };
+        if is_told {
+            self.is_wanted.send_replace(());
+        }
     }
 
     /// The leases that others want.
@@ -177,9 +211,11 @@ impl Following {
         self.is_wanted.subscribe()
     }
 
-    /// Whether a client's lease on a node isn't renewed, since another one has wanted it for long.
+    /// Whether a client doesn't get a lease on a node now: another one has wanted it for long, or it gave the lease up a moment ago for
+    /// others, whose turn it is.
     pub fn forbids(&self, client: u32, node: u32) -> bool {
-        self.wants().forbid(client, node, Instant::now())
+        let now = Instant::now();
+        self.wants().forbid(client, node, now) || self.waiting().forbids(client, node, now)
     }
 
     fn doubts(&self) -> MutexGuard<'_, VecDeque<Doubt>> {
@@ -267,6 +303,7 @@ impl Following {
             }
             self.times().changed(landing, time);
         }
+        self.let_in(note, told, Instant::now());
         if let Note::Lease(wish) = note {
             let noted = self.wants().apply(wish, told, &leases, Instant::now());
             if noted.is_new {

@@ -47,5 +47,6 @@ pub mod store;
 pub mod thread;
 pub mod times;
 pub mod users;
+pub mod waiting;
 pub mod wants;
 pub mod work;

@@ -41,6 +41,8 @@ pub enum What {
     Lease = 0,
     /// It waits for a lock, and something in the way of that has gone.
     Lock = 1,
+    /// It waits for a lease, and another one has given that up.
+    Free = 2,
 }
 
 /// What is told to a client.
@@ -191,15 +193,13 @@ impl Wants {
         self.retain(|_, want| now.duration_since(want.last) <= time);
     }
 
-    /// What a client holds that is wanted, behind a serial, and the nodes on which its way to a lock is freed: those first that
-    /// were first.
-    pub fn told(&self, holder: u32, behind: u64, freed: &[(u32, u64)], now: Instant) -> Vec<News> {
+    /// What a client holds that is wanted, behind a serial, and what else is news to it: those first that were first.
+    pub fn told(&self, holder: u32, behind: u64, more: impl Iterator<Item = News>, now: Instant) -> Vec<News> {
         let behind = self.known(behind);
         let is_told = |want: &Want| want.serial > behind && now.duration_since(want.last) <= self.time;
         let wanted = self.of.iter().filter(|((_, of), _)| *of == holder).map(|(_, want)| *want).filter(is_told);
         let wanted = wanted.map(|want| News { what: What::Lease, by: want.by, node: want.node, serial: want.serial });
-        let freed = freed.iter().map(|(node, serial)| News { what: What::Lock, by: holder, node: *node, serial: *serial });
-        let mut found: Vec<News> = wanted.chain(freed).collect();
+        let mut found: Vec<News> = wanted.chain(more).collect();
         found.sort_by_key(|news| news.serial);
         found.truncate(TOLD);
         found
@@ -235,6 +235,7 @@ fn uncount(counts: &mut BTreeMap<u32, usize>, by: u32) {
 mod tests {
     use super::*;
     use crate::calls::Note;
+    use std::iter::empty;
 
     const HELD: Told = Told::NoLease(Why::Held(7));
 
@@ -262,16 +263,16 @@ mod tests {
     fn who_holds_a_lease_is_told_once_for_a_want() {
         let (mut wants, now) = (Wants::default(), Instant::now());
         assert!(is_new(&mut wants, 8, now));
-        let serial = wants.told(7, 0, &[], now)[0].serial;
-        assert_eq!(wants.told(7, 0, &[], now)[0].node, 5);
-        assert!(wants.told(8, 0, &[], now).is_empty() && wants.told(7, serial, &[], now).is_empty());
+        let serial = wants.told(7, 0, empty(), now)[0].serial;
+        assert_eq!(wants.told(7, 0, empty(), now)[0].node, 5);
+        assert!(wants.told(8, 0, empty(), now).is_empty() && wants.told(7, serial, empty(), now).is_empty());
         assert!(!is_new(&mut wants, 9, now + seconds(20)));
-        assert_eq!(wants.told(7, 0, &[], now + seconds(40))[0].by, 9);
-        assert!(wants.told(7, 0, &[], now + seconds(51)).is_empty());
+        assert_eq!(wants.told(7, 0, empty(), now + seconds(40))[0].by, 9);
+        assert!(wants.told(7, 0, empty(), now + seconds(51)).is_empty());
         assert!(is_new(&mut wants, 8, now + seconds(60)));
-        assert!(wants.told(7, serial, &[], now + seconds(60))[0].serial > serial);
+        assert!(wants.told(7, serial, empty(), now + seconds(60))[0].serial > serial);
         // the serial of a kfsd whose clock went a day before
-        assert_eq!(wants.told(7, serial + (86_400 << 20), &[], now + seconds(60)).len(), 1);
+        assert_eq!(wants.told(7, serial + (86_400 << 20), empty(), now + seconds(60)).len(), 1);
         // by a path of which nobody has said where it leads nothing is wanted
         let nowhere = Wish { node: None, ..wish(8, 5) };
         assert_eq!(Wants::default().apply(&nowhere, HELD, &held(), now), Noted::default());
@@ -281,15 +282,15 @@ mod tests {
     fn who_takes_a_lease_again_is_told_again() {
         let (mut wants, now) = (Wants::default(), Instant::now());
         assert!(is_new(&mut wants, 8, now));
-        let serial = wants.told(7, 0, &[], now)[0].serial;
+        let serial = wants.told(7, 0, empty(), now)[0].serial;
         wants.taken(7, 6);
         wants.taken(8, 5);
         assert!(!is_new(&mut wants, 8, now + seconds(10)));
         wants.taken(7, 5);
-        assert!(wants.told(7, serial, &[], now + seconds(10)).is_empty());
+        assert!(wants.told(7, serial, empty(), now + seconds(10)).is_empty());
         assert!(is_new(&mut wants, 8, now + seconds(20)));
-        let again = wants.told(7, serial, &[], now + seconds(20))[0].serial;
-        assert!(again > serial && wants.told(7, again, &[], now + seconds(20)).is_empty());
+        let again = wants.told(7, serial, empty(), now + seconds(20))[0].serial;
+        assert!(again > serial && wants.told(7, again, empty(), now + seconds(20)).is_empty());
         assert!(!is_new(&mut wants, 9, now + seconds(25)));
         // it is wanted since the first time
         assert!(wants.forbid(7, 5, now + seconds(30)));
@@ -315,9 +316,9 @@ mod tests {
         let (mut wants, leases, now) = (Wants::default(), held(), Instant::now());
         is_new(&mut wants, 8, now);
         wants.apply(&wish(8, 6), Told::Leased(6), &leases, now);
-        assert_eq!(wants.told(7, 0, &[], now).len(), 1);
+        assert_eq!(wants.told(7, 0, empty(), now).len(), 1);
         wants.apply(&wish(8, 5), Told::Leased(5), &leases, now);
-        assert!(wants.told(7, 0, &[], now).is_empty() && wants.counts.is_empty());
+        assert!(wants.told(7, 0, empty(), now).is_empty() && wants.counts.is_empty());
     }
 
     #[test]
@@ -338,7 +339,7 @@ mod tests {
             wants.apply(&wish(8, node), HELD, &leases, now);
         }
         assert_eq!((wants.all(now).len(), wants.count(8)), (OF_A_CLIENT, OF_A_CLIENT));
-        assert_eq!(wants.told(7, 0, &[], now).len(), TOLD);
+        assert_eq!(wants.told(7, 0, empty(), now).len(), TOLD);
         // another one may want the same
         wants.apply(&wish(9, 0), HELD, &leases, now);
         assert_eq!((wants.count(8), wants.count(9)), (OF_A_CLIENT - 1, 1));

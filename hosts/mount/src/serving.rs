@@ -14,10 +14,12 @@ use nix::errno::Errno;
 use nix::poll::{poll, PollFd, PollFlags};
 use std::fs::File;
 use std::io::{self, Read, Write};
-use std::os::unix::io::AsRawFd;
+use std::os::unix::io::{AsRawFd, RawFd};
 use std::os::unix::net::UnixStream;
 use std::time::{Duration, Instant};
 
+/// How often it is heard what others want, where requests come without a pause.
+const HEARING: Duration = Duration::from_millis(2);
 /// After how long what is due is done, and where a program waits for a lock.
 const PAUSE: Duration = Duration::from_millis(100);
 const SHORT_PAUSE: Duration = Duration::from_millis(10);
@@ -40,18 +42,22 @@ const REPLACES_NOTHING: u32 = 1;
 /// Answers the kernel until the tree is unmounted, or there is something to read at `ends`.
 pub fn serve<D: Desk>(device: &mut File, ends: &UnixStream, volume: &mut Volume<D>) -> io::Result<()> {
     let mut bytes = vec![0; REQUEST];
-    let (mut polled, mut looks) = (Instant::now(), Looks::new(LONGEST_LOOK));
+    let (mut polled, mut heard, mut looks) = (Instant::now(), Instant::now(), Looks::new(LONGEST_LOOK));
     let (mut teller, mut ended) = (Teller::new(device)?, None);
     loop {
         let pause = if volume.locking.is_waiting() { SHORT_PAUSE } else { PAUSE };
         // Also where requests come without a pause.
         if polled.elapsed() >= pause {
             volume.poll();
-            volume.poll_locks().into_iter().try_for_each(|told| teller.tell(told))?;
             polled = Instant::now();
-            if has_ended(device, ends, Duration::ZERO)? {
+            if has_ended(device, ends, None, Duration::ZERO)? {
                 ended.get_or_insert_with(Instant::now);
             }
+        }
+        if heard.elapsed() >= HEARING {
+            volume.hear();
+            volume.poll_locks().into_iter().try_for_each(|told| teller.tell(told))?;
+            heard = Instant::now();
         }
         // What the thread tells may wait for an answer.
         if ended.map_or(false, |since: Instant| !teller.is_busy() || since.elapsed() >= LAST_TOLD) {
@@ -67,7 +73,7 @@ pub fn serve<D: Desk>(device: &mut File, ends: &UnixStream, volume: &mut Volume<
                 Some(Errno::ENODEV) => return Ok(()),
                 Some(Errno::EAGAIN) if looks.goes_on() => {}
                 Some(Errno::EAGAIN) => {
-                    if has_ended(device, ends, pause)? {
+                    if has_ended(device, ends, volume.news(), pause)? {
                         ended.get_or_insert_with(Instant::now);
                     }
                 }
@@ -79,9 +85,10 @@ pub fn serve<D: Desk>(device: &mut File, ends: &UnixStream, volume: &mut Volume<
     }
 }
 
-/// Waits for a request or the end. Returns whether that has come.
-fn has_ended(device: &File, ends: &UnixStream, most: Duration) -> io::Result<bool> {
-    let mut waits = [PollFd::new(device.as_raw_fd(), PollFlags::POLLIN), PollFd::new(ends.as_raw_fd(), PollFlags::POLLIN)];
+/// Waits for a request, the end, or news. Returns whether the end has come.
+fn has_ended(device: &File, ends: &UnixStream, news: Option<RawFd>, most: Duration) -> io::Result<bool> {
+    let (device, ends) = (device.as_raw_fd(), ends.as_raw_fd());
+    let mut waits: Vec<PollFd> = [device, ends].into_iter().chain(news).map(|it| PollFd::new(it, PollFlags::POLLIN)).collect();
     match poll(&mut waits, most.as_millis() as i32) {
         Ok(0) | Err(Errno::EINTR) => Ok(false),
         Ok(_) => Ok(waits[1].revents().map_or(false, |events| !events.is_empty())),

@@ -14,6 +14,7 @@ use std::collections::HashMap;
 use std::fs::{self, OpenOptions};
 use std::io::{self, Write};
 use std::os::unix::fs::{DirBuilderExt, OpenOptionsExt};
+use std::os::unix::io::RawFd;
 use std::path::{Path, PathBuf};
 use std::time::{Duration, Instant};
 
@@ -149,6 +150,18 @@ impl<D: Desk> Volume<D> {
         if let Err(failure) = self.session.poll() {
             let _nobody_asked = self.told(&failure);
         }
+    }
+
+    /// What others want now is given up.
+    pub fn hear(&mut self) {
+        if let Err(failure) = self.session.hear() {
+            let _nobody_asked = self.told(&failure);
+        }
+    }
+
+    /// Where it can be waited for that others want something.
+    pub fn news(&mut self) -> Option<RawFd> {
+        self.session.desk().news()
     }
 
     /// The number that POSIX has for a failure. Whoever made the calls that are lost by it may be another than who is told of it
