@@ -70,9 +70,9 @@ pub enum Unconnected {
     /// The user is listed, and the desk was made without it.
     #[error("the desk has no client for this user")]
     NoClient,
-    /// The user is another client, or has another grant by now.
-    #[error("this user is another client")]
-    Another,
+    /// The user is this client and no other one, or has another grant by now.
+    #[error("this user is another client{}", .0.map_or_else(String::new, |client| format!(": {client}")))]
+    Another(Option<u32>),
     /// What came is no answer.
     #[error("no answer to a hello")]
     Nonsense,
@@ -96,6 +96,8 @@ pub struct Connection {
     side_door: Door,
     pub(crate) line: Option<Line>,
     pub(crate) client: u32,
+    /// Whether it is known which client this is.
+    is_told: bool,
     grant: [u32; 2],
     pub(crate) number: u32,
     /// None where kfsd tells no moment, and takes no numbered calls.
@@ -133,12 +135,22 @@ struct AskedAhead {
 impl Connection {
     /// Connects to the socket as the client of this number, and asks for its grant. kfsd says a word to no other number.
     pub fn open(path: &Path, client: u32) -> Result<Connection, Unconnected> {
+        Connection::open_by(path, Some(client))
+    }
+
+    /// Connects as the client that this user is, by what kfsd tells.
+    pub fn open_as_told(path: &Path) -> Result<Connection, Unconnected> {
+        Connection::open_by(path, None)
+    }
+
+    fn open_by(path: &Path, client: Option<u32>) -> Result<Connection, Unconnected> {
         let random = RandomState::new().build_hasher().finish();
         let mut connection = Connection {
             door: Door::new(path),
             side_door: Door::new(path),
             line: None,
-            client,
+            client: client.unwrap_or(0),
+            is_told: client.is_some(),
             grant: [0, 0],
             number: 0,
             clock: None,
@@ -206,11 +218,12 @@ impl Connection {
     fn hello(&mut self) -> Result<[u32; 2], Unconnected> {
         let mut line = Line::new(self.door.connect()?, self.again.min(HELLO_TIME), self.ending.clone())?;
         let grant = match exchange(&mut line, self.number, self.client, &[HELLO])? {
-            Some(Reply::Welcome(client, grant, row)) if client == self.client => {
-                self.row = row;
+            Some(Reply::Welcome(client, grant, row)) if client == self.client || !self.is_told => {
+                (self.client, self.is_told, self.row) = (client, true, row);
                 grant
             }
-            Some(Reply::Welcome(..) | Reply::Refused(5)) => return Err(Unconnected::Another),
+            Some(Reply::Welcome(client, ..)) => return Err(Unconnected::Another(Some(client))),
+            Some(Reply::Refused(5)) => return Err(Unconnected::Another(None)),
             Some(Reply::Refused(130)) => return Err(Unconnected::Unlisted),
             Some(Reply::Refused(131)) => return Err(Unconnected::TooMany),
             Some(Reply::Refused(136)) => return Err(Unconnected::NoClient),
@@ -242,7 +255,7 @@ impl Connection {
             let told = self.hello().map_err(|fault| io::Error::new(io::ErrorKind::NotConnected, fault))?;
             if told != self.grant {
                 self.break_off();
-                return Err(io::Error::new(io::ErrorKind::NotConnected, Unconnected::Another));
+                return Err(io::Error::new(io::ErrorKind::NotConnected, Unconnected::Another(None)));
             }
         }
         Ok(())

@@ -179,6 +179,6 @@ fn a_connection_that_broke_is_made_anew() {
     assert_eq!(connection.drop_lease(ROOT).unwrap(), Err(LeaseRefusal::NoneHeld));
     assert_eq!(connection.lease(&Wanted { end: 0, ..wanted.clone() }).unwrap(), Err(LeaseRefusal::Past));
     assert_eq!(connection.lease(&Wanted { number: 500, ..wanted }).unwrap(), Err(LeaseRefusal::NoSuchNode));
-    assert!(matches!(Connection::open(&daemon.socket(), 8), Err(Unconnected::Another)));
+    assert!(matches!(Connection::open(&daemon.socket(), 8), Err(Unconnected::Another(Some(7)))));
     assert!(matches!(Connection::open(&daemon.room.join("none"), 7), Err(Unconnected::Socket(_))));
 }

@@ -12,12 +12,38 @@ const KEPT: u32 = 800_000_000;
 const DIRECTORY: u32 = 0o040_000;
 const FILE: u32 = 0o100_000;
 const LINK: u32 = 0o120_000;
+const FIFO: u32 = 0o010_000;
+const SOCKET: u32 = 0o140_000;
+/// The bits of a mode that say what a node is.
+const TYPE: u32 = 0o170_000;
+
+/// What a file of the desk is shown as.
+#[derive(Clone, Copy, Debug, PartialEq, Eq)]
+pub enum Form {
+    /// What it is: a file or a directory.
+    Plain,
+    Link,
+    Fifo,
+    Socket,
+}
+
+impl Form {
+    /// The form of a node that is to be made with this mode. A device can't be one.
+    pub fn of_mode(mode: u32) -> Option<Form> {
+        match mode & TYPE {
+            FILE => Some(Form::Plain),
+            FIFO => Some(Form::Fifo),
+            SOCKET => Some(Form::Socket),
+            _ => None,
+        }
+    }
+}
 
 /// A node as it is shown to the kernel. Of a link the size is that of its target.
 #[derive(Clone, Copy, Debug, PartialEq, Eq)]
 pub struct Shape {
     pub header: Header,
-    pub is_link: bool,
+    pub form: Form,
 }
 
 /// The times of a node, since the beginning of 1970.
@@ -83,14 +109,14 @@ impl Clocks {
     }
 }
 
-/// The bits of a mode that say what a node is.
+/// The bits of a node's mode that say what it is.
 pub fn type_bits(shape: &Shape) -> u32 {
-    if shape.is_link {
-        LINK
-    } else if shape.header.is_directory() {
-        DIRECTORY
-    } else {
-        FILE
+    match shape.form {
+        Form::Link => LINK,
+        Form::Fifo => FIFO,
+        Form::Socket => SOCKET,
+        Form::Plain if shape.header.is_directory() => DIRECTORY,
+        Form::Plain => FILE,
     }
 }
 
@@ -133,7 +159,7 @@ mod tests {
     #[test]
     fn sizes_are_those_of_the_kernel() {
         let header = Header { kind: Kind::File, mode: 0o644, uid: 1, gid: 2, links: 1, size: 513 };
-        let shape = Shape { header, is_link: false };
+        let shape = Shape { header, form: Form::Plain };
         let clocks = Clocks::default();
         assert_eq!(attribute_reply(5, &shape, &clocks).0.len(), 16 + 88);
         let mut reply = Reply::default();

@@ -1,6 +1,6 @@
 //! Calls that change the tree: new nodes, names, and headers.
 
-use crate::attributes::{now, Shape, Times};
+use crate::attributes::{now, Form, Shape, Times};
 use crate::links::link_bytes;
 use crate::volume::{is_gone, named, Volume};
 use kfs_client::{Desk, Header, Kind, Name};
@@ -45,6 +45,7 @@ impl<D: Desk> Volume<D> {
         self.nodes.renew(number);
         self.clocks.create(number);
         self.clocks.write(at);
+        self.forms.note(number, Form::Plain);
         self.shape_of(number)
     }
 
@@ -63,8 +64,8 @@ impl<D: Desk> Volume<D> {
 
     /// Changes a header. An owner can't be changed, and a file never runs as its owner.
     pub fn set_attributes(&mut self, id: u64, wanted: &Attributes) -> Result<Shape, Errno> {
-        let Shape { header, is_link } = self.shape(id)?;
-        if is_link && (wanted.mode.is_some() || wanted.size.is_some()) {
+        let Shape { header, form } = self.shape(id)?;
+        if form == Form::Link && (wanted.mode.is_some() || wanted.size.is_some()) {
             return Err(Errno::EOPNOTSUPP);
         }
         if matches!(wanted.uid, Some(uid) if uid != header.uid) || matches!(wanted.mode, Some(mode) if mode & SET_USER != 0) {
@@ -120,6 +121,7 @@ impl<D: Desk> Volume<D> {
             self.hide(id, number, at, &name)?;
         } else {
             self.session.unlink(at, &name, kind).map_err(|failure| self.told(&failure))?;
+            self.forms.unlink(number, &header);
             self.note_removed(id, header);
         }
         self.clocks.write(at);
@@ -131,7 +133,7 @@ impl<D: Desk> Volume<D> {
     fn note_removed(&mut self, id: u64, header: Header) {
         if header.is_directory() {
             let header = Header { links: 0, ..header };
-            self.removed.insert(id, Shape { header, is_link: false });
+            self.removed.insert(id, Shape { header, form: Form::Plain });
         }
     }
 
@@ -183,7 +185,8 @@ impl<D: Desk> Volume<D> {
             self.note_removed(id, header);
         }
         [from, to].into_iter().for_each(|directory| self.clocks.write(directory));
-        self.clocks.change(moved);
+        // What is replaced may have other names.
+        [Some(moved), there.map(|(number, _)| number)].into_iter().flatten().for_each(|number| self.clocks.change(number));
         Ok(())
     }
 }

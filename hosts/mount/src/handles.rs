@@ -149,6 +149,7 @@ fn length(seen: &Option<Seen>) -> usize {
 #[cfg(test)]
 mod tests {
     use super::*;
+    use crate::attributes::Form;
     use kfs_client::{Header, Kind};
 
     #[test]
@@ -166,7 +167,7 @@ mod tests {
     fn few_bytes_of_open_files_are_kept() {
         let mut handles = Handles::default();
         let header = Header { kind: Kind::File, mode: 0o644, uid: 1, gid: 2, links: 1, size: 3 };
-        let shape = Shape { header, is_link: false };
+        let shape = Shape { header, form: Form::Plain };
         (5..7).for_each(|id| handles.open(id));
         handles.see(5, shape, Some(vec![0; SEEN - 3]));
         handles.see(6, shape, Some(vec![1; 4]));

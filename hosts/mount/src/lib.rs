@@ -4,7 +4,9 @@
 #![forbid(unsafe_code)]
 
 pub mod attributes;
+pub mod background;
 pub mod changes;
+pub mod fusermount;
 pub mod handles;
 pub mod links;
 pub mod locking;
@@ -12,5 +14,7 @@ pub mod mounting;
 pub mod nodes;
 pub mod protocol;
 pub mod serving;
+pub mod special;
 pub mod telling;
 pub mod volume;
+pub mod words;

@@ -1,9 +1,10 @@
 //! Requests of the kernel, one after another.
 
-use crate::attributes::{attribute_reply, entry, now, type_bits, Shape};
+use crate::attributes::{attribute_reply, entry, now, type_bits, Form, Shape};
 use crate::changes::Attributes;
 use crate::nodes::number_of;
 use crate::protocol::{forget_header, forget_names, forgets_names, init_reply, Operation, Reply, Request, REQUEST};
+use crate::special;
 use crate::telling::{put_reply, Teller};
 use crate::volume::{appends, Volume};
 use kfs_client::desk::Blocks;
@@ -29,9 +30,6 @@ const LAST_TOLD: Duration = Duration::from_secs(5);
 const LONGEST_LOOK: Duration = Duration::from_micros(50);
 /// How many bytes a name takes in a list at least, with what it leads to.
 const LISTED: usize = 160;
-/// The bits of a mode that say what a node is, and those of a file.
-const TYPE: u32 = 0o170_000;
-const FILE: u32 = 0o100_000;
 /// The flags of an open by which the kernel asks for each read and write (`FOPEN_DIRECT_IO`), and keeps the bytes that it has
 /// (`FOPEN_KEEP_CACHE`).
 const ASKS_ALWAYS: u32 = 1;
@@ -194,10 +192,11 @@ fn answer_of_names<D: Desk>(volume: &mut Volume<D>, request: &mut Request<'_>) -
         Operation::MakeNode => {
             let mode = request.word()?;
             request.skip(12)?;
-            if mode & TYPE != FILE {
-                return Err(Errno::EPERM);
-            }
-            let found = volume.make(node, request.text()?, Kind::File, (mode & 0o1777) as u16)?;
+            let (form, mode) = (Form::of_mode(mode).ok_or(Errno::EPERM)?, (mode & 0o1777) as u16);
+            let found = match form {
+                Form::Plain => volume.make(node, request.text()?, Kind::File, mode)?,
+                _ => special::make(volume, node, request.text()?, form, mode)?,
+            };
             Ok(entry_reply(volume, node, found))
         }
         Operation::MakeDirectory => {

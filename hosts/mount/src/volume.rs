@@ -1,10 +1,11 @@
 //! The calls of a file system over a session: what the desk has no entry for is done here, as far as one mount can.
 
-use crate::attributes::{now, Clocks, Shape};
+use crate::attributes::{now, Clocks, Form, Shape};
 use crate::handles::{Closed, Handles, List, Seen};
 use crate::links::{target_of, LENGTH};
 use crate::locking::Locking;
 use crate::nodes::{Nodes, ROOT};
+use crate::special::{self, Forms};
 use kfs_client::client::Access;
 use kfs_client::desk::Blocks;
 use kfs_client::leftover::Leftover;
@@ -73,6 +74,8 @@ pub struct Volume<D> {
     /// What the kernel has of the bytes of each file.
     pub(crate) kept: HashMap<u64, Kept>,
     pub locking: Locking,
+    /// What is a socket or a FIFO.
+    pub forms: Forms,
     telling: Telling,
     /// Whether the kernel is told once it has to look names up anew.
     tells_losses: bool,
@@ -133,6 +136,7 @@ impl<D: Desk> Volume<D> {
             removed: HashMap::new(),
             owed: None,
             kept: HashMap::new(),
+            forms: Forms::default(),
             telling: Telling::default(),
             tells_losses: false,
             locking: Locking::default(),
@@ -306,11 +310,27 @@ impl<D: Desk> Volume<D> {
         let links = header.links - u16::from(self.handles.is_hidden(id));
         if let Some(target) = self.target(number, &header)? {
             let header = Header { mode: LINK_MODE, size: target.len() as u64, links, ..header };
-            return Ok(Shape { header, is_link: true });
+            return Ok(Shape { header, form: Form::Link });
         }
         self.nodes.tell_size(number, header.size);
         let mode = self.handles.late_mode(id).unwrap_or(header.mode);
-        Ok(Shape { header: Header { mode, links, ..header }, is_link: false })
+        let form = self.form(number, &header)?;
+        Ok(Forms::shape(Header { mode, links, ..header }, form))
+    }
+
+    /// Whether a node is a socket or a FIFO. To those who can't read it it stays what it was.
+    fn form(&mut self, number: u32, header: &Header) -> Result<Form, Errno> {
+        if !Forms::may_be(header) {
+            return Ok(self.forms.note(number, Form::Plain));
+        }
+        match self.session.read(number, 0, special::LENGTH as usize) {
+            Ok(bytes) => Ok(self.forms.note(number, special::form_of(&bytes))),
+            Err(failure) => match self.told(&failure) {
+                Errno::EACCES => Ok(self.forms.known(number)),
+                Errno::ESTALE => Ok(Form::Plain),
+                errno => Err(errno),
+            },
+        }
     }
 
     /// The target of a link, where the node is one and can be read.
@@ -500,7 +520,7 @@ impl<D: Desk> Volume<D> {
             _ => None,
         };
         self.handles.open(id);
-        self.handles.see(id, Shape { header, is_link: false }, bytes);
+        self.handles.see(id, Shape { header, form: Form::Plain }, bytes);
         if !keeps {
             self.kept.insert(id, Kept::Since(since));
         }
@@ -735,7 +755,7 @@ mod tests {
     fn a_link_is_a_file_of_the_desk() {
         let mut volume = volume();
         let (link, shape) = volume.make_link(1, b"l", b"../a").unwrap();
-        assert_eq!((shape.is_link, shape.header.size, shape.header.mode), (true, 4, 0o777));
+        assert_eq!((shape.form, shape.header.size, shape.header.mode), (Form::Link, 4, 0o777));
         volume.sync().unwrap();
         assert_eq!(volume.read_link(link).unwrap(), b"../a");
         assert_eq!(volume.session.header(link as u32).unwrap().size, LENGTH);

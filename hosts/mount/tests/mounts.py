@@ -48,13 +48,13 @@ def is_there(word):
 
 
 @contextlib.contextmanager
-def mounted_by(*words, uid=USER):
+def mounted_by(*words, uid=USER, gid=None):
     """A folder at which a tree is mounted, for a user, and the process that serves it. Others may come in, too, as its modes say."""
     with tempfile.TemporaryDirectory(prefix="kfs-mount-") as room:
         os.chmod(room, 0o755)
         folder = f"{room}/at"
         os.mkdir(folder)
-        process = subprocess.Popen([MOUNT, folder, "--uid", str(uid), "--gid", str(uid), "--allow-other", *words], stdout=subprocess.PIPE, text=True)
+        process = subprocess.Popen([MOUNT, folder, "--uid", str(uid), "--gid", str(uid if gid is None else gid), "--allow-other", *words], stdout=subprocess.PIPE, text=True)
         try:
             assert process.stdout.readline() == "mounted\n"
             yield folder, process
@@ -66,9 +66,9 @@ def mounted_by(*words, uid=USER):
 
 
 @contextlib.contextmanager
-def mounted(*words, uid=USER):
+def mounted(*words, uid=USER, gid=None):
     """The folder alone."""
-    with mounted_by(*words, uid=uid) as (folder, _process):
+    with mounted_by(*words, uid=uid, gid=gid) as (folder, _process):
         yield folder
 
 
