@@ -729,6 +729,22 @@ impl Desk for Connection {
         }
     }
 
+    fn last_call(&self) -> Option<u64> {
+        self.clock.map(|_| self.next_call)
+    }
+
+    fn was_done(&mut self, call: u64) -> Result<bool, Unanswered> {
+        let body = [&[NUMBERED][..], &call.to_be_bytes()].concat();
+        loop {
+            match self.ask_again(&body)? {
+                // It is under way.
+                Reply::Refused(133) if self.asks_again() => {}
+                Reply::Refused(134) => return Ok(false),
+                reply => return Ok(answer_in(reply, &body)? == Told::Of(Answer::Yes)),
+            }
+        }
+    }
+
     /// A second of kfsd's clock, or a later one: later by at most two, and the time that kfsd took to tell it. 0 where it tells
     /// none.
     fn moment(&mut self) -> Result<u64, Unanswered> {

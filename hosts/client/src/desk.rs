@@ -214,6 +214,16 @@ pub trait Desk: Shown {
     /// Hands a log in, with its plan.
     fn submit(&mut self, log: &[u8], plan: &[u8]) -> Result<Answer, Unanswered>;
 
+    /// The number under which a log was handed in last, where the server takes such numbers.
+    fn last_call(&self) -> Option<u64> {
+        None
+    }
+
+    /// Whether the server knows that the log was done that was handed in under this number.
+    fn was_done(&mut self, _call: u64) -> Result<bool, Unanswered> {
+        Ok(false)
+    }
+
     /// The moment by which leases end, as far as the client knows it.
     fn moment(&mut self) -> Result<u64, Unanswered>;
 

@@ -10,6 +10,8 @@ use crate::session::Session;
 use std::collections::HashMap;
 
 const MAGIC: &[u8; 8] = b"KFSLEFT1";
+/// How many bytes stand behind it: the number of the log's last call, and how many nodes are meant.
+const HEAD: usize = 12;
 /// How many bytes tell which node is meant by a number.
 const MEANT: usize = 12;
 
@@ -17,6 +19,8 @@ const MEANT: usize = 12;
 #[derive(Clone, Debug)]
 pub struct Leftover {
     client: u32,
+    /// The number under which the log was handed in, where nobody knows whether it was done; else 0.
+    call: u64,
     /// When nodes were made that the log changes, as far as that was known.
     meant: Vec<(u32, u64)>,
     log: Log,
@@ -24,14 +28,15 @@ pub struct Leftover {
 
 impl Leftover {
     /// The log of a draft, unless it is empty.
-    pub(crate) fn of(draft: &Draft) -> Option<Leftover> {
+    pub(crate) fn of(draft: &Draft, call: u64) -> Option<Leftover> {
         let meant = draft.meant().into_iter().collect();
-        (!draft.log().is_empty()).then(|| Leftover { client: draft.client().number, meant, log: draft.log().clone() })
+        (!draft.log().is_empty()).then(|| Leftover { client: draft.client().number, call, meant, log: draft.log().clone() })
     }
 
     /// Its bytes.
     pub fn to_bytes(&self) -> Vec<u8> {
         let mut bytes = MAGIC.to_vec();
+        bytes.extend_from_slice(&self.call.to_be_bytes());
         // A log changes at most as many nodes as it has entries, and a directory more for each.
         bytes.extend_from_slice(&(self.meant.len() as u32).to_be_bytes());
         for (number, born) in &self.meant {
@@ -45,15 +50,17 @@ impl Leftover {
     /// What these bytes are, if they are what was left.
     pub fn of_bytes(bytes: &[u8]) -> Option<Leftover> {
         let rest = bytes.strip_prefix(MAGIC)?;
-        let count = u32::from_be_bytes(rest.get(..4)?.try_into().ok()?) as usize;
-        let (meant, log) = rest[4..].split_at(Some(count.checked_mul(MEANT)?).filter(|length| *length <= rest.len() - 4)?);
+        let call = u64::from_be_bytes(rest.get(..8)?.try_into().ok()?);
+        let count = u32::from_be_bytes(rest.get(8..HEAD)?.try_into().ok()?) as usize;
+        let length = count.checked_mul(MEANT).filter(|length| *length <= rest.len() - HEAD)?;
+        let (meant, log) = rest[HEAD..].split_at(length);
         let one = |bytes: &[u8]| {
             let (number, born) = bytes.split_at(4);
             Some((u32::from_be_bytes(number.try_into().ok()?), u64::from_be_bytes(born.try_into().ok()?)))
         };
         let meant = meant.chunks(MEANT).map(one).collect::<Option<Vec<_>>>()?;
         let (client, log) = Log::read(log)?;
-        Some(Leftover { client, meant, log })
+        Some(Leftover { client, call, meant, log })
     }
 
     /// The client whose log it is.
@@ -70,12 +77,16 @@ impl Leftover {
 impl<D: Desk> Session<D> {
     /// What is left in the log, for a later session.
     pub fn leftover(&self) -> Option<Leftover> {
-        Leftover::of(&self.draft)
+        let call = if self.is_uncertain { self.desk.last_call() } else { None };
+        Leftover::of(&self.draft, call.unwrap_or(0))
     }
 
     /// Takes the entries of a log that was left into this one, and hands them in. Returns those that can't be done any more. New
     /// nodes get other numbers where theirs were given since.
     pub fn take_leftover(&mut self, left: &Leftover) -> Result<Vec<Lost>, Failure> {
+        if left.call != 0 && self.desk.was_done(left.call)? {
+            return Ok(Vec::new());
+        }
         let (mut lost, mut renumbered) = (Vec::new(), HashMap::new());
         for entry in left.log.entries() {
             left.meant.iter().for_each(|(number, born)| self.mean(*number, *born));

@@ -21,6 +21,8 @@ pub(crate) struct Room {
     told: Option<(Instant, Blocks)>,
     /// The log as it was refused for want of room last: how many entries and bytes it had, and how many blocks it writes.
     refused: Option<(usize, usize, u64)>,
+    /// How blocks were when it was waited in vain for them to go to slower tiers.
+    stuck: Option<Blocks>,
 }
 
 /// Who waits until blocks have gone to slower tiers.
@@ -125,8 +127,13 @@ impl<D: Desk> Session<D> {
 
     /// Whether to wait until blocks have gone to slower tiers.
     pub(crate) fn waits_for_room(&mut self, waiting: &mut Waiting) -> bool {
-        let now = if self.desk.is_ending() { None } else { self.blocks_now().ok().flatten() };
-        now.map_or(false, |now| waiting.goes_on(now))
+        let now = match self.blocks_now() {
+            Ok(Some(now)) if !self.desk.is_ending() && self.room.stuck != Some(now) => now,
+            _ => return false,
+        };
+        let goes_on = waiting.goes_on(now);
+        self.room.stuck = if goes_on { None } else { Some(now) };
+        goes_on
     }
 
     /// Takes an entry that may free room. Where the log has none, and neither depends on the other, it is done before the log.

@@ -174,12 +174,12 @@ mod tests {
     #[test]
     fn wants_are_read_from_an_answer() {
         let mut bytes = vec![0, 0, 0, 0, 0, 0, 0, 0, WANTED, 0, 0, 0, 0, 0, 0, 1, 2, 0, 3];
-        bytes.extend([0, 0, 0, 8, 0, 0, 0, 0, 0, 2, b'/', b'a']);
+        bytes.extend([0, 0, 0, 8, 0, 0, 0, 0, 0, 3, b'/', b'a', b'b']);
         bytes.extend([0, 0, 0, 7, 0, 0, 1, 2, 0, 1]);
         bytes.extend([0, 0, 0, 8, 0, 0, 1, 1, 0, 0]);
-        let wishes = vec![Wish::Path(b"/a".to_vec()), Wish::Node(257)];
+        let wishes = vec![Wish::Path(b"/ab".to_vec()), Wish::Node(257)];
         assert_eq!(answer_of(&bytes), Some(Told { serial: 258, wishes, freed: vec![258] }));
-        assert_eq!(answer_of(&bytes[..50]), None);
+        assert_eq!(answer_of(&bytes[..51]), None);
         assert_eq!(answer_of(&[0, 0, 0, 6, 0, 0, 0, 0, 2, 3, 0, 0, 0, 0]), None);
     }
 }

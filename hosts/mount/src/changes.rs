@@ -2,6 +2,7 @@
 
 use crate::attributes::{now, Form, Shape, Times};
 use crate::links::link_bytes;
+use crate::special::Forms;
 use crate::volume::{is_gone, named, Volume};
 use kfs_client::{Desk, Header, Kind, Name};
 use nix::errno::Errno;
@@ -121,20 +122,21 @@ impl<D: Desk> Volume<D> {
             self.hide(id, number, at, &name)?;
         } else {
             self.session.unlink(at, &name, kind).map_err(|failure| self.told(&failure))?;
-            self.forms.unlink(number, &header);
-            self.note_removed(id, header);
+            self.note_removed(id, number, header);
         }
         self.clocks.write(at);
         self.clocks.change(number);
         Ok(())
     }
 
-    /// A directory has gone. Who has it open, or stands in it, has it until the kernel forgets it.
-    fn note_removed(&mut self, id: u64, header: Header) {
-        if header.is_directory() {
-            let header = Header { links: 0, ..header };
-            self.removed.insert(id, Shape { header, form: Form::Plain });
+    /// A name of a node has gone. A directory, a FIFO or a socket may be open without this mount being told: who has it open, or
+    /// stands in it, has it until the kernel forgets it.
+    fn note_removed(&mut self, id: u64, number: u32, header: Header) {
+        let form = self.forms.known(number);
+        if header.is_directory() || (form != Form::Plain && header.links <= 1) {
+            self.removed.insert(id, Forms::shape(Header { links: 0, ..header }, form));
         }
+        self.forms.unlink(number, &header);
     }
 
     /// Whether a file that loses this name is open, and has no other by now.
@@ -181,8 +183,8 @@ impl<D: Desk> Volume<D> {
             _ => {}
         }
         self.session.rename(from, &name, to, &new_name).map_err(|failure| self.told(&failure))?;
-        if let Some((id, _, header)) = replaced {
-            self.note_removed(id, header);
+        if let Some((id, number, header)) = replaced {
+            self.note_removed(id, number, header);
         }
         [from, to].into_iter().for_each(|directory| self.clocks.write(directory));
         // What is replaced may have other names.

@@ -87,7 +87,7 @@ struct Telling(Option<(String, Instant)>);
 
 impl Telling {
     /// How long the same isn't told again.
-    const PAUSE: Duration = Duration::from_secs(10);
+    const PAUSE: Duration = Duration::from_secs(60);
 
     fn tell(&mut self, text: String) {
         let is_new = self.0.as_ref().map_or(true, |(last, at)| *last != text || at.elapsed() >= Self::PAUSE);

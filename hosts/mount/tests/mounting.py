@@ -396,7 +396,7 @@ def served_line(room, program, folder):
             until(lambda: os.path.exists(f"{room}/desk/socket"))
             assert line[0].endswith("/kfs-mount") and "MOUNTPOINT" in line, line
             with started(*(folder if word == "MOUNTPOINT" else word for word in line[1:])):
-                assert os.statvfs(folder).f_blocks == 65_536
+                assert os.statvfs(folder).f_blocks == 3 * 65_536
         finally:
             serving.terminate()
             serving.wait(PATIENT)

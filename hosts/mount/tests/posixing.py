@@ -36,10 +36,8 @@ HERE = {
     "| open() with `O_TMPFILE` | `EOPNOTSUPP` | A file without a name |": {"open d rw+m by owner with d:d:755": "ENOTSUP"},
     "| read() | The time of reading stays | It changes, unless the mount says otherwise |": {"read f by owner with f:f:644:3": "ok xxx !c(f) !m(f) !a(f)"},
     "| renameat2() with `RENAME_EXCHANGE` | `EINVAL` | Both change their names |": {"renameat2 f g exchange by owner with f:f:644:3 f:g:644:5": "EINVAL size(f)=3 size(g)=5"},
-    "| stat(), opendir() of a removed directory where a process stands | `ENOENT` | It has no names and no links |": {"in-removed d list . by owner with d:d:755": "ENOENT", "in-removed d stat . by owner with d:d:755": "ENOENT"},
     "| symlink(), to more than 1,024 bytes | `ENAMETOOLONG` | Up to 4,095 are taken |": {"symlink T1025 l by owner with": "ENAMETOOLONG size(l)=ENOENT", "symlink T4095 l by owner with": "ENAMETOOLONG size(l)=ENOENT"},
     "| truncate(), write(), beyond 2^32 bytes | `EFBIG` | The file is as long as that |": {"truncate f 4294967297 by owner with f:f:644:5": "EFBIG size(f)=5", "write f w x 4294967296 by owner with f:f:644": "EFBIG size(f)=0"},
-    "| unlink() of a FIFO that is open | fstat() of it: `ENOENT` | It tells of the FIFO |": {"kept-unlinked p by owner with p:p:644": "ENOENT"},
 }
 IN_MEMORY = {
     "| open(), mkdir() and others by another user, at a mount that lets it in | What is made belongs to the mount's user | To its maker |": {"open f w+c 644 by group with": "ok uid(f)=1000 gid(f)=1000", "open f w+c 644 by other with": "ok uid(f)=1000 gid(f)=1000"},
