@@ -453,7 +453,7 @@ pub fn recall(folder: &Path, store: &mut Store, following: &Following) -> Result
     times.begin_with(store.known()?);
     if store.begin()? {
         // The kfsd before may not have kept those behind the last one that is known.
-        let known = times.known_of(&found.recent).unwrap_or(0);
+        let known = times.known_of(&found.recent, found.recent.len()).unwrap_or(0);
         found.recent.iter().skip(known).for_each(|landing| times.changed_again(landing, times::now()));
     }
     times.go_on_behind(&found.recent);
@@ -462,15 +462,12 @@ pub fn recall(folder: &Path, store: &mut Store, following: &Following) -> Result
 
 /// Follows those of the calls that a process has left which have landed.
 fn follow_left(left: &VecDeque<Sent>, recent: &VecDeque<Landing>, times: &mut Times) {
-    match times.known_of(recent) {
-        Some(known) => recent.iter().skip(known).for_each(|landing| times.changed(landing, times::now())),
-        None => {
-            let landings = left.iter().filter_map(|sent| sent.note.landing());
-            // One that is like it may have been made before. Then its time is later than it was.
-            let made = landings.filter(|landing| recent.contains(landing));
-            made.for_each(|landing| times.changed(&landing, times::now()));
-        }
-    }
+    let landings: Vec<_> = left.iter().filter_map(|sent| sent.note.landing()).collect();
+    let first = recent.len().saturating_sub(landings.len());
+    // Where it can't be told, one that is like it may have been made before. Then its time is later than it was.
+    let known = times.known_of(recent, landings.len()).unwrap_or(first);
+    let made = recent.iter().skip(known).filter(|landing| landings.contains(landing));
+    made.for_each(|landing| times.changed(landing, times::now()));
     times.go_on_behind(recent);
 }
 
@@ -631,10 +628,14 @@ mod tests {
         let recent = all.iter().take(2).chain(&more).take(4).cloned().collect();
         follow_left(&left, &recent, &mut times);
         assert_eq!((known(&times), times.of(1)), (vec![1, 2, 6], before));
-        assert_eq!(times.known_of(&recent), Some(4));
+        assert_eq!(times.known_of(&recent, 3), Some(4));
         let gone = Landing { changes: vec![(6, Change::Gone)], print: 0 };
         times.changed(&gone, 9);
-        assert_eq!((known(&times), times.known_of(&recent)), (vec![1, 2], None));
+        assert_eq!((known(&times), times.known_of(&recent, 3)), (vec![1, 2], None));
+        // of those of which nobody knows, that can be told of the last ones alone
+        let (left, _) = set(&[8, 1]);
+        follow_left(&left, &set(&[1, 9, 8]).1, &mut times);
+        assert_eq!((known(&times), times.of(1)), (vec![1, 2, 8], before));
     }
 
     #[test]

@@ -74,14 +74,14 @@ impl Times {
         self.landed = Landed { born: kept.landed.born.max(last), ..kept.landed };
     }
 
-    /// How many of the last landings of a journal are known; none where that can't be told. It is told by the prints of the last
-    /// known ones, all of which have to be there. Where they are in several places the first one counts: to take a landing over
-    /// once more does less harm than to leave one out.
-    pub fn known_of(&self, recent: &VecDeque<Landing>) -> Option<usize> {
+    /// How many of the last landings of a journal are known, of which so many at most aren't; none where that can't be told. It is
+    /// told by the prints of the last known ones, all of which have to be there. Where they are in several places the first one
+    /// counts: to take a landing over once more does less harm than to leave one out.
+    pub fn known_of(&self, recent: &VecDeque<Landing>, new: usize) -> Option<usize> {
         let prints = &self.landed.prints;
         let is_at = |first: &usize| recent.iter().skip(*first).zip(prints).all(|(landing, print)| landing.print == *print);
         let last = recent.len().checked_sub(prints.len()).filter(|_| !prints.is_empty())?;
-        (0..=last).find(is_at).map(|first| first + prints.len())
+        (last.saturating_sub(new)..=last).find(is_at).map(|first| first + prints.len())
     }
 
     /// All landings of a journal are known now, of which these are the last ones.
@@ -294,20 +294,22 @@ mod tests {
     fn it_is_told_where_a_journal_goes_on() {
         let prints = |prints: &[u64]| prints.iter().map(|print| landing(&[], *print)).collect::<VecDeque<_>>();
         let mut times = Times::default();
-        assert_eq!(times.known_of(&prints(&[1, 2])), None);
+        assert_eq!(times.known_of(&prints(&[1, 2]), 9), None);
         times.go_on_behind(&prints(&[1, 2, 3]));
-        assert_eq!(times.known_of(&prints(&[0, 1, 2, 3, 4, 5])), Some(4));
-        assert_eq!(times.known_of(&prints(&[1, 2, 3])), Some(3));
-        // the first of two places counts, and all have to be there
-        assert_eq!(times.known_of(&prints(&[1, 2, 3, 1, 2, 3])), Some(3));
+        assert_eq!(times.known_of(&prints(&[0, 1, 2, 3, 4, 5]), 9), Some(4));
+        assert_eq!(times.known_of(&prints(&[1, 2, 3]), 0), Some(3));
+        // the first of two places counts, but where more would be new than may be; and all have to be there
+        let twice = prints(&[1, 2, 3, 1, 2, 3]);
+        assert_eq!([3, 2, 0].map(|new| times.known_of(&twice, new)), [Some(3), Some(6), Some(6)]);
         for other in [&[2, 3, 4][..], &[3], &[], &[1, 2, 4, 3]] {
-            assert_eq!(times.known_of(&prints(other)), None);
+            assert_eq!(times.known_of(&prints(other), 9), None);
         }
+        assert_eq!(times.known_of(&prints(&[1, 2, 3, 4, 5]), 1), None);
         times.changed(&landing(&[], 4), 100);
-        assert_eq!(times.known_of(&prints(&[1, 2, 3, 4, 5])), Some(4));
+        assert_eq!(times.known_of(&prints(&[1, 2, 3, 4, 5]), 9), Some(4));
         let many: Vec<u64> = (0..PRINTS as u64 + 5).collect();
         many.iter().for_each(|print| times.changed(&landing(&[], 100 + print), 100));
         let late: Vec<u64> = (105..130).collect();
-        assert_eq!(times.known_of(&prints(&late)), Some(PRINTS));
+        assert_eq!(times.known_of(&prints(&late), 9), Some(PRINTS));
     }
 }

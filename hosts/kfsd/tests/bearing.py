@@ -148,27 +148,27 @@ def births_outlive_kills(made):
 
 
 def births_of_calls_left_by_kfs_serve(made):
-    """kfs_serve is killed while files are made and removed under one number: who is told of one is never told of another one by the same birth."""
+    """kfs_serve is killed while files are made and removed under one number. A file that was told of has its birth for as long as it is there, and none behind it has."""
     with Daemon(*made, users=USERS).start() as daemon:
-        seven, last, count = daemon.connect(7), 0, 0
+        seven, least, count = daemon.connect(7), 1, 0
         leased(seven)
-        for turn in range(40):
+        for turn in range(60):
             for body in (submit(*files_made([b"a"])), struct.pack(">BI", STAMPED, 2), lease_by_path(7, 1 << 40, b"/a", writes=True), submit(*file_gone(b"a", 2))):
                 seven.send(1, body)
-            if turn % 8 == 5:
+            if turn % 6 == 5:
                 daemon.kill_desk()
-            found = [seven.next()[1] for _ in range(4)]
-            if found[1][0] == 3 and found[1][2]:
-                now = struct.unpack(">qqqB", found[1][HEADER:])[0]
-                # one that wasn't removed for want of an answer is the same
-                assert now >= last and now > 0, (turn, now, last)
-                last, count = now, count + 1
-            if stamped(seven, 2) is not None:
-                assert born(seven, 2) >= last
+            found = [seven.next()[1] for _ in range(4)][1]
+            told = struct.unpack(">qqqB", found[HEADER:])[0] if len(found) == HEADER + KEPT else None
+            left = stamped(seven, 2)
+            assert told is None or told >= least, (turn, told, least)
+            assert told is None or left is None or left[0] == told, (turn, told, left)
+            if left is not None:
+                assert left[0] >= least, (turn, left, least)
                 leased(seven, 2)
                 done(seven, submit(*file_gone(b"a", 2)))
-                last += 1
-        assert count >= 20, count
+            least = max([least] + [it + 1 for it in (told, left and left[0]) if it])
+            count += told is not None
+        assert count >= 30, count
 
 
 def owners_mark_nodes(made):
