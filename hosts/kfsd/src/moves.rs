@@ -37,8 +37,10 @@ enum Ended {
     AsAsked,
     /// No file is left to be moved.
     NoFiles,
-    /// No place is left, or the desk doesn't go on.
+    /// No place is left, or nobody has answered.
     NoPlaces,
+    /// The desk refuses such moves.
+    Refused,
 }
 
 /// Moves blocks until kfsd stops.
@@ -77,7 +79,7 @@ async fn make_room(shared: &Shared, places: &mut Places, halted: &mut Option<[Ro
         let goal = (2 * least - free).min(BLOCKS);
         let (count, ended) = move_some(shared, places, goal).await;
         moved += count;
-        *halted = (ended == Ended::NoPlaces && count == 0).then_some(rooms);
+        *halted = (ended == Ended::Refused).then_some(rooms);
         if ended != Ended::AsAsked {
             break;
         }
@@ -100,7 +102,7 @@ async fn move_some(shared: &Shared, places: &mut Places, goal: u64) -> (usize, E
     let are_all = oldest.len() < FILES;
     let files = oldest.into_iter().map(|(node, written)| (node, written, blocks_of(shared, node)));
     let mut work = Work::new(places, files.collect(), goal);
-    let mut under_way = VecDeque::new();
+    let (mut under_way, mut is_refused) = (VecDeque::new(), false);
     loop {
         while under_way.len() < CALLS {
             let moves = work.next_call();
@@ -114,6 +116,7 @@ async fn move_some(shared: &Shared, places: &mut Places, goal: u64) -> (usize, E
             None => break,
         };
         let said = said_by(answer.await.ok());
+        is_refused |= said == Said::Else;
         if said == Said::Moved {
             shared.figures.moved.add(moves.len());
         }
@@ -129,6 +132,7 @@ async fn move_some(shared: &Shared, places: &mut Places, goal: u64) -> (usize, E
         }
     }
     let ended = match (work.is_stopped(), work.moved) {
+        _ if is_refused => Ended::Refused,
         (true, _) => Ended::NoPlaces,
         (_, 0) if are_all => Ended::NoFiles,
         _ => Ended::AsAsked,
@@ -159,8 +163,8 @@ fn send(shared: &Shared, moves: Vec<Move>) -> (Vec<Move>, oneshot::Receiver<Answ
 
 fn said_by(answer: Option<Answer>) -> Said {
     match answer {
-        Some(Answer::Said(reply)) => reply.answer().and_then(said_in).unwrap_or(Said::Else),
-        _ => Said::Else,
+        Some(Answer::Said(reply)) => reply.answer().map_or(Said::Nothing, said_in),
+        _ => Said::Nothing,
     }
 }
 
@@ -176,20 +180,13 @@ fn call_of(moves: &[Move]) -> Vec<u8> {
     body
 }
 
-fn said_in(answer: &[u8]) -> Option<Said> {
+fn said_in(answer: &[u8]) -> Said {
     let mut bytes = Bytes(answer);
-    match bytes.byte()? {
-        7 => Some(Said::Moved),
-        9 => {
-            let code = bytes.half()?.to_be_bytes()[0];
-            let at = bytes.long()? as usize;
-            match code {
-                1 => Some(Said::NoBlock(at)),
-                3 => Some(Said::Taken(at)),
-                _ => Some(Said::Else),
-            }
-        }
-        _ => None,
+    match (bytes.byte(), bytes.half().map(u16::to_be_bytes), bytes.long()) {
+        (Some(7), ..) => Said::Moved,
+        (Some(9), Some([1, _reason]), Some(at)) => Said::NoBlock(at as usize),
+        (Some(9), Some([3, _reason]), Some(at)) => Said::Taken(at as usize),
+        _ => Said::Else,
     }
 }
 
@@ -201,9 +198,9 @@ mod tests {
     fn moves_are_as_the_desk_reads_them() {
         let one = Move { node: 5, block: 2, to: Spot { tier: 1, place: 258 } };
         assert_eq!(call_of(&[one]), [5, 0, 1, 0, 0, 0, 5, 0, 0, 0, 2, 1, 0, 0, 1, 2]);
-        assert_eq!(said_in(&[7, 0, 0, 0, 1]), Some(Said::Moved));
-        assert_eq!(said_in(&[9, 3, 0, 0, 0, 0, 0, 0, 0, 0, 4, 0, 0, 0, 0]), Some(Said::Taken(4)));
-        assert_eq!(said_in(&[9, 1, 0, 0, 0, 0, 0, 0, 0, 0, 0, 0, 0, 0, 0]), Some(Said::NoBlock(0)));
-        assert_eq!(said_in(&[9, 5, 0, 0, 0, 0, 0, 0, 0, 0, 0, 0, 0, 0, 0]), Some(Said::Else));
+        assert_eq!(said_in(&[7, 0, 0, 0, 1]), Said::Moved);
+        assert_eq!(said_in(&[9, 3, 0, 0, 0, 0, 0, 0, 0, 0, 4, 0, 0, 0, 0]), Said::Taken(4));
+        assert_eq!(said_in(&[9, 1, 0, 0, 0, 0, 0, 0, 0, 0, 0, 0, 0, 0, 0]), Said::NoBlock(0));
+        assert_eq!(said_in(&[9, 5, 0, 0, 0, 0, 0, 0, 0, 0, 0, 0, 0, 0, 0]), Said::Else);
     }
 }

@@ -7,7 +7,7 @@
 const SEARCH: u32 = 256;
 
 /// Behind how many refusals in a row a tier rests, until another number of its places is free.
-const TRIES: u32 = 512;
+const TRIES: u32 = 2000;
 
 /// A place of a tier.
 #[derive(Clone, Copy, Debug, PartialEq, Eq)]

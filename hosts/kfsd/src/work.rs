@@ -26,6 +26,8 @@ pub enum Said {
     /// This place is in use.
     Taken(usize),
     Else,
+    /// The frame was refused, or nobody knows the answer.
+    Nothing,
 }
 
 /// A file whose blocks go to calls now.

@@ -1,4 +1,5 @@
 """Blocks go to slower tiers where few places of tier 0 are free."""
+import itertools
 import re
 import struct
 import threading
@@ -6,7 +7,7 @@ import time
 
 from loading import image_in
 from looking import has_look_ups
-from running import Daemon, lease, lease_by_path, user
+from running import Daemon, lease, lease_by_path, numbered, user
 
 from benchmarks import FILE, NameRow, file_gone, log_of, node, plan_of, put
 from fuzzing.codec import Create, Write
@@ -204,4 +205,29 @@ def full_tiers_cost_nothing(made):
         print(f"    {number - 1} files of two blocks on tiers of 40, 60 and 80 places")
 
 
-TESTS = [the_oldest_go_to_slower_tiers, all_tiers_are_filled, moves_keep_up_with_programs, a_new_kfsd_finds_free_places, full_tiers_cost_nothing]
+def moves_go_on_behind_kills(made):
+    """kfs_serve is killed while blocks are moved, and then while tier 0 is full: each file has room at the end."""
+    with Daemon(*made, users=USERS, tiers=(60, 400, 100), duties={"free_percent": 40}).start() as daemon:
+        if not has_look_ups(daemon):
+            return
+        seven = daemon.connect(7)
+        assert seven.ask(0, lease(7, 1 << 40, writes=True)).answer
+        own = itertools.count(1)
+        for number in range(2, 202):
+            answer, at = None, next(own)
+            while answer != YES:
+                reply = seven.ask(1, numbered(at, created(number, number)))
+                answer = reply.answer and reply.answer[4]
+                assert reply.answer or reply.refusal in (("Unknown", 0), ("UnderWay", 0)), reply
+                assert answer in (None, YES, NO_ROOM), reply
+                if answer == NO_ROOM:
+                    at = next(own)
+                    if at % 5 == 0:
+                        daemon.kill_desk()
+            if number % 20 == 0:
+                daemon.kill_desk()
+        assert sum(free(daemon)) == 560 - 400 and set(tiers_of(daemon)) == set(range(2, 202))
+        print(f"    kfs_serve was started {daemon.status()['kfs_serve']['starts']} times while {moved(daemon)} blocks were moved")
+
+
+TESTS = [the_oldest_go_to_slower_tiers, all_tiers_are_filled, moves_keep_up_with_programs, a_new_kfsd_finds_free_places, full_tiers_cost_nothing, moves_go_on_behind_kills]
