@@ -196,6 +196,16 @@ impl Following {
         self.least.store(least, Ordering::Relaxed);
     }
 
+    /// So many were freed.
+    pub fn gain(&self, places: u64) {
+        self.free.fetch_add(places, Ordering::Relaxed);
+    }
+
+    /// Whether less than half of those are free that should be.
+    pub fn has_few(&self) -> bool {
+        self.free.load(Ordering::Relaxed) < self.least.load(Ordering::Relaxed) / 2
+    }
+
     /// A log has taken places of tier 0. It may have freed others, which the desk tells.
     fn spend(&self, places: u64) {
         let (before, least) = (self.free.load(Ordering::Relaxed), self.least.load(Ordering::Relaxed));
@@ -337,7 +347,11 @@ mod tests {
         assert!(is_short().await);
         following.answered(&log, &landed(10), 1);
         assert!(!is_short().await, "it was told");
-        following.look_for(60, 50);
+        following.look_for(20, 50);
+        assert!(following.has_few());
+        following.gain(5);
+        assert!(!following.has_few());
+        following.gain(35);
         following.answered(&Note::Nothing, &[6, 0, 0, 0, 0, 0, 0, 0, 99], 1);
         assert!(!is_short().await);
         following.answered(&log, &landed(60), 1);

@@ -5,7 +5,7 @@ use crate::connection::Shared;
 use crate::duties::found;
 use crate::places::{Places, Room, Spot};
 use crate::queue::Answer;
-use crate::work::{Move, Said, Work, TOGETHER};
+use crate::work::{Move, Said, Work};
 use std::collections::VecDeque;
 use std::sync::Arc;
 use std::time::Duration;
@@ -13,8 +13,17 @@ use tokio::sync::oneshot;
 use tokio::time::{sleep, timeout};
 use tracing::info;
 
-/// How many calls of moves are under way at once. Those that come together take two syncs of the disk.
-const CALLS: usize = 4;
+/// How fast blocks are moved. While `kfs_serve` makes a call nobody else is answered, so calls have fewer moves than the desk's 1,024.
+/// Those that come together take two syncs of the disk.
+struct Pace {
+    /// How many moves a call has at most, and how many calls are under way at once.
+    moves: usize,
+    calls: usize,
+}
+
+/// While enough places are free, and where less than half of these are.
+const CALM: Pace = Pace { moves: 64, calls: 1 };
+const FAST: Pace = Pace { moves: 128, calls: 4 };
 
 /// How many files are looked at, and how many of their blocks are moved, before kfsd asks again how many places are free.
 const FILES: usize = 1024;
@@ -83,7 +92,7 @@ async fn make_room(shared: &Shared, places: &mut Places, halted: &mut Option<[Ro
         if ended != Ended::AsAsked {
             break;
         }
-        if goal < TOGETHER as u64 {
+        if goal < CALM.moves as u64 {
             // Others are written meanwhile, so that the next call has many moves, too. Where few places are free, it is made at once.
             let _ = timeout(REST, shared.following.is_short()).await;
         }
@@ -104,8 +113,9 @@ async fn move_some(shared: &Shared, places: &mut Places, goal: u64) -> (usize, E
     let mut work = Work::new(places, files.collect(), goal);
     let (mut under_way, mut is_refused) = (VecDeque::new(), false);
     loop {
-        while under_way.len() < CALLS {
-            let moves = work.next_call();
+        let pace = if shared.following.has_few() { FAST } else { CALM };
+        while under_way.len() < pace.calls {
+            let moves = work.next_call(pace.moves);
             if moves.is_empty() {
                 break;
             }
@@ -119,6 +129,7 @@ async fn move_some(shared: &Shared, places: &mut Places, goal: u64) -> (usize, E
         is_refused |= said == Said::Else;
         if said == Said::Moved {
             shared.figures.moved.add(moves.len());
+            shared.following.gain(moves.len() as u64);
         }
         let again = work.apply(moves, &said, |node| blocks_of(shared, node));
         if !again.is_empty() {

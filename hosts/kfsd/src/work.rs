@@ -3,9 +3,6 @@
 use crate::places::{Places, Spot};
 use std::collections::{HashMap, VecDeque};
 
-/// The most moves of a call. While `kfs_serve` makes them nobody else is answered, so they are fewer than the desk's 1,024.
-pub const TOGETHER: usize = 128;
-
 /// How many blocks of a file may turn out not to be mapped. The rest of it stays where it is.
 const HOLES: u32 = 64;
 
@@ -74,10 +71,10 @@ impl Work<'_> {
         Work { places, files, open, current: None, goal, moved: 0, done, is_stopped: false }
     }
 
-    /// The moves of the next call; none where there are no more now.
-    pub fn next_call(&mut self) -> Vec<Move> {
+    /// The moves of the next call, so many at most; none where there are no more now.
+    pub fn next_call(&mut self, most: usize) -> Vec<Move> {
         let mut moves = Vec::new();
-        while moves.len() < TOGETHER && !self.is_stopped {
+        while moves.len() < most && !self.is_stopped {
             let (node, block) = match self.next_block() {
                 Some(found) => found,
                 None => break,
@@ -215,6 +212,8 @@ mod tests {
     use super::*;
     use crate::places::Room;
 
+    const TOGETHER: usize = 128;
+
     /// Places of which those of tier 1 are free, and none of tier 2.
     fn places(size: u32) -> Places {
         let (mut places, none) = (Places::default(), Room::default());
@@ -230,9 +229,9 @@ mod tests {
     fn a_file_is_moved_around_what_is_in_the_way() {
         let mut places = places(5);
         let mut work = Work::new(&mut places, [(5, 50, 3)].into(), 9);
-        let moves = work.next_call();
+        let moves = work.next_call(TOGETHER);
         assert_eq!(shown(&moves), [(5, 0, 0), (5, 1, 1), (5, 2, 2)]);
-        assert!(work.next_call().is_empty());
+        assert!(work.next_call(TOGETHER).is_empty());
         // behind the place that is in use one is passed over
         let moves = work.apply(moves, &Said::Taken(1), |_| 3);
         assert_eq!(shown(&moves), [(5, 0, 0), (5, 1, 4), (5, 2, 2)]);
@@ -252,11 +251,11 @@ mod tests {
         let mut places = places(1000);
         let files = [(5, 50, 1), (6, 60, 0), (7, 70, TOGETHER as u32 + 1), (8, 80, 1)];
         let mut work = Work::new(&mut places, files.into(), 2);
-        let (first, second) = (work.next_call(), work.next_call());
+        let (first, second) = (work.next_call(TOGETHER), work.next_call(TOGETHER));
         assert_eq!((first.len(), shown(&first)[..2].to_vec()), (TOGETHER, vec![(5, 0, 0), (7, 0, 1)]));
         assert_eq!(second.len(), 2);
         // two blocks were asked for, so no other file is begun
-        assert!(work.next_call().is_empty());
+        assert!(work.next_call(TOGETHER).is_empty());
         assert_eq!(work.take_done(), [(6, 60)]);
         work.apply(first, &Said::Moved, |_| 0);
         assert_eq!(work.take_done(), [(5, 50)]);
@@ -268,11 +267,11 @@ mod tests {
     fn a_file_that_has_become_shorter_is_over() {
         let mut places = places(1000);
         let mut work = Work::new(&mut places, [(5, 50, 300), (6, 60, 2)].into(), 1000);
-        let (first, second) = (work.next_call(), work.next_call());
+        let (first, second) = (work.next_call(TOGETHER), work.next_call(TOGETHER));
         let again = work.apply(first, &Said::NoBlock(9), |_| 9);
         assert!(again.is_empty());
         // its other blocks aren't begun, and those that are under way are refused, too
-        let third = work.next_call();
+        let third = work.next_call(TOGETHER);
         assert_eq!(shown(&third).iter().map(|it| (it.0, it.1)).collect::<Vec<_>>(), [(6, 0), (6, 1)]);
         assert!(work.apply(second, &Said::NoBlock(0), |_| 9).is_empty());
         assert_eq!(work.take_done(), [(5, 50)]);
@@ -285,12 +284,12 @@ mod tests {
     fn of_a_file_with_many_holes_the_rest_stays() {
         let mut places = places(1000);
         let mut work = Work::new(&mut places, [(5, 50, 500)].into(), 500);
-        let mut moves = work.next_call();
+        let mut moves = work.next_call(TOGETHER);
         for count in 1..=HOLES as usize {
             assert_eq!(moves.len(), TOGETHER + 1 - count);
             moves = work.apply(moves, &Said::NoBlock(0), |_| 500);
         }
-        assert!(moves.is_empty() && work.next_call().is_empty());
+        assert!(moves.is_empty() && work.next_call(TOGETHER).is_empty());
         assert_eq!(work.take_done(), [(5, 50)]);
     }
 
@@ -298,15 +297,15 @@ mod tests {
     fn what_has_no_place_stays() {
         let mut places = places(3);
         let mut work = Work::new(&mut places, [(5, 50, 2), (6, 60, 2), (7, 70, 1)].into(), 9);
-        let moves = work.next_call();
+        let moves = work.next_call(TOGETHER);
         assert_eq!(shown(&moves), [(5, 0, 0), (5, 1, 1), (6, 0, 2)]);
-        assert!(work.is_stopped() && work.next_call().is_empty());
+        assert!(work.is_stopped() && work.next_call(TOGETHER).is_empty());
         work.apply(moves, &Said::Moved, |_| 2);
         assert_eq!(work.take_done(), [(5, 50)]);
         // nor does anything go on where the desk doesn't
         let mut places = self::places(9);
         let mut work = Work::new(&mut places, [(5, 50, 2)].into(), 9);
-        let moves = work.next_call();
+        let moves = work.next_call(TOGETHER);
         assert!(work.apply(moves, &Said::Else, |_| 2).is_empty());
         assert!(work.is_stopped() && work.take_done().is_empty() && work.moved == 0);
         assert_eq!(std::iter::from_fn(|| places.take()).count(), 9);
