@@ -111,6 +111,18 @@ async fn move_some(shared: &Shared, places: &mut Places, goal: u64) -> (usize, E
     let are_all = oldest.len() < FILES;
     let files = oldest.into_iter().map(|(node, written)| (node, written, blocks_of(shared, node)));
     let mut work = Work::new(places, files.collect(), goal);
+    let is_refused = make(shared, &mut work).await;
+    let ended = match (work.is_stopped(), work.moved) {
+        _ if is_refused => Ended::Refused,
+        (true, _) => Ended::NoPlaces,
+        (_, 0) if are_all => Ended::NoFiles,
+        _ => Ended::AsAsked,
+    };
+    (work.moved, ended)
+}
+
+/// Has moves made until there are no more now. Tells whether the desk refuses some of them for good.
+async fn make(shared: &Shared, work: &mut Work<'_>) -> bool {
     let (mut under_way, mut is_refused) = (VecDeque::new(), false);
     loop {
         let pace = if shared.following.has_few() { FAST } else { CALM };
@@ -121,9 +133,12 @@ async fn move_some(shared: &Shared, places: &mut Places, goal: u64) -> (usize, E
             }
             under_way.push_back(send(shared, moves));
         }
+        for (node, written) in work.take_done() {
+            shared.following.times().is_moved(node, written);
+        }
         let (moves, answer): (Vec<Move>, oneshot::Receiver<Answer>) = match under_way.pop_front() {
             Some(first) => first,
-            None => break,
+            None => return is_refused,
         };
         let said = said_by(answer.await.ok());
         is_refused |= said == Said::Else;
@@ -135,20 +150,10 @@ async fn move_some(shared: &Shared, places: &mut Places, goal: u64) -> (usize, E
         if !again.is_empty() {
             under_way.push_back(send(shared, again));
         }
-        for (node, written) in work.take_done() {
-            shared.following.times().is_moved(node, written);
-        }
         if *shared.stopping.borrow() {
             work.stop();
         }
     }
-    let ended = match (work.is_stopped(), work.moved) {
-        _ if is_refused => Ended::Refused,
-        (true, _) => Ended::NoPlaces,
-        (_, 0) if are_all => Ended::NoFiles,
-        _ => Ended::AsAsked,
-    };
-    (work.moved, ended)
 }
 
 /// How many blocks a file reaches over; none of what is no file.

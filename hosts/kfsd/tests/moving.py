@@ -9,7 +9,7 @@ from loading import image_in
 from looking import has_look_ups
 from running import Daemon, lease, lease_by_path, numbered, user
 
-from benchmarks import FILE, NameRow, file_gone, log_of, node, plan_of, put
+from benchmarks import FILE, NameRow, file_gone, files_made, log_of, node, plan_of, put
 from fuzzing.codec import Create, Write
 from fuzzing.images import contents_of, finding, placement_of, tree_of
 
@@ -205,6 +205,20 @@ def full_tiers_cost_nothing(made):
         print(f"    {number - 1} files of two blocks on tiers of 40, 60 and 80 places")
 
 
+def empty_files_stand_in_nobodys_way(made):
+    """The oldest of all are 3,000 empty files, of which nothing is moved: those behind them are."""
+    with Daemon(*made, users=USERS, tiers=(40, 60, 0), duties={"free_percent": 25}).start() as daemon:
+        if not has_look_ups(daemon):
+            return
+        seven = daemon.connect(7)
+        assert seven.ask(0, lease(7, 1 << 40, writes=True)).answer
+        assert seven.ask(1, submit(*files_made([b"e%d" % number for number in range(5000, 8000)], 5000))).answer[4] == YES
+        for number in range(2, 18):
+            create(daemon, seven, number)
+        daemon.wait_for(lambda: free(daemon)[0] == 20)
+        assert free(daemon) == (20, 48, 0)
+
+
 def moves_go_on_behind_kills(made):
     """kfs_serve is killed while blocks are moved, and then while tier 0 is full: each file has room at the end."""
     with Daemon(*made, users=USERS, tiers=(60, 400, 100), duties={"free_percent": 40}).start() as daemon:
@@ -230,4 +244,4 @@ def moves_go_on_behind_kills(made):
         print(f"    kfs_serve was started {daemon.status()['kfs_serve']['starts']} times while {moved(daemon)} blocks were moved")
 
 
-TESTS = [the_oldest_go_to_slower_tiers, all_tiers_are_filled, moves_keep_up_with_programs, a_new_kfsd_finds_free_places, full_tiers_cost_nothing, moves_go_on_behind_kills]
+TESTS = [the_oldest_go_to_slower_tiers, all_tiers_are_filled, moves_keep_up_with_programs, a_new_kfsd_finds_free_places, full_tiers_cost_nothing, empty_files_stand_in_nobodys_way, moves_go_on_behind_kills]
