@@ -130,10 +130,6 @@ def processes_of(folders, users=USERS):
         yield found
 
 
-def can_lock(made):
-    return can_mount()
-
-
 def flocks_hold(made):
     """A lock by flock() keeps another user's off, shared or exclusive, until it is given up, or its file is closed."""
     if not can_mount():
@@ -249,7 +245,7 @@ def who_was_away_has_lost_it(made):
     """A mount that stands still while kfsd starts anew has lost its lock: it reads and writes that file no more until it gives the lock up."""
     if not can_mount():
         return
-    with mounts_of(made) as (daemon, folders, mounts), processes_of(folders) as (mine, other):
+    with mounts_of(made, duties={"lease_seconds": 4, "wanted_seconds": 1}) as (daemon, folders, mounts), processes_of(folders) as (mine, other):
         assert mine.do("os.pwrite(files['a'], b'before', 0)") == 6 and mine.do("os.fsync(files['a'])") is None
         assert mine.do(lock(WRITE)) is None and mine.do("os.pread(files['a'], 9, 0)") == b"before"
         mounts[0].send_signal(signal.SIGSTOP)
