@@ -47,7 +47,9 @@ impl<D: Desk> Volume<D> {
         self.clocks.create(number);
         self.clocks.write(at);
         self.forms.note(number, Form::Plain);
-        self.shape_of(number)
+        let (id, shape) = self.shape_of(number)?;
+        self.note_memory(id, name.as_bytes());
+        Ok((id, shape))
     }
 
     pub fn make_directory(&mut self, directory: u64, name: &[u8], mode: u32) -> Result<(u64, Shape), Errno> {

@@ -21,6 +21,10 @@ const LAST: u64 = i64::MAX as u64;
 const BY_FLOCK: u32 = 1;
 const GIVES_UP: u32 = 1 << 1;
 
+/// The end of the name of a file by which processes of sqlite3 share memory, and the owner of a mount's lock of such a file.
+const MEMORY: &[u8] = b"-shm";
+const MOUNT: u64 = u64::MAX;
+
 /// A request for a lock that isn't answered yet.
 #[derive(Clone, Copy, Debug)]
 struct Waiting {
@@ -44,6 +48,9 @@ pub struct Locking {
     /// Of each handle the file, and the owners that have set locks by it: a lock of the handle itself goes with its close.
     owners: HashMap<u64, (u32, HashSet<u64>)>,
     handles: u64,
+    /// Files by which processes share memory, and those of which this mount has the lock.
+    memories: HashSet<u64>,
+    reserved: HashSet<u64>,
 }
 
 impl Locking {
@@ -209,7 +216,7 @@ impl<D: Desk> Volume<D> {
 
     /// A descriptor is closed: by that its process gives up what it has locked of the file by fcntl(). `fuse_flush_in`.
     pub fn flush_locks(&mut self, request: &mut Request<'_>) -> Result<(), Errno> {
-        let _handle_and_padding = request.skip(16)?;
+        request.skip(16)?;
         let (node, owner) = (number_of(request.node), request.long()?);
         for (_, owners) in self.locking.owners.values_mut().filter(|(of, _)| *of == node) {
             owners.remove(&owner);
@@ -241,6 +248,41 @@ impl<D: Desk> Volume<D> {
             let _told = self.session.desk().lock(&lock, LockHow::GiveUp);
         }
         Some(Told::answer(unique, Err(Errno::EINTR)))
+    }
+
+    // ---- Shared memory
+
+    /// A name leads to a node.
+    pub fn note_memory(&mut self, id: u64, name: &[u8]) {
+        if self.locking.is_shared && name.ends_with(MEMORY) {
+            self.locking.memories.insert(id);
+        }
+    }
+
+    /// Whether a file that is opened may be mapped by processes that share it. What these write by mmap() the processes of another
+    /// mount don't see. So of a file by which sqlite3 shares memory one mount at a time lets its own do it.
+    pub fn may_map(&mut self, id: u64) -> bool {
+        if !self.locking.memories.contains(&id) || self.locking.reserved.contains(&id) {
+            return true;
+        }
+        let lock = Lock { kind: LockKind::Write, ..whole(number_of(id), MOUNT, LockStyle::Whole) };
+        let is_free = self.ask_lock(&lock, LockHow::Set) == Ok(LockAnswer::Granted);
+        if is_free {
+            self.locking.reserved.insert(id);
+        }
+        is_free
+    }
+
+    /// The kernel has forgotten a node.
+    pub(crate) fn forget_memory(&mut self, id: u64) {
+        self.locking.memories.remove(&id);
+    }
+
+    /// No process has a file open any more.
+    pub(crate) fn unmap(&mut self, id: u64) {
+        if self.locking.reserved.remove(&id) {
+            self.unlock(&whole(number_of(id), MOUNT, LockStyle::Whole));
+        }
     }
 
     // ---- What comes by itself

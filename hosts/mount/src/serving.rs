@@ -245,8 +245,8 @@ fn answer_of_file<D: Desk>(volume: &mut Volume<D>, request: &mut Request<'_>, is
             request.skip(8)?;
             let found = volume.create(node, request.text()?, mode)?;
             let mut reply = entry_reply(volume, node, found);
-            let handle = volume.locking.next_handle();
-            reply.bytes(&open_reply(handle, if appends(flags) { ASKS_ALWAYS } else { 0 }).0);
+            let (handle, is_direct) = (volume.locking.next_handle(), appends(flags) || !volume.may_map(found.0));
+            reply.bytes(&open_reply(handle, if is_direct { ASKS_ALWAYS } else { 0 }).0);
             Ok(reply)
         }
         Operation::Read => {
@@ -369,6 +369,7 @@ fn read_directory<D: Desk>(volume: &mut Volume<D>, request: &mut Request<'_>, is
         if is_plus && is_own {
             reply.zeros(128);
         } else if is_plus {
+            volume.note_memory(id, &text);
             entry(id, &shape, keeps_names, &volume.clocks, &mut reply);
         }
         reply.long(number.into()).long(at).word(text.len() as u32).word(type_bits(&shape) >> 12).bytes(&text);

@@ -198,6 +198,7 @@ impl<D: Desk> Volume<D> {
     pub fn forget(&mut self, id: u64) {
         self.removed.remove(&id);
         self.kept.remove(&id);
+        self.forget_memory(id);
     }
 
     /// Hands all in, and gives all leases up.
@@ -384,6 +385,7 @@ impl<D: Desk> Volume<D> {
         let (number, header) = self.find(at, &named(name)?).map_err(|failure| self.told(&failure))?;
         self.confirm_directory(directory, at)?;
         let id = self.identify(number);
+        self.note_memory(id, name);
         Ok((id, self.shown(id, number, header)?))
     }
 
@@ -511,7 +513,7 @@ impl<D: Desk> Volume<D> {
         let header = self.session.header_of_now(number).map_err(|failure| self.told(&failure))?;
         self.confirm(id, number)?;
         let is_resized = self.nodes.has_other_size(number, header.size);
-        let (since, is_direct) = (self.since(number)?, appends(flags));
+        let (since, is_direct) = (self.since(number)?, appends(flags) || !self.may_map(id));
         let keeps = since.is_some() && self.kept.get(&id) == Some(&Kept::Since(since));
         let reads = flags & ACCESS != WRITE_ONLY && header.size < FEW_BYTES && !keeps && !header.is_directory();
         let bytes = match header.size {
@@ -536,6 +538,9 @@ impl<D: Desk> Volume<D> {
 
     pub fn close_file(&mut self, id: u64) -> Result<(), Errno> {
         let Closed { late_mode, hidden } = self.handles.close(id);
+        if !self.handles.is_open(id) {
+            self.unmap(id);
+        }
         if let Some((directory, name)) = hidden {
             return self.remove_hidden(directory, &name);
         }

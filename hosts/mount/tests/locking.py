@@ -9,7 +9,7 @@ import struct
 import time
 
 import beside
-from mounts import SOON, USER, can_mount, has_look_ups, in_child, make_shared, mounted_by, unmount, wait, words_for
+from mounts import SOON, USER, can_mount, in_child, make_shared, mounted_by, unmount, wait, words_for
 from running import Daemon, user
 
 USERS = [user(USER + at, 7 + at, (2 + at * 20_000, 1 + (at + 1) * 20_000)) for at in range(3)]
@@ -282,30 +282,29 @@ def what_was_written_is_seen(made):
             assert one.do(lock(UNLOCK)) is None
 
 
-def put_rows(path, uid, count, mode, answered):
+def put_rows(path, uid, count, answered):
     """A user puts rows into a database, and tells each that was answered."""
     base = sqlite3.connect(path, timeout=SOON * 4, isolation_level=None)
-    found = base.execute(f"pragma journal_mode = {mode}").fetchone()[0]
-    os.write(answered, f"{uid} mode {found}\n".encode())
     for index in range(count):
         base.execute("insert into rows values (?, ?)", (uid, index))
-        os.write(answered, f"{uid} row {index}\n".encode())
+        os.write(answered, f"{uid} {index}\n".encode())
     base.close()
 
 
-def a_database(folder, uid, path):
+def a_database(path, mode):
     base = sqlite3.connect(path, isolation_level=None)
+    assert base.execute(f"pragma journal_mode = {mode}").fetchone()[0] == mode
     base.execute("create table rows (uid integer, number integer)")
     base.close()
     os.chmod(path, 0o666)
     beside.sync(path)
 
 
-def put_all(folders, mode, count):
-    """Two users put rows at once. What was answered, and what is there."""
+def put_all(folders, mode, count, users=USERS):
+    """Two users put rows at once. How their processes have ended, and what was answered."""
     answered, tells = os.pipe()
-    assert wait(in_child(a_database, folders[0], USER, f"{folders[0]}/base", user=USER)) == 0
-    children = [in_child(put_rows, f"{folder}/base", it["uid"], count, mode, tells, user=it["uid"]) for folder, it in zip(folders, USERS)]
+    assert wait(in_child(a_database, f"{folders[0]}/base", mode, user=USER)) == 0
+    children = [in_child(put_rows, f"{folder}/base", it["uid"], count, tells, user=it["uid"]) for folder, it in zip(folders, users)]
     os.close(tells)
     with os.fdopen(answered) as lines:
         said = [line.split() for line in lines]
@@ -337,7 +336,7 @@ def databases_lose_nothing(made):
         statuses, said = put_all(folders, "delete", ROWS)
         took = time.monotonic() - began
         assert statuses == [0, 0], statuses
-        due = sorted((int(uid), int(number)) for uid, what, number in said if what == "row")
+        due = sorted((int(uid), int(number)) for uid, number in said)
         assert len(due) == 2 * ROWS
         for folder, it in zip(folders, USERS):
             integrity, rows = rows_in(f"{folder}/base", it)
@@ -345,4 +344,23 @@ def databases_lose_nothing(made):
         print(f"    {2 * ROWS} rows, {took / ROWS / 2 * 1000:.0f} ms each")
 
 
-TESTS = [flocks_hold, ranges_hold, who_waits_goes_on, locks_outlive_kfsd, who_was_away_has_lost_it, what_was_written_is_seen, databases_lose_nothing]
+def a_log_beside_a_database_is_of_one_mount(made):
+    """sqlite3 shares memory by mmap() in the mode "wal". Two processes of one mount do so; a second mount is refused, and no row is lost."""
+    if not can_mount():
+        return
+    for of_one in (True, False):
+        with mounts_of(made) as (_daemon, folders, _):
+            folders = [folders[0]] * 2 if of_one else folders
+            users = [USERS[0]] * 2 if of_one else USERS[:2]
+            statuses, said = put_all(folders, "wal", ROWS // 4, users)
+            assert statuses[0] == 0 or statuses[1] == 0, statuses
+            assert not of_one or statuses == [0, 0], statuses
+            due = sorted((int(uid), int(number)) for uid, number in said)
+            for folder, it in zip(folders, users):
+                integrity, rows = rows_in(f"{folder}/base", it)
+                missing = [row for row in due if row not in set(rows)]
+                assert integrity == [("ok",)] and not missing, (integrity, missing)
+            print(f"    {len(due)} rows, {'one mount' if of_one else 'two mounts'}: {statuses}")
+
+
+TESTS = [flocks_hold, ranges_hold, who_waits_goes_on, locks_outlive_kfsd, who_was_away_has_lost_it, what_was_written_is_seen, databases_lose_nothing, a_log_beside_a_database_is_of_one_mount]
