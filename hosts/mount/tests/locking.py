@@ -300,15 +300,25 @@ def a_database(path, mode):
     beside.sync(path)
 
 
-def put_all(folders, mode, count, users=USERS):
-    """Two users put rows at once. How their processes have ended, and what was answered."""
+def made_base(folder, mode):
+    path = f"{folder}/base"
+    assert wait(in_child(a_database, path, mode, user=USER)) == 0
+    return path
+
+
+def begin_rows(folder, it, count):
+    """A user begins to put rows. Its process, and where it tells those that were answered."""
     answered, tells = os.pipe()
-    assert wait(in_child(a_database, f"{folders[0]}/base", mode, user=USER)) == 0
-    children = [in_child(put_rows, f"{folder}/base", it["uid"], count, tells, user=it["uid"]) for folder, it in zip(folders, users)]
+    child = in_child(put_rows, f"{folder}/base", it["uid"], count, tells, user=it["uid"])
     os.close(tells)
-    with os.fdopen(answered) as lines:
-        said = [line.split() for line in lines]
-    return [wait(child) for child in children], said
+    return child, os.fdopen(answered)
+
+
+def end_rows(begun):
+    """How processes have ended, and all rows that were answered, in order."""
+    said = [line.split() for _, lines in begun for line in lines]
+    [lines.close() for _, lines in begun]
+    return [wait(child) for child, _ in begun], sorted((int(uid), int(number)) for uid, number in said)
 
 
 def check_base(path, uid, tells):
@@ -327,40 +337,46 @@ def rows_in(path, it):
     return found
 
 
+def are_rows(folders, users, due):
+    """A database is whole, and has the rows that were answered, by what each user sees."""
+    for folder, it in zip(folders, users):
+        integrity, rows = rows_in(f"{folder}/base", it)
+        assert integrity == [("ok",)] and sorted(rows) == due, (integrity, len(rows), len(due))
+
+
 def databases_lose_nothing(made):
     """Two users put rows into one database at once, over a mount each: each row that was answered is there."""
     if not can_mount():
         return
     with mounts_of(made) as (_daemon, folders, _):
+        made_base(folders[0], "delete")
         began = time.monotonic()
-        statuses, said = put_all(folders, "delete", ROWS)
+        statuses, due = end_rows([begin_rows(folder, it, ROWS) for folder, it in zip(folders, USERS)])
         took = time.monotonic() - began
-        assert statuses == [0, 0], statuses
-        due = sorted((int(uid), int(number)) for uid, number in said)
-        assert len(due) == 2 * ROWS
-        for folder, it in zip(folders, USERS):
-            integrity, rows = rows_in(f"{folder}/base", it)
-            assert integrity == [("ok",)] and sorted(rows) == due, (integrity, len(rows))
+        assert statuses == [0, 0] and len(due) == 2 * ROWS, (statuses, len(due))
+        are_rows(folders, USERS, due)
         print(f"    {2 * ROWS} rows, {took / ROWS / 2 * 1000:.0f} ms each")
 
 
-def a_log_beside_a_database_is_of_one_mount(made):
-    """sqlite3 shares memory by mmap() in the mode "wal". Two processes of one mount do so; a second mount is refused, and no row is lost."""
+def one_mount_shares_memory(made):
+    """With a log beside the database (WAL) processes of sqlite3 share memory. Those of one mount do; one of a second mount is refused, and loses no row."""
     if not can_mount():
         return
-    for of_one in (True, False):
-        with mounts_of(made) as (_daemon, folders, _):
-            folders = [folders[0]] * 2 if of_one else folders
-            users = [USERS[0]] * 2 if of_one else USERS[:2]
-            statuses, said = put_all(folders, "wal", ROWS // 4, users)
-            assert statuses[0] == 0 or statuses[1] == 0, statuses
-            assert not of_one or statuses == [0, 0], statuses
-            due = sorted((int(uid), int(number)) for uid, number in said)
-            for folder, it in zip(folders, users):
-                integrity, rows = rows_in(f"{folder}/base", it)
-                missing = [row for row in due if row not in set(rows)]
-                assert integrity == [("ok",)] and not missing, (integrity, missing)
-            print(f"    {len(due)} rows, {'one mount' if of_one else 'two mounts'}: {statuses}")
+    with mounts_of(made) as (_daemon, folders, _):
+        made_base(folders[0], "wal")
+        statuses, due = end_rows([begin_rows(folders[0], USERS[0], ROWS // 4) for _ in range(2)])
+        assert statuses == [0, 0], statuses
+        are_rows(folders, USERS, due)
+        child, lines = begin_rows(folders[0], USERS[0], ROWS)
+        first = lines.readline()
+        second, none = end_rows([begin_rows(folders[1], USERS[1], 1)])
+        assert (second, none) == ([1], []), (second, none)
+        statuses, more = end_rows([(child, lines)])
+        assert statuses == [0], statuses
+        # it may once the other mount has closed it
+        statuses, last = end_rows([begin_rows(folders[1], USERS[1], ROWS // 4)])
+        assert statuses == [0], statuses
+        are_rows(folders, USERS, sorted([*due, tuple(map(int, first.split())), *more, *last]))
 
 
-TESTS = [flocks_hold, ranges_hold, who_waits_goes_on, locks_outlive_kfsd, who_was_away_has_lost_it, what_was_written_is_seen, databases_lose_nothing, a_log_beside_a_database_is_of_one_mount]
+TESTS = [flocks_hold, ranges_hold, who_waits_goes_on, locks_outlive_kfsd, who_was_away_has_lost_it, what_was_written_is_seen, databases_lose_nothing, one_mount_shares_memory]
