@@ -92,6 +92,14 @@ impl Cache {
         self.under_way.retain(|_, under_way| under_way.since.is_some() || under_way.ahead.number() != number);
     }
 
+    /// All that was shown without a lease is asked for again.
+    pub fn look_all_anew(&mut self) {
+        self.together.iter_mut().for_each(HashMap::clear);
+        self.fresh.clear();
+        self.opened.clear();
+        self.under_way.retain(|_, under_way| under_way.since.is_some());
+    }
+
     /// What a log has changed was done, under leases. What it has made of names and headers is what the server shows by now, and
     /// stays where a lease does.
     pub fn land(&mut self, draft: &Draft, leases: &Leases) {

@@ -169,6 +169,11 @@ impl HeldLocks {
         self.held.is_empty()
     }
 
+    /// Whether one of them is for writing.
+    pub fn has_exclusive(&self) -> bool {
+        self.held.iter().any(|lock| lock.kind == LockKind::Write)
+    }
+
     /// Whether an owner of this style has a lock that meets this one.
     pub fn meet(&self, lock: &Lock) -> bool {
         self.held.iter().chain(&self.lost).any(|held| held.is_of(lock) && held.meets(lock))

@@ -212,9 +212,9 @@ impl<D: Desk> Session<D> {
         self.header(number)
     }
 
-    /// What was shown of a node without a lease is asked for again from now on.
-    pub fn look_anew(&mut self, number: u32) {
-        self.cache.look_anew(number);
+    /// What was shown without a lease is asked for again from now on.
+    pub fn look_anew(&mut self) {
+        self.cache.look_all_anew();
     }
 
     /// Whether the node's bits grant this.

@@ -175,7 +175,7 @@ impl<D: Desk> Volume<D> {
     /// A file is shown as it is from now on. Whether the kernel has to forget what it has of it: unless a lease has kept others from
     /// changing it.
     fn shows_anew(&mut self, id: u64, number: u32) -> bool {
-        self.session.look_anew(number);
+        self.session.look_anew();
         let since = self.session.held_since(number).unwrap_or(None);
         let keeps = since.is_some() && self.kept.get(&id) == Some(&Kept::Since(since));
         if !keeps {
@@ -329,7 +329,7 @@ impl<D: Desk> Volume<D> {
         for number in lost {
             self.owe(format!("a lock of node {number} is lost: others may have had it meanwhile"), Errno::EIO);
             let id = self.nodes.id(number);
-            self.session.look_anew(number);
+            self.session.look_anew();
             self.kept.insert(id, Kept::Mixed);
             told.push(Told { forgets: Some(id), reply: None });
         }
