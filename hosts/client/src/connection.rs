@@ -385,7 +385,14 @@ impl Connection {
         let mut numbered = vec![NUMBERED];
         numbered.extend_from_slice(&self.next_call.to_be_bytes());
         numbered.extend_from_slice(body);
+        let mut is_made = false;
         loop {
+            // Who connects anew may have lost a lock under which the log was written.
+            let _gone = self.connect();
+            if !self.locks.unwritten().is_empty() {
+                return Err(if is_made { Unanswered::Unknown } else { Unanswered::Stopping });
+            }
+            is_made = true;
             match self.call(&numbered) {
                 Err(Unanswered::Unknown | Unanswered::Gone(Unshown::Gone(_))) if self.asks_again() => {}
                 told => return told,

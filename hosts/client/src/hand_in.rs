@@ -22,14 +22,17 @@ impl<D: Desk> Session<D> {
     /// can't be done then is told, and isn't in the log any more.
     pub fn sync(&mut self) -> Result<(), HandInFault> {
         if self.draft.log().is_empty() {
+            self.forget_unwritten();
             return Ok(());
         }
         if self.is_uncertain && self.was_done()? {
             // It may be long ago.
             self.draft.changed().into_iter().for_each(|number| self.cache.forget(number));
             self.land();
+            self.forget_unwritten();
             return Ok(());
         }
+        self.leave_out_unwritten()?;
         if let Some(fault) = self.still_lacks_room()? {
             return Err(fault);
         }
@@ -146,15 +149,20 @@ impl<D: Desk> Session<D> {
             self.leases.forget_all();
             self.ask_leases(&needed)?;
         }
-        let (old, calls) = (self.draft.clone(), std::mem::take(&mut self.calls));
-        self.draft.begin_anew();
-        let was_waiting = std::mem::replace(&mut self.is_waiting, true);
         let left_out = match said {
             // A lease may have ended again.
             Answer::Entry(_, Reason::NoLease(_)) => None,
             Answer::Entry(index, reason) if is_again => Some((index, reason)),
             _ => None,
         };
+        self.enter_anew(&|index, _| left_out.filter(|(other, _)| *other == index).map(|(_, reason)| reason))
+    }
+
+    /// Takes all entries anew, but for those that are left out, each for a reason. Where that can't be done the log stays as it was.
+    pub(crate) fn enter_anew(&mut self, left_out: &dyn Fn(usize, &Entry) -> Option<Reason>) -> Result<Vec<Lost>, HandInFault> {
+        let (old, calls) = (self.draft.clone(), std::mem::take(&mut self.calls));
+        self.draft.begin_anew();
+        let was_waiting = std::mem::replace(&mut self.is_waiting, true);
         let meant = std::mem::replace(&mut self.meant, old.meant());
         let entered = self.enter_all_again(&old, &calls, left_out);
         (self.is_waiting, self.meant) = (was_waiting, meant);
@@ -166,18 +174,18 @@ impl<D: Desk> Session<D> {
         entered
     }
 
-    /// Takes the entries of a log into the one that is empty, but for the one that is left out.
+    /// Takes the entries of a log into the one that is empty, but for those that are left out.
     fn enter_all_again(
         &mut self,
         old: &Draft,
         calls: &[RangeInclusive<u64>],
-        left_out: Option<(usize, Reason)>,
+        left_out: &dyn Fn(usize, &Entry) -> Option<Reason>,
     ) -> Result<Vec<Lost>, HandInFault> {
         let mut lost = Vec::new();
         for (index, (entry, calls)) in old.log().entries().zip(calls).enumerate() {
-            let entered = match left_out {
-                Some((other, reason)) if other == index => Err(Fault::Refused(reason)),
-                _ => self.enter_again(&entry)?,
+            let entered = match left_out(index, &entry) {
+                Some(reason) => Err(Fault::Refused(reason)),
+                None => self.enter_again(&entry)?,
             };
             match entered {
                 Ok(()) => self.calls.push(calls.clone()),

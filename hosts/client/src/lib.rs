@@ -28,6 +28,7 @@ mod locking;
 pub mod locks;
 pub mod log;
 pub mod looks;
+mod losing;
 pub mod memory;
 pub mod name;
 mod names;

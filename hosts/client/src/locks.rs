@@ -156,6 +156,8 @@ pub struct HeldLocks {
     lost: Vec<Lock>,
     /// Files on which one was lost since that was asked last.
     newly_lost: Vec<u32>,
+    /// Those on which one for writing was lost, while a log may write to them that isn't handed in.
+    unwritten: Vec<u32>,
 }
 
 impl HeldLocks {
@@ -209,6 +211,15 @@ impl HeldLocks {
         std::mem::take(&mut self.newly_lost)
     }
 
+    /// The files to which nothing may be handed in that was written before.
+    pub(crate) fn unwritten(&self) -> &[u32] {
+        &self.unwritten
+    }
+
+    pub(crate) fn forget_unwritten(&mut self) {
+        self.unwritten.clear();
+    }
+
     /// A lock is given up, whatever the server knows of it.
     pub fn give_up(&mut self, lock: &Lock) {
         put(&mut self.held, &Lock { kind: LockKind::Unlock, ..*lock });
@@ -233,6 +244,9 @@ impl HeldLocks {
         put(&mut self.held, &Lock { kind: LockKind::Unlock, ..*lock });
         put(&mut self.lost, lock);
         self.newly_lost.push(lock.node);
+        if lock.kind == LockKind::Write {
+            self.unwritten.push(lock.node);
+        }
     }
 }
 

@@ -326,6 +326,12 @@ impl<D: Desk> Volume<D> {
     fn told_lost(&mut self) -> Vec<Told> {
         let lost = self.session.desk().held_locks().map_or_else(Vec::new, HeldLocks::take_newly_lost);
         let mut told = Vec::new();
+        if !lost.is_empty() {
+            // What was written under it isn't handed in.
+            if let Err(fault) = self.session.sync() {
+                let _told_next = self.told(&fault.into());
+            }
+        }
         for number in lost {
             self.owe(format!("a lock of node {number} is lost: others may have had it meanwhile"), Errno::EIO);
             let id = self.nodes.id(number);

@@ -248,6 +248,8 @@ def who_was_away_has_lost_it(made):
     with mounts_of(made, duties={"lease_seconds": 4, "wanted_seconds": 1}) as (daemon, folders, mounts), processes_of(folders) as (mine, other):
         assert mine.do("os.pwrite(files['a'], b'before', 0)") == 6 and mine.do("os.fsync(files['a'])") is None
         assert mine.do(lock(WRITE)) is None and mine.do("os.pread(files['a'], 9, 0)") == b"before"
+        # it isn't handed in before the lock is lost, and never is behind that
+        assert mine.do("os.pwrite(files['a'], b'stale', 0)") == 5
         mounts[0].send_signal(signal.SIGSTOP)
         daemon.process.kill()
         daemon.process.wait()
@@ -258,13 +260,16 @@ def who_was_away_has_lost_it(made):
         mounts[0].send_signal(signal.SIGCONT)
         until = time.monotonic() + SOON
         while (said := mine.do("os.pread(files['a'], 9, 0)")) != errno.EIO:
-            assert said == b"before" and time.monotonic() < until, said
+            assert said == b"stalee" and time.monotonic() < until, said
         assert mine.do("os.pwrite(files['a'], b'lost', 0)") == errno.EIO
         assert mine.do(lock(READ, 0, 1)) == errno.EIO
         assert mine.do(lock(UNLOCK)) is None
         mine.begin(lock(WRITE, waits=True))
         assert other.do(lock(UNLOCK)) is None
         assert mine.end() is None and mine.do("os.pread(files['a'], 9, 0)") == b"behind"
+        assert mine.do("os.fsync(files['a'])") == errno.EIO and mine.do("os.fsync(files['a'])") is None
+        assert mine.do(lock(UNLOCK)) is None and other.do(lock(READ, waits=True)) is None
+        assert other.do("os.pread(files['a'], 9, 0)") == b"behind"
 
 
 def what_was_written_is_seen(made):
