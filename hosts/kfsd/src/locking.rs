@@ -8,6 +8,9 @@ use crate::users::{Account, User};
 use std::sync::Arc;
 use std::time::Instant;
 
+/// How often a node is looked at, where nodes go meanwhile.
+const LOOKS: u32 = 4;
+
 /// The bits of a class by which it may read or write.
 const READ_OR_WRITE: u16 = 0o6;
 
@@ -56,11 +59,17 @@ pub async fn lock(shared: Arc<Shared>, account: Arc<Account>, line: Line, number
 
 async fn verdict_of(shared: &Shared, user: &User, line: Line, ask: &Ask) -> Result<Verdict, Instead> {
     let following = &shared.following;
-    if ask.needs_right() {
+    for _ in 0..LOOKS {
+        let gone = following.locks().gone_so_far();
+        if !ask.needs_right() {
+            break;
+        }
         match node_at(shared, user.client, ask.node).await? {
             None => return Ok(Verdict::NoNode),
             Some(node) if !may_lock(user, &node) => return Ok(Verdict::NotAllowed),
-            Some(_) => {}
+            // It may have gone behind the look-up.
+            Some(_) if following.locks().gone_so_far() != gone => {}
+            Some(_) => break,
         }
     }
     Ok(following.with_locks(|locks| locks.ask(line, ask, Instant::now())))

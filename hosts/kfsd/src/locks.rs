@@ -284,6 +284,8 @@ pub struct Locks {
     waiting: BTreeSet<(Owner, u32)>,
     counts: HashMap<u32, Count>,
     connections: u64,
+    /// How many nodes have gone.
+    gone: u64,
     opening: Opening,
     /// What a wait gets whose way is freed next; and whether one was since that was asked last.
     serial: u64,
@@ -298,6 +300,7 @@ impl Default for Locks {
             waiting: BTreeSet::new(),
             counts: HashMap::new(),
             connections: 0,
+            gone: 0,
             opening: Opening::NotYet,
             serial: 0,
             is_freed: false,
@@ -516,7 +519,13 @@ impl Locks {
 
     /// A node isn't there any more. Who waits there finds out when it asks again.
     pub fn gone(&mut self, node: u32) {
+        self.gone += 1;
         self.drop_where(node, |_| true);
+    }
+
+    /// Goes up with each node that goes.
+    pub fn gone_so_far(&self) -> u64 {
+        self.gone
     }
 
     fn drop_where(&mut self, node: u32, is_dropped: impl Fn(&Lock) -> bool) {
