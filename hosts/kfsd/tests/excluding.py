@@ -2,6 +2,7 @@
 import struct
 import time
 
+from machines import Cluster
 from running import Daemon, lease, user
 from timing import done, moded, submit
 from wanting import ask_for_wants
@@ -173,4 +174,30 @@ def lock_or_again(connection, node):
             return verdict(said)
 
 
-TESTS = [two_connections_exclude_each_other, who_may_not_reach_a_node_locks_it_not, who_waits_is_told, a_client_has_so_many, behind_a_start_those_had_come_first]
+def granted(connection, node, kind=WRITE):
+    """Asks for a lock until a start isn't in its way any more."""
+    while (said := lock(connection, node, kind)) == NOT_YET:
+        time.sleep(0.2)
+    return said
+
+
+def the_next_leader_knows_none(made):
+    """In a cluster a connection over any member has its locks at the leader. The next one sets those again that there were, before others."""
+    with Cluster(made, users=USERS) as cluster:
+        leader = cluster.leader()
+        seven = leader.connect(7)
+        files(seven, [b"a"])
+        assert lock(seven, 2, WRITE, how=TEST) == NOT_YET
+        assert granted(seven, 2) == GRANTED
+        beside = cluster.in_order(leader)[1].connect(8)
+        assert lock(beside, 2, READ) == (CONFLICTS, WRITE, 0, END, 0)
+        leader.process.kill()
+        leader, _ = cluster.another_leads()
+        seven, eight = leader.connect(7), leader.connect(8)
+        assert lock(eight, 2, READ) == NOT_YET and lock(seven, 2, WRITE, how=AGAIN) == GRANTED
+        assert granted(eight, 2, READ) == (CONFLICTS, WRITE, 0, END, 0)
+        seven.close()
+        leader.wait_for(lambda: lock(eight, 2, WRITE) == GRANTED)
+
+
+TESTS = [two_connections_exclude_each_other, who_may_not_reach_a_node_locks_it_not, who_waits_is_told, a_client_has_so_many, behind_a_start_those_had_come_first, the_next_leader_knows_none]
