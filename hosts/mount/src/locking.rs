@@ -59,11 +59,6 @@ impl Locking {
         self.handles += 1;
         self.handles
     }
-
-    /// Whether a request waits, so that what others give up is looked for often.
-    pub fn is_waiting(&self) -> bool {
-        !self.waiting.is_empty()
-    }
 }
 
 /// The whole file.

@@ -2,6 +2,7 @@
 import contextlib
 import errno
 import fcntl
+import mmap  # noqa: F401
 import os
 import signal
 import sqlite3
@@ -277,11 +278,18 @@ def what_was_written_is_seen(made):
     if not can_mount():
         return
     with mounts_of(made) as (_daemon, folders, _), processes_of(folders) as both:
-        assert both[0].do("os.pwrite(files['a'], bytes(8), 0)") == 8
+        assert both[0].do("os.pwrite(files['a'], bytes(8), 0)") == 8 and both[0].do("os.fsync(files['a'])") is None
+        for one in both:
+            # behind a lock it is as long as it is
+            assert one.do(lock(READ, waits=True)) is None
+            assert one.do("files.setdefault('map', mmap.mmap(files['a'], 8, prot=mmap.PROT_READ)) and None") is None
+            assert one.do("files['map'][:]") == bytes(8)
+            assert one.do(lock(UNLOCK)) is None
         for index in range(40):
             one = both[index % 2]
             assert one.do(lock(WRITE, waits=True)) is None
             assert one.do("int.from_bytes(os.pread(files['a'], 8, 0), 'big')") == index, index
+            assert one.do("int.from_bytes(files['map'][:], 'big')") == index, index
             assert one.do("os.fstat(files['a']).st_size") == 8 + index
             assert one.do(f"os.pwrite(files['a'], ({index} + 1).to_bytes(8, 'big') + bytes({index} + 1), 0)") == 9 + index
             assert one.do(lock(UNLOCK)) is None
