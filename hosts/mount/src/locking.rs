@@ -68,13 +68,10 @@ fn whole(node: u32, owner: u64, style: LockStyle) -> Lock {
 
 /// `fuse_lk_out`.
 fn lock_reply(conflict: Option<Conflict>) -> Reply {
+    let none = Conflict { kind: LockKind::Unlock, first: 0, last: LAST, pid: 0 };
+    let Conflict { kind, first, last, pid } = conflict.unwrap_or(none);
     let mut reply = Reply::default();
-    match conflict {
-        Some(Conflict { kind, first, last, pid }) => {
-            reply.long(first.min(LAST)).long(last.min(LAST)).word(kind as u32).word(pid);
-        }
-        None => drop(reply.long(0).long(LAST).word(LockKind::Unlock as u32).word(0)),
-    }
+    reply.long(first.min(LAST)).long(last.min(LAST)).word(kind as u32).word(pid);
     reply
 }
 
@@ -345,3 +342,6 @@ impl<D: Desk> Volume<D> {
         }
     }
 }
+
+#[cfg(test)]
+mod tests;
