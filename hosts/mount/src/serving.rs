@@ -21,9 +21,8 @@ use std::time::{Duration, Instant};
 
 /// How often it is heard what others want, where requests come without a pause.
 const HEARING: Duration = Duration::from_millis(2);
-/// After how long what is due is done, and where a program waits for a lock.
+/// After how long what is due is done.
 const PAUSE: Duration = Duration::from_millis(100);
-const SHORT_PAUSE: Duration = Duration::from_millis(10);
 /// How long what is being told is waited for at the end.
 const LAST_TOLD: Duration = Duration::from_secs(5);
 /// For how long the next request is looked for behind an answer, before this sleeps until it comes.
@@ -43,9 +42,8 @@ pub fn serve<D: Desk>(device: &mut File, ends: &UnixStream, volume: &mut Volume<
     let (mut polled, mut heard, mut looks) = (Instant::now(), Instant::now(), Looks::new(LONGEST_LOOK));
     let (mut teller, mut ended) = (Teller::new(device)?, None);
     loop {
-        let pause = if volume.locking.is_waiting() { SHORT_PAUSE } else { PAUSE };
         // Also where requests come without a pause.
-        if polled.elapsed() >= pause {
+        if polled.elapsed() >= PAUSE {
             volume.poll();
             polled = Instant::now();
             if has_ended(device, ends, None, Duration::ZERO)? {
@@ -71,7 +69,7 @@ pub fn serve<D: Desk>(device: &mut File, ends: &UnixStream, volume: &mut Volume<
                 Some(Errno::ENODEV) => return Ok(()),
                 Some(Errno::EAGAIN) if looks.goes_on() => {}
                 Some(Errno::EAGAIN) => {
-                    if has_ended(device, ends, volume.news(), pause)? {
+                    if has_ended(device, ends, volume.news(), PAUSE)? {
                         ended.get_or_insert_with(Instant::now);
                     }
                 }
