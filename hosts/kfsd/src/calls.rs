@@ -401,11 +401,11 @@ impl Told {
     }
 }
 
-/// How many places of tier 0 the log took that was answered so; none where it hasn't landed.
+/// How many places of tier 0 the log needs that was answered so, where it has landed or had too few.
 pub fn need_in(answer: &[u8]) -> u64 {
     let mut bytes = Bytes(answer);
     match (bytes.byte(), bytes.byte()) {
-        (Some(1), Some(_rejudged)) => bytes.long().unwrap_or(0),
+        (Some(1 | 3), Some(_rejudged)) => bytes.long().unwrap_or(0),
         _ => 0,
     }
 }
@@ -540,7 +540,8 @@ mod tests {
         }
         assert_eq!(Told::of(&[1, 0]), Told::Landed);
         let landed = [1, 0, 0, 0, 0, 0, 0, 0, 1, 2];
-        assert_eq!((need_in(&landed), need_in(&landed[..9]), need_in(&[3, 0, 0, 0, 0, 0, 0, 0, 1, 2])), (258, 0, 0));
+        assert_eq!((need_in(&landed), need_in(&landed[..9]), need_in(&[2, 0, 0, 0, 0, 0, 0, 0, 1, 2])), (258, 0, 0));
+        assert_eq!(need_in(&[3, 0, 0, 0, 0, 0, 0, 0, 1, 2, 0, 0, 0, 9]), 258);
         assert_eq!(Told::of(&[2, 0]), Told::Else);
         assert_eq!(Told::of(&[3, 0]), Told::NoRoom);
     }

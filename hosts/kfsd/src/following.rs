@@ -80,6 +80,8 @@ pub struct Following {
     /// too few.
     free: AtomicU64,
     least: AtomicU64,
+    /// How many the largest of these logs needs.
+    needed: AtomicU64,
     short: Notify,
 }
 
@@ -99,6 +101,7 @@ impl Default for Following {
             is_doubtful: Notify::new(),
             free: AtomicU64::new(u64::MAX),
             least: AtomicU64::new(0),
+            needed: AtomicU64::new(0),
             short: Notify::new(),
         }
     }
@@ -194,6 +197,11 @@ impl Following {
     pub fn look_for(&self, free: u64, least: u64) {
         self.free.store(free, Ordering::Relaxed);
         self.least.store(least, Ordering::Relaxed);
+    }
+
+    /// How many places the largest log needs that had too few, since this was asked for.
+    pub fn take_needed(&self) -> u64 {
+        self.needed.swap(0, Ordering::Relaxed)
     }
 
     /// So many were freed.
@@ -301,7 +309,10 @@ impl Following {
                     self.doubt(node, [wish.client]);
                 }
             }
-            (_, Told::NoRoom) => self.short.notify_one(),
+            (_, Told::NoRoom) => {
+                self.needed.fetch_max(need_in(answer), Ordering::Relaxed);
+                self.short.notify_one();
+            }
             (_, Told::Landed) => self.spend(need_in(answer)),
             _ => {}
         }
@@ -356,8 +367,11 @@ mod tests {
         assert!(!is_short().await);
         following.answered(&log, &landed(60), 1);
         assert!(is_short().await);
-        // nor does a log that had no room take any
-        following.answered(&log, &[3, 0, 0, 0, 0, 0, 0, 0, 9, 0, 0, 0, 0], 1);
+        // a log that had no room is told of, with what it needs
+        let no_room = |need| [3, 0, 0, 0, 0, 0, 0, 0, 0, need, 0, 0, 0, 0];
+        following.answered(&log, &no_room(9), 1);
+        following.answered(&log, &no_room(7), 1);
         assert!(is_short().await);
+        assert_eq!((following.take_needed(), following.take_needed()), (9, 0));
     }
 }

@@ -73,19 +73,22 @@ pub async fn move_on(shared: Arc<Shared>) {
     }
 }
 
-/// Moves blocks where fewer of 100 places are free than should be, until twice as many are. Where the desk has refused to go on, it is
-/// asked again once other numbers of places are free.
+/// Moves blocks where fewer of 100 places are free than should be, until twice as many are; or where a log had too few, until it has
+/// as many as it needs. Where the desk has refused to go on, it is asked again once other numbers of places are free.
 async fn make_room(shared: &Shared, places: &mut Places, halted: &mut Option<[Room; 3]>, percent: u8) {
-    let (mut moved, mut is_begun) = (0, false);
+    let (mut moved, mut aim) = (0, 0);
     while let Some(rooms) = rooms(shared).await {
-        let (free, least) = (u64::from(rooms[0].free), u64::from(rooms[0].size) * u64::from(percent) / 100);
+        let (free, size) = (u64::from(rooms[0].free), u64::from(rooms[0].size));
+        let least = size * u64::from(percent) / 100;
         shared.following.look_for(free, least);
-        if free >= if is_begun { 2 * least } else { least } || *halted == Some(rooms) || *shared.stopping.borrow() {
+        // What needs more than there are never has room.
+        let needed = Some(shared.following.take_needed()).filter(|needed| *needed <= size).unwrap_or(0);
+        aim = needed.max(if free < least { 2 * least } else { aim });
+        if free >= aim || *halted == Some(rooms) || *shared.stopping.borrow() {
             break;
         }
-        is_begun = true;
         places.stand(rooms);
-        let goal = (2 * least - free).min(BLOCKS);
+        let goal = (aim - free).min(BLOCKS);
         let (count, ended) = move_some(shared, places, goal).await;
         moved += count;
         *halted = (ended == Ended::Refused).then_some(rooms);

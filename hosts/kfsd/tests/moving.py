@@ -22,11 +22,11 @@ def submit(log, plan):
     return struct.pack(">BII", 1, 7, len(log)) + log + struct.pack(">I", len(plan)) + plan
 
 
-def created(number, fill):
+def created(number, fill, size=SIZE):
     """The call that creates a file of two blocks."""
     name = b"f%d" % number
-    log = log_of([Create(1, name, number, FILE, 0o644), Write(number, 0, bytes([fill]) * SIZE)])
-    plan = plan_of([NameRow(1, name, number)], [node(number, SIZE)], [put(number, 0, SIZE, 1, 0)])
+    log = log_of([Create(1, name, number, FILE, 0o644), Write(number, 0, bytes([fill]) * size)])
+    plan = plan_of([NameRow(1, name, number)], [node(number, size)], [put(number, 0, size, 1, 0)])
     return struct.pack(">BII", 1, 7, len(log)) + log + struct.pack(">I", len(plan)) + plan
 
 
@@ -205,6 +205,30 @@ def full_tiers_cost_nothing(made):
         print(f"    {number - 1} files of two blocks on tiers of 40, 60 and 80 places")
 
 
+def a_log_gets_what_it_needs(made):
+    """Enough places are free, and fewer than a log needs: blocks are moved for it. For one that needs more than tier 0 has none are."""
+    with Daemon(*made, users=USERS, tiers=(100, 200, 0), duties={"free_percent": 10}, frame_bytes=500_000, bytes_a_connection=600_000, bytes_a_user=600_000).start() as daemon:
+        if not has_look_ups(daemon):
+            return
+        seven = daemon.connect(7)
+        assert seven.ask(0, lease(7, 1 << 40, writes=True)).answer
+        for number in range(2, 46):
+            create(daemon, seven, number)
+        assert free(daemon) == (12, 200, 0)
+        log = [Create(1, b"g", 900, FILE, 0o644), *[Write(900, 65_536 * at, bytes([1]) * 65_536) for at in range(7)]]
+        size = 7 * 65_536
+        plan = plan_of([NameRow(1, b"g", 900)], [node(900, size)], [put(900, 65_536 * at, 65_536, 1 + at, 0) for at in range(7)])
+        assert seven.ask(1, submit(log_of(log), plan)).answer[4] == NO_ROOM
+        looks = daemon.status()["frames"]["own"]
+        daemon.wait_for(lambda: daemon.status()["frames"]["own"] > looks)
+        assert free(daemon) == (12, 200, 0)
+        answer = None
+        while answer != YES:
+            answer = seven.ask(1, created(901, 1, 65_536)).answer[4]
+            assert answer in (YES, NO_ROOM), answer
+        assert free(daemon)[1] < 200
+
+
 def empty_files_stand_in_nobodys_way(made):
     """The oldest of all are 3,000 empty files, of which nothing is moved: those behind them are."""
     with Daemon(*made, users=USERS, tiers=(40, 60, 0), duties={"free_percent": 25}).start() as daemon:
@@ -244,4 +268,4 @@ def moves_go_on_behind_kills(made):
         print(f"    kfs_serve was started {daemon.status()['kfs_serve']['starts']} times while {moved(daemon)} blocks were moved")
 
 
-TESTS = [the_oldest_go_to_slower_tiers, all_tiers_are_filled, moves_keep_up_with_programs, a_new_kfsd_finds_free_places, full_tiers_cost_nothing, empty_files_stand_in_nobodys_way, moves_go_on_behind_kills]
+TESTS = [the_oldest_go_to_slower_tiers, all_tiers_are_filled, moves_keep_up_with_programs, a_new_kfsd_finds_free_places, full_tiers_cost_nothing, a_log_gets_what_it_needs, empty_files_stand_in_nobodys_way, moves_go_on_behind_kills]
