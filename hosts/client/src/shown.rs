@@ -37,7 +37,7 @@ impl Unshown {
 /// What a server keeps of a node beside its header.
 #[derive(Clone, Copy, Debug, Default, PartialEq, Eq)]
 pub struct Stamp {
-    /// When the node was made. A later node of the same number has a greater one. 0 where the server doesn't know.
+    /// A mark that the node got when it was made. A later node of the same number has another one. 0 where the server doesn't know.
     pub born: u64,
     /// When bytes of a file or names of a directory were changed, in nanoseconds since 1970; 0 where the server doesn't know.
     pub modified: i64,

@@ -44,7 +44,8 @@ pub fn now() -> i64 {
 /// What is known of all landings.
 #[derive(Clone, Debug, Default, PartialEq, Eq)]
 pub struct Landed {
-    /// When the last node was made.
+    /// A mark of all landings in their order: a node is born with that of the landing which made it. Where landings are taken over
+    /// once more behind a kill, it is the same again.
     pub born: i64,
     /// The prints of the last landings, that of the last one at the end.
     pub prints: VecDeque<u64>,
@@ -69,9 +70,8 @@ pub struct Times {
 impl Times {
     /// Takes what was kept.
     pub fn begin_with(&mut self, kept: Known) {
-        let last = kept.stamps.iter().map(|(_, stamp)| stamp.born).max().unwrap_or(0);
         self.of = kept.stamps.into_iter().collect();
-        self.landed = Landed { born: kept.landed.born.max(last), ..kept.landed };
+        self.landed = kept.landed;
     }
 
     /// How many of the last landings of a journal are known, of which so many at most aren't; none where that can't be told. It is
@@ -112,6 +112,7 @@ impl Times {
     }
 
     fn take(&mut self, landing: &Landing, time: i64, is_again: bool) {
+        self.landed.born = born_behind(self.landed.born, landing.print);
         for (node, change) in &landing.changes {
             let before = self.of(*node);
             let stamp = self.after(before, change, time, is_again);
@@ -130,7 +131,7 @@ impl Times {
     }
 
     /// The stamp of a node behind a change; none where the node is gone.
-    fn after(&mut self, before: Option<Stamp>, change: &Change, time: i64, is_again: bool) -> Option<Stamp> {
+    fn after(&self, before: Option<Stamp>, change: &Change, time: i64, is_again: bool) -> Option<Stamp> {
         let known = before.unwrap_or_else(|| Stamp::at(time));
         let born = before.map_or(0, |stamp| stamp.born);
         match change {
@@ -151,8 +152,7 @@ impl Times {
     }
 
     /// The stamp of a node that is made at this time.
-    fn made(&mut self, time: i64) -> Stamp {
-        self.landed.born = time.max(self.landed.born + 1);
+    fn made(&self, time: i64) -> Stamp {
         Stamp { born: self.landed.born, ..Stamp::at(time) }
     }
 
@@ -181,6 +181,13 @@ impl Times {
     pub fn take_unsaved(&mut self) -> (HashMap<u32, Option<Stamp>>, Landed) {
         (std::mem::take(&mut self.unsaved), self.landed.clone())
     }
+}
+
+/// The mark of all landings behind one more: above 0, and another one for nearly each other course.
+fn born_behind(before: i64, print: u64) -> i64 {
+    // The odd number nearest to 2^64 by the golden ratio spreads the bits.
+    let mixed = ((before as u64).rotate_left(23) ^ print).wrapping_mul(0x9e37_79b9_7f4a_7c15);
+    ((mixed >> 1) as i64).max(1)
 }
 
 #[cfg(test)]
@@ -256,19 +263,21 @@ mod tests {
     fn a_node_is_born_once() {
         let mut times = Times::default();
         let born = |times: &Times, node| times.of(node).unwrap().born;
-        times.change(&[(5, Change::Made), (6, Change::Made), (1, Change::Bytes), (5, Change::Header)], 100);
-        assert_eq!((born(&times, 1), born(&times, 5), born(&times, 6)), (0, 100, 101));
-        times.change(&[(5, Change::Bytes), (5, Change::Header)], 200);
-        assert_eq!((born(&times, 5), times.of(5).unwrap().modified), (100, 200));
-        times.change(&[(5, Change::Gone), (6, Change::Bytes)], 50);
-        assert_eq!((born(&times, 6), times.of(6).unwrap().modified), (101, 50));
-        times.change(&[(5, Change::Made), (5, Change::Header)], 60);
-        assert_eq!((born(&times, 5), times.of(5).unwrap().modified), (102, 60));
+        times.changed(&landing(&[(5, Change::Made), (6, Change::Made), (1, Change::Bytes), (5, Change::Header)], 7), 100);
+        let (first, known) = (born(&times, 5), times.all());
+        assert!(first > 0 && born(&times, 6) == first && born(&times, 1) == 0);
+        let more = [landing(&[(5, Change::Bytes)], 8), landing(&[(5, Change::Gone)], 9), landing(&[(5, Change::Made)], 7)];
+        times.changed(&more[0], 200);
+        assert_eq!((born(&times, 5), times.of(5).unwrap().modified), (first, 200));
+        times.changed(&more[1], 50);
+        times.changed(&more[2], 60);
+        assert_eq!(born(&times, 6), first);
+        assert_ne!(born(&times, 5), first);
+        // What wasn't kept is taken over again behind a kill.
         let mut other = Times::default();
-        times.change(&[(5, Change::Gone)], 70);
-        other.begin_with(times.all());
-        other.change(&[(5, Change::Made)], 80);
-        assert_eq!(born(&other, 5), 103);
+        other.begin_with(known);
+        more.iter().for_each(|landing| other.changed_again(landing, 500));
+        assert_eq!(born(&other, 5), born(&times, 5));
     }
 
     #[test]
@@ -277,16 +286,17 @@ mod tests {
         let marks = |times: &Times, node| times.of(node).map(|stamp| (stamp.marks, stamp.changed));
         let set = |marks, born| Change::Marks(Marking { marks, born });
         times.change(&[(5, Change::Made)], 100);
-        times.change(&[(5, set(1, 100)), (1, set(3, 0)), (6, set(1, 100))], 200);
+        let first = times.of(5).unwrap().born;
+        times.change(&[(5, set(1, first)), (1, set(3, 0)), (6, set(1, first))], 200);
         assert_eq!((marks(&times, 5), marks(&times, 1), marks(&times, 6)), (Some((1, 200)), Some((3, 200)), None));
         times.change(&[(5, Change::Bytes), (5, Change::Header)], 300);
         assert_eq!(marks(&times, 5), Some((1, 300)));
         times.change(&[(5, Change::Gone)], 400);
         times.change(&[(5, Change::Made)], 500);
         // it means the one before
-        times.change(&[(5, set(1, 100))], 600);
+        times.change(&[(5, set(1, first))], 600);
         assert_eq!(marks(&times, 5), Some((0, 500)));
-        times.changed_again(&landing(&[(5, set(1, 100)), (6, set(1, 100))], 0), 700);
+        times.changed_again(&landing(&[(5, set(1, first)), (6, set(1, first))], 0), 700);
         assert_eq!((marks(&times, 5), marks(&times, 6)), (Some((1, 700)), None));
     }
 

@@ -67,26 +67,26 @@ def clients_are_told_who_they_are(made):
 
 
 def nodes_are_born(made):
-    """A node has a time of its own at which it was made, also one with the number of another. It stays while the node does."""
+    """A node has a mark of its birth, and another one than an earlier node of its number. It stays while the node does."""
     with Daemon(*made, users=USERS).start() as daemon:
         seven, eight = daemon.connect(7), daemon.connect(8)
         leased(seven)
         # of the root nothing is known
         assert stamped(seven, 1) == (0, 0, 0, 0) and stamped(seven, 2) is None
-        now = done(seven, submit(*files_made([b"a", b"b", b"c"])))
+        done(seven, submit(*files_made([b"a", b"b", b"c"])))
         first = [born(seven, number) for number in (2, 3, 4)]
-        assert now.has(first[0] / 1e9) and first == sorted(set(first)) and first[2] - first[0] == 2, first
+        assert min(first) > 0, first
         assert stamped(seven, 2)[1:3] == seven.times(2) and stamped(seven, 1)[0] == 0
         for number in (2, 3, 4):
             leased(seven, number)
         done(seven, written(2))
         done(seven, moded(2, 2, 0o600))
-        assert born(seven, 2) == first[0] < stamped(seven, 2)[1] < stamped(seven, 2)[2] and stamped(eight, 2) == stamped(seven, 2)
+        assert born(seven, 2) == first[0] and stamped(seven, 2)[1] < stamped(seven, 2)[2] and stamped(eight, 2) == stamped(seven, 2)
         assert seven.ask(0, submit(*files_made([b"a"], 9))).answer[4] == 2
         removed(seven, b"b", 3)
         assert stamped(seven, 3) is None
         done(seven, submit(*files_made([b"b"], 3)))
-        assert born(seven, 3) > first[2] and [born(seven, number) for number in (2, 4)] == [first[0], first[2]]
+        assert born(seven, 3) not in (0, first[1]) and [born(seven, number) for number in (2, 4)] == [first[0], first[2]]
         assert said(seven, struct.pack(">BIB", STAMPED, 2, 0))[:2] == b"\x02\x03"
 
 
@@ -102,11 +102,11 @@ def look_ups_and_landings_keep_their_order(made):
         assert [found[at][5] for at in (1, 3, 4, 6)] == [1, 4, 1, 1], found
         assert found[0] == found[5] == b"\x03\x01\x00"
         first, second = (struct.unpack(">qqqB", found[at][HEADER:]) for at in (2, 7))
-        assert first[0] == first[1] == first[2] < second[0] == second[2] and found[7] == found[8]
+        assert first[1] == first[2] < second[2] and 0 not in (first[0], second[0]) and first[0] != second[0] and found[7] == found[8]
 
 
 def kept_births(daemon):
-    """When each node was made, as kfsd keeps it."""
+    """The birth of each node, as kfsd keeps it."""
     with sqlite3.connect(f"file:{daemon.folder}/kfsd.sqlite?mode=ro", uri=True) as store:
         return dict(store.execute("SELECT node, born FROM stamp WHERE born > 0"))
 
@@ -142,7 +142,7 @@ def births_outlive_kills(made):
             daemon.start()
             seven = daemon.connect(7)
             after = {number: stamped(seven, number) for number in numbers}
-            assert after.pop(first)[0] >= again > max(it[0] for it in before.values() if it)
+            assert after.pop(first)[0] == again not in (0, before[first][0])
             del before[first]
             assert after == before
 
@@ -150,7 +150,7 @@ def births_outlive_kills(made):
 def births_of_calls_left_by_kfs_serve(made):
     """kfs_serve is killed while files are made and removed under one number. A file that was told of has its birth for as long as it is there, and none behind it has."""
     with Daemon(*made, users=USERS).start() as daemon:
-        seven, least, count = daemon.connect(7), 1, 0
+        seven, gone, count = daemon.connect(7), {0}, 0
         leased(seven)
         for turn in range(60):
             for body in (submit(*files_made([b"a"])), struct.pack(">BI", STAMPED, 2), lease_by_path(7, 1 << 40, b"/a", writes=True), submit(*file_gone(b"a", 2))):
@@ -160,13 +160,13 @@ def births_of_calls_left_by_kfs_serve(made):
             found = [seven.next()[1] for _ in range(4)][1]
             told = struct.unpack(">qqqB", found[HEADER:])[0] if len(found) == HEADER + KEPT else None
             left = stamped(seven, 2)
-            assert told is None or told >= least, (turn, told, least)
+            assert told not in gone, (turn, told)
             assert told is None or left is None or left[0] == told, (turn, told, left)
             if left is not None:
-                assert left[0] >= least, (turn, left, least)
+                assert left[0] not in gone, (turn, left)
                 leased(seven, 2)
                 done(seven, submit(*file_gone(b"a", 2)))
-            least = max([least] + [it + 1 for it in (told, left and left[0]) if it])
+            gone |= {it for it in (told, left and left[0]) if it}
             count += told is not None
         assert count >= 30, count
 
@@ -244,7 +244,7 @@ def machines_tell_the_same(made):
         seven.done(submit(*files_made([b"a", b"b"])))
         assert mark(seven, 3, 1) == SET and said(seven, HELLO)[13:21] == struct.pack(">II", 1000, 1000)
         shown = [stamped(seven, number) for number in (1, 2, 3)]
-        assert shown[1][0] < shown[2][0] and shown[2][3] == 1
+        assert shown[1][0] > 0 and shown[2][0] > 0 and shown[2][3] == 1
         for is_killed in (False, True):
             leader = cluster.leader()
             leader.is_wanted = False
@@ -260,7 +260,7 @@ def machines_tell_the_same(made):
         seven.done(submit(*file_gone(b"a", 2)))
         assert stamped(seven, 2) is None
         seven.done(submit(*files_made([b"a"])))
-        assert born(seven, 2) > shown[2][0]
+        assert born(seven, 2) not in (0, shown[1][0])
 
 
 TESTS = [

@@ -232,7 +232,8 @@ def locks_outlive_kfsd(made):
         began = time.monotonic()
         # it isn't known before whether somebody had it
         assert other.has_ended() is False
-        assert mine.do("os.pwrite(files['a'], b'mine', 0)") == 4
+        said = mine.do("os.pwrite(files['a'], b'mine', 0)")
+        assert said == 4, said
         while time.monotonic() < began + GRACE + 3:
             assert not other.has_ended()
             time.sleep(0.1)
