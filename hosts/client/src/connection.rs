@@ -40,6 +40,8 @@ const READ: u8 = 0x45;
 const PLACES: u8 = 0x46;
 /// The look-up of a node's header, with what kfsd keeps of the node.
 const STAMPED: u8 = 0xf6;
+/// The call that sets the marks of a node. The first of them is that of a directory that gives its group.
+const MARKS: u8 = 0xf8;
 /// The most bytes that a look-up finds, and how many a name takes at most.
 const FOUND_LIMIT: usize = 65_536;
 const NAME_ROOM: usize = 260;
@@ -734,6 +736,24 @@ impl Desk for Connection {
             Told::Of(answer) => Ok(answer),
             _ => Err(nonsense(&body).into()),
         }
+    }
+
+    fn set_gives_group(&mut self, number: u32, gives: bool) -> Result<bool, Unanswered> {
+        if !self.has_stamps {
+            return Ok(false);
+        }
+        let mut body = look_up_body(MARKS, number);
+        body.push(u8::from(gives));
+        // To set them twice does no harm.
+        let is_set = match self.ask_again(&body)? {
+            Reply::Marked(1) => true,
+            Reply::Marked(_) => false,
+            reply => return answer_in(reply, &body).map(|_| false),
+        };
+        if let Some(stamp) = self.stamps.get_mut(&number).filter(|_| is_set) {
+            stamp.gives_group = gives;
+        }
+        Ok(is_set)
     }
 
     fn last_call(&self) -> Option<u64> {

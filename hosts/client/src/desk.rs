@@ -214,6 +214,12 @@ pub trait Desk: Shown {
     /// Hands a log in, with its plan.
     fn submit(&mut self, log: &[u8], plan: &[u8]) -> Result<Answer, Unanswered>;
 
+    /// Sets whether a directory gives its group to what is made in it (`S_ISGID`). Returns whether it is so now: a server may not keep
+    /// it, and only the owner may change it.
+    fn set_gives_group(&mut self, _number: u32, _gives: bool) -> Result<bool, Unanswered> {
+        Ok(false)
+    }
+
     /// The number under which a log was handed in last, where the server takes such numbers.
     fn last_call(&self) -> Option<u64> {
         None

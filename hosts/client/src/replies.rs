@@ -25,6 +25,8 @@ const FOUND_PLACES: u8 = 8;
 const HEADER: usize = 22;
 /// The mark of a directory that gives its group to what is made in it.
 const GIVES_GROUP: u8 = 1;
+/// The tag of the answer to who sets the marks of a node.
+const MARKED: u8 = 0xf8;
 /// The tags of replies.
 const ANSWERED: u8 = 1;
 const REFUSED: u8 = 2;
@@ -43,6 +45,8 @@ pub(crate) enum Reply {
     Welcome(u32, [u32; 2], Option<Row>),
     /// The moment, and for how many moments a lease may live at most; 0 for ever.
     Moment(u64, u64),
+    /// Whether the marks of a node are set, by kfsd's number.
+    Marked(u8),
     /// What is said to a question for a lock.
     Lock(LockAnswer),
 }
@@ -96,6 +100,7 @@ pub(crate) fn reply_of(said: &[u8]) -> Option<Reply> {
         REFUSED => Reply::Refused(fields.byte()?),
         HELLO => Reply::Welcome(fields.word()?, [fields.word()?, fields.word()?], row_in(&mut fields)),
         MOMENT => Reply::Moment(fields.long()?, fields.long()?),
+        MARKED => Reply::Marked(fields.byte()?),
         LOCK => Reply::Lock(lock_answer(&mut fields)?),
         _ => return None,
     };

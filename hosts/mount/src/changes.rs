@@ -2,6 +2,7 @@
 
 use crate::attributes::{now, Form, Shape, Times};
 use crate::links::link_bytes;
+use crate::sharing::SET_GROUP;
 use crate::special::Forms;
 use crate::volume::{is_gone, named, Volume};
 use kfs_client::{Desk, Header, Kind, Name};
@@ -47,6 +48,7 @@ impl<D: Desk> Volume<D> {
         self.clocks.create(number);
         self.clocks.write(at);
         self.forms.note(number, Form::Plain);
+        self.inherit(directory, at, number, kind)?;
         let (id, shape) = self.shape_of(number)?;
         self.note_memory(id, name.as_bytes());
         Ok((id, shape))
@@ -82,12 +84,16 @@ impl<D: Desk> Volume<D> {
         let number = self.meant(id)?;
         if let Some(mode) = wanted.mode {
             self.change_mode(id, number, (mode & MODE) as u16)?;
+            if header.is_directory() {
+                self.set_gives_group(id, number, mode & u32::from(SET_GROUP) != 0)?;
+            }
         }
         if let Some(gid) = wanted.gid.filter(|gid| *gid != header.gid) {
             self.session.change_group(number, gid).map_err(|failure| self.told(&failure))?;
             self.clocks.change(number);
         }
         if let Some(size) = wanted.size {
+            self.take_late_mode_back(id, number)?;
             self.truncate(number, size)?;
         }
         if wanted.read.is_some() || wanted.written.is_some() {

@@ -9,8 +9,10 @@ use std::collections::HashMap;
 struct OpenFile {
     /// How often.
     count: u32,
-    /// The mode that it gets with its last close. Until then its owner may read and write it, so that what is open stays so.
+    /// The mode that it gets later. Until then its owner may read and write it, so that what is open stays so.
     late_mode: Option<u16>,
+    /// Whether it has got it, since all was handed in.
+    has_late_mode: bool,
     /// The name that it has got in place of its last one. It goes with the last close.
     hidden: Option<(u32, Name)>,
     /// What it was when it was opened last.
@@ -24,6 +26,9 @@ pub struct Seen {
     /// All of its bytes, where they are few.
     pub bytes: Option<Vec<u8>>,
 }
+
+/// What the names of hidden files begin with.
+pub const HIDDEN: &str = ".kfs-hidden-";
 
 /// How many bytes of open files are kept at most.
 const SEEN: usize = 1 << 24;
@@ -70,7 +75,7 @@ impl Handles {
             _ => {
                 let file = self.files.remove(&id).unwrap_or_default();
                 self.seen -= length(&file.seen);
-                Closed { late_mode: file.late_mode, hidden: file.hidden }
+                Closed { late_mode: file.late_mode.filter(|_| !file.has_late_mode), hidden: file.hidden }
             }
         }
     }
@@ -105,8 +110,32 @@ impl Handles {
 
     pub fn set_late_mode(&mut self, id: u64, mode: Option<u16>) {
         if let Some(file) = self.files.get_mut(&id) {
-            file.late_mode = mode;
+            (file.late_mode, file.has_late_mode) = (mode, false);
         }
+    }
+
+    /// The files that don't have their modes yet.
+    pub fn late_modes(&self) -> Vec<(u64, u16)> {
+        let late = self.files.iter().filter(|(_, file)| !file.has_late_mode);
+        late.filter_map(|(id, file)| Some((*id, file.late_mode?))).collect()
+    }
+
+    /// A file has got its late mode, or hasn't any more.
+    pub fn note_late_mode(&mut self, id: u64, has_it: bool) {
+        if let Some(file) = self.files.get_mut(&id) {
+            file.has_late_mode = has_it;
+        }
+    }
+
+    /// The late mode that an open file has got.
+    pub fn mode_had(&self, id: u64) -> Option<u16> {
+        self.files.get(&id).filter(|file| file.has_late_mode)?.late_mode
+    }
+
+    /// Whether a name is that of an open file that is hidden.
+    pub fn has_hidden(&self, directory: u32, name: &Name) -> bool {
+        let is_it = |hidden: &(u32, Name)| hidden.0 == directory && hidden.1 == *name;
+        self.files.values().any(|file| file.hidden.as_ref().map_or(false, is_it))
     }
 
     pub fn hide(&mut self, id: u64, directory: u32, name: Name) {
@@ -118,7 +147,7 @@ impl Handles {
     /// The next text of a name for a file that is hidden.
     pub fn hidden_name(&mut self, number: u32) -> String {
         self.hidden_count += 1;
-        format!(".kfs-hidden-{number}-{}-{}", std::process::id(), self.hidden_count)
+        format!("{HIDDEN}{number}-{}-{}", std::process::id(), self.hidden_count)
     }
 
     /// Keeps a list of names while it is read. Returns its handle.

@@ -14,6 +14,7 @@ pub mod mounting;
 pub mod nodes;
 pub mod protocol;
 pub mod serving;
+pub mod sharing;
 pub mod special;
 pub mod telling;
 pub mod volume;

@@ -5,6 +5,7 @@ use crate::handles::{Closed, Handles, List, Seen};
 use crate::links::{target_of, LENGTH};
 use crate::locking::Locking;
 use crate::nodes::{Nodes, ROOT};
+use crate::sharing::SET_GROUP;
 use crate::special::{self, Forms};
 use kfs_client::client::Access;
 use kfs_client::desk::Blocks;
@@ -76,6 +77,8 @@ pub struct Volume<D> {
     pub locking: Locking,
     /// What is a socket or a FIFO.
     pub forms: Forms,
+    /// Directories of which the server doesn't know yet whether they give their group.
+    pub(crate) marks: HashMap<u64, bool>,
     telling: Telling,
     /// Whether the kernel is told once it has to look names up anew.
     tells_losses: bool,
@@ -137,6 +140,7 @@ impl<D: Desk> Volume<D> {
             owed: None,
             kept: HashMap::new(),
             forms: Forms::default(),
+            marks: HashMap::new(),
             telling: Telling::default(),
             tells_losses: false,
             locking: Locking::default(),
@@ -229,10 +233,12 @@ impl<D: Desk> Volume<D> {
 
     /// Hands all in. Where a lease was lost, and another client has it, that one is waited for.
     pub fn sync(&mut self) -> Result<(), Errno> {
+        self.give_late_modes()?;
         if let Err(fault) = self.session.sync_patiently() {
             self.telling.tell_fault(&fault);
             return Err(fault.errno());
         }
+        self.hand_marks_in()?;
         self.owed.take().map_or(Ok(()), Err)
     }
 
@@ -315,6 +321,7 @@ impl<D: Desk> Volume<D> {
         }
         self.nodes.tell_size(number, header.size);
         let mode = self.handles.late_mode(id).unwrap_or(header.mode);
+        let mode = if header.is_directory() && self.gives_group(id, number) { mode | SET_GROUP } else { mode };
         let form = self.form(number, &header)?;
         Ok(Forms::shape(Header { mode, links, ..header }, form))
     }
@@ -415,7 +422,8 @@ impl<D: Desk> Volume<D> {
         }
         let number = self.nodes.number(id)?;
         let before = self.since(number)?;
-        let names = self.session.list(number, None, usize::MAX).map_err(|failure| self.told(&failure))?;
+        let mut names = self.session.list(number, None, usize::MAX).map_err(|failure| self.told(&failure))?;
+        self.remove_left(number, &mut names);
         self.confirm_directory(id, number)?;
         let since = self.since(number)?.filter(|since| Some(*since) == before);
         Ok(self.handles.open_list(List { names, since }))
@@ -554,6 +562,7 @@ impl<D: Desk> Volume<D> {
     pub fn write(&mut self, id: u64, offset: u64, bytes: &[u8], flags: u32) -> Result<Written, Errno> {
         let number = self.meant(id)?;
         self.look_at_locks(number)?;
+        self.take_late_mode_back(id, number)?;
         self.session.make_room(bytes.len()).map_err(|failure| self.told(&failure))?;
         let written = match flags & APPEND {
             0 => self.session.write(number, offset, bytes).map(|count| (offset, count)),

@@ -88,18 +88,18 @@ def tmpfs():
         yield folder
 
 
-def in_child(function, *words, user=None):
-    """Calls a function in a process of its own, as a user if one is told. Returns its number."""
+def in_child(function, *words, user=None, groups=(), umask=0o022):
+    """Calls a function in a process of its own, as a user if one is told, with other groups. Returns its number."""
     child = os.fork()
     if child:
         return child
     status = 1
     try:
         if user is not None:
-            os.setgroups([])
+            os.setgroups(groups)
             os.setgid(user)
             os.setuid(user)
-            os.umask(0o022)
+            os.umask(umask)
         function(*words)
         status = 0
     except BaseException:

@@ -24,7 +24,6 @@ WORD = re.compile(r"\b(" + "|".join(LONG) + r")\b")
 HERE = {
     "| chmod() with set-user-ID | `EPERM` | The bit is set |": {"chmod f 4755 by owner with f:f:644": "EPERM mode(f)=644"},
     "| chmod() of a file with set-group-ID | The bit is dropped | It is set |": {"chmod f 2644 by owner with f:f:644": "ok mode(f)=644"},
-    "| chmod() of a directory with set-group-ID | The bit is dropped | It is set |": {"chmod d 2755 by owner with d:d:755": "ok mode(d)=755"},
     "| link(), of a file with 1,024 names | `EMLINK` | A name more |": {"links f 1024 by owner with f:f:644": "EMLINK links(f)=1024"},
     "| mkdir(), rmdir(), rename() | A directory counts one link | Two, and one for each directory in it |": {
         "mkdir d 755 by owner with": "ok mode(d)=755 type(d)=d links(d)=1 c(.) m(.) uid(d)=1000 gid(d)=1000",
@@ -40,6 +39,7 @@ HERE = {
     "| truncate(), write(), beyond 2^32 bytes | `EFBIG` | The file is as long as that |": {"truncate f 4294967297 by owner with f:f:644:5": "EFBIG size(f)=5", "write f w x 4294967296 by owner with f:f:644": "EFBIG size(f)=0"},
 }
 IN_MEMORY = {
+    "| chmod() of a directory with set-group-ID, without kfsd | The bit is dropped | It is set |": {"chmod d 2755 by owner with d:d:755": "ok mode(d)=755"},
     "| open(), mkdir() and others by another user, at a mount that lets it in | What is made belongs to the mount's user | To its maker |": {"open f w+c 644 by group with": "ok uid(f)=1000 gid(f)=1000", "open f w+c 644 by other with": "ok uid(f)=1000 gid(f)=1000"},
 }
 THROUGH_KFSD = {
