@@ -1,7 +1,6 @@
 """What users share in one folder: the group of a directory, repositories of git, a Maildir; modes that come late, and names that a killed
 mount has left."""
 import contextlib
-import email.parser  # noqa: F401, since users can't read it where it is needed first
 import mailbox
 import os
 import stat
@@ -162,7 +161,8 @@ def begin_mail(folder):
 
 
 def read_all(folder, count):
-    found = sorted(letter["Subject"] for letter in mailbox.Maildir(f"{folder}/mail", create=False))
+    box = mailbox.Maildir(f"{folder}/mail", create=False)
+    found = sorted(line.decode()[9:] for key in box.keys() for line in box.get_bytes(key).split(b"\n") if line.startswith(b"Subject: "))
     assert found == sorted(f"{own} {index}" for own in range(count) for index in range(LETTERS)), len(found)
     git("fsck", "--strict", where=f"{folder}/all.git")
     commits = git("log", "--format=%s", "all", where=f"{folder}/all.git").split("\n")
