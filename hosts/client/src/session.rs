@@ -344,9 +344,14 @@ impl<D: Desk> Session<D> {
     /// Makes a file or a directory. Returns its number.
     pub fn create(&mut self, directory: u32, name: &Name, kind: Kind, mode: u16) -> Result<u32, Failure> {
         self.begin_call()?;
-        let Session { desk, cache, leases, draft, .. } = self;
-        let number = draft.free_number(&mut Cached { shown: desk, cache, leases });
-        let number = number.map_err(|fault| Failure::Entry { errno: fault.errno(), fault })?;
+        let number = match self.free_number() {
+            // What the log removes has its number until the log is done.
+            Err(Failure::Entry { fault: Fault::NoNumber, .. }) if !self.draft.log().is_empty() => {
+                self.sync_patiently()?;
+                self.free_number()?
+            }
+            number => number?,
+        };
         self.enter(&Entry::Create { directory, name: name.clone(), number, kind, mode })?;
         let next = self.draft.next_numbers();
         self.headers_ahead(next.into_iter());
@@ -449,6 +454,13 @@ impl<D: Desk> Session<D> {
     /// Gives a node another group.
     pub fn change_group(&mut self, number: u32, group: u32) -> Result<(), Failure> {
         self.change(&Entry::Regroup { number, group })
+    }
+
+    /// The next number for a new node.
+    fn free_number(&mut self) -> Result<u32, Failure> {
+        let Session { desk, cache, leases, draft, .. } = self;
+        let number = draft.free_number(&mut Cached { shown: desk, cache, leases });
+        number.map_err(|fault| Failure::Entry { errno: fault.errno(), fault })
     }
 
     /// Takes an entry that an earlier session has left.

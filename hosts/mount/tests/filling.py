@@ -212,4 +212,56 @@ def calls_are_answered_while_kfsd_is_away(made):
             assert process.returncode == 0
 
 
-TESTS = [who_writes_hears_of_a_full_desk, a_full_desk_is_emptied, what_is_left_comes_back, calls_are_answered_while_kfsd_is_away]
+def numbers_are_given_again(made):
+    """With all numbers in use, one that is removed is given to the next file at once, though the log has both."""
+    if not can_mount():
+        return
+    it = user(USER, 7, (2, 9))
+    with Daemon(*made, users=[it], tiers=(64, 4, 4)).start() as daemon:
+        if not has_look_ups(daemon):
+            return
+        with mounted_for(daemon, it) as folder:
+            names = [f"{folder}/{index}" for index in range(8)]
+            for name in names:
+                os.close(os.open(name, os.O_WRONLY | os.O_CREAT))
+            assert fault_of(lambda: os.open(f"{folder}/more", os.O_WRONLY | os.O_CREAT)) == errno.ENOSPC
+            for index in range(20):
+                os.unlink(names[index % 8])
+                os.close(os.open(names[index % 8], os.O_WRONLY | os.O_CREAT))
+            assert sorted(os.listdir(folder)) == sorted(map(os.path.basename, names))
+
+
+def words_that_are_wrong(made):
+    """A mount that takes its user for another client than kfsd does isn't begun, and says why; what isn't said kfsd tells."""
+    if not can_mount():
+        return
+    it, root = {**user(USER, 7, (2, 99)), "groups": [50]}, {**user(0, 9, (100, 199)), "privileged": True}
+    with Daemon(*made, users=[it, root], tiers=(64, 4, 4)).start() as daemon, tempfile.TemporaryDirectory(prefix="kfs-words-") as room:
+        if not has_look_ups(daemon):
+            return
+        os.mkdir(f"{room}/at")
+        words = [MOUNT, f"{room}/at", "--socket", f"{daemon.room}/socket", "--allow-other"]
+        wrong = {("--gid", "5"): "has the group 1000", ("--group", "51"): "has the groups [50]", ("--client", "8"): "another client: 7"}
+        for more, due in wrong.items():
+            ended = subprocess.run([*words, "--uid", str(USER), *more], check=False, capture_output=True, text=True, timeout=PATIENT)
+            assert ended.returncode == 1 and due in ended.stderr, (more, ended)
+        with subprocess.Popen([*words, "--uid", str(USER)], stdout=subprocess.PIPE, text=True) as process:
+            assert process.stdout.readline() == "mounted\n"
+            with open(f"{room}/at/own", "wb", opener=lambda path, flags: os.open(path, flags, 0o600)) as own:
+                own.write(b"own")
+            os.chown(f"{room}/at/own", -1, 50)
+            beside.sync(f"{room}/at")
+            process.send_signal(signal.SIGTERM)
+            assert process.wait(PATIENT) == 0
+        # Who is privileged writes what is another's.
+        with subprocess.Popen([*words, "--uid", "0"], stdout=subprocess.PIPE, text=True) as process:
+            assert process.stdout.readline() == "mounted\n"
+            with open(f"{room}/at/own", "r+b") as own:
+                own.write(b"any")
+            beside.sync(f"{room}/at")
+            assert beside.whole(f"{room}/at/own") == b"any"
+            process.send_signal(signal.SIGTERM)
+            assert process.wait(PATIENT) == 0
+
+
+TESTS = [numbers_are_given_again, words_that_are_wrong, who_writes_hears_of_a_full_desk, a_full_desk_is_emptied, what_is_left_comes_back, calls_are_answered_while_kfsd_is_away]
