@@ -2,7 +2,7 @@
 
 use crate::attributes::Shape;
 use kfs_client::Name;
-use std::collections::HashMap;
+use std::collections::{HashMap, HashSet};
 
 /// A file that is open.
 #[derive(Debug, Default)]
@@ -55,6 +55,8 @@ pub struct Handles {
     files: HashMap<u64, OpenFile>,
     /// How many bytes of them are kept.
     seen: usize,
+    /// The handles by which something was written since they were flushed.
+    written: HashSet<u64>,
     lists: HashMap<u64, List>,
     next: u64,
     hidden_count: u64,
@@ -93,6 +95,16 @@ impl Handles {
     /// What a file was when it was opened.
     pub fn seen(&self, id: u64) -> Option<&Seen> {
         self.files.get(&id)?.seen.as_ref()
+    }
+
+    /// Something was written by this handle.
+    pub fn note_written(&mut self, handle: u64) {
+        self.written.insert(handle);
+    }
+
+    /// Whether something was written by this handle since this was asked last.
+    pub fn take_written(&mut self, handle: u64) -> bool {
+        self.written.remove(&handle)
     }
 
     pub fn is_open(&self, id: u64) -> bool {

@@ -109,7 +109,7 @@ impl Operation {
 }
 
 /// A request, whose fields are read one after another.
-#[derive(Debug)]
+#[derive(Clone, Debug)]
 pub struct Request<'a> {
     pub operation: Operation,
     /// The kernel's number for it.

@@ -164,8 +164,9 @@ fn answer_of<D: Desk>(volume: &mut Volume<D>, request: &mut Request<'_>, is_chan
         Operation::StatFileSystem => volume.blocks().map(file_system_reply),
         Operation::Sync => volume.sync().map(|()| Reply::default()),
         Operation::Flush => {
+            let handle = request.clone().long()?;
             volume.flush_locks(request)?;
-            volume.flush(node).map(|()| Reply::default())
+            volume.flush(node, handle).map(|()| Reply::default())
         }
         Operation::Access => {
             let mask = request.word()?;
@@ -252,10 +253,11 @@ fn answer_of_file<D: Desk>(volume: &mut Volume<D>, request: &mut Request<'_>, is
             volume.read(node, start, most as usize).map(Reply)
         }
         Operation::Write => {
-            let (_handle, start, count) = (request.long()?, request.long()?, request.word()?);
+            let (handle, start, count) = (request.long()?, request.long()?, request.word()?);
             let (_write_flags, _owner, flags, _padding) = (request.word()?, request.long()?, request.word()?, request.word()?);
             let written = volume.write(node, start, request.bytes(count as usize)?, flags)?;
             *is_changed = written.is_elsewhere;
+            volume.handles.note_written(handle);
             let mut reply = Reply::default();
             reply.word(written.count as u32).word(0);
             Ok(reply)

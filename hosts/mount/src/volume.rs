@@ -249,7 +249,10 @@ impl<D: Desk> Volume<D> {
     }
 
     /// A descriptor is closed. Where room is scarce the log is handed in, so that who has written hears whether it has room.
-    pub fn flush(&mut self, id: u64) -> Result<(), Errno> {
+    pub fn flush(&mut self, id: u64, handle: u64) -> Result<(), Errno> {
+        if !self.handles.take_written(handle) {
+            return Ok(());
+        }
         let number = match self.nodes.number(id) {
             Ok(number) => number,
             // Nothing of it is in the log any more.
