@@ -31,8 +31,10 @@ const NUMBERED: u8 = 0xf2;
 /// How long what isn't answered is asked again, where nothing else is said, and after which pause.
 const AGAIN: Duration = Duration::from_secs(30);
 const PAUSE: Duration = Duration::from_millis(50);
-/// How long each answer to a hello is waited for.
+/// How long each answer to a hello is waited for, and how long where nobody has answered for long. Then it is tried once in a while.
 const HELLO_TIME: Duration = Duration::from_secs(5);
+const SHORT_HELLO: Duration = Duration::from_millis(500);
+const WHILE: Duration = Duration::from_secs(2);
 /// The look-ups of a node's header, of a name, of names, of bytes, and of the places of the tiers.
 const NODE: u8 = 0x40;
 const FIND: u8 = 0x43;
@@ -110,8 +112,9 @@ pub struct Connection {
     wants: Option<Wants>,
     /// How long calls wait where kfsd isn't there, all together.
     again: Duration,
-    /// Since when nothing was answered.
+    /// Since when nothing was answered, and when it was last tried to connect where that is long ago.
     away: Option<Instant>,
+    tried: Option<Instant>,
     ending: Ending,
     /// The look-ups that were asked for ahead, and what has come of others.
     ahead: VecDeque<AskedAhead>,
@@ -161,6 +164,7 @@ impl Connection {
             wants: None,
             again: AGAIN,
             away: None,
+            tried: None,
             ending: Ending::default(),
             ahead: VecDeque::new(),
             told: Vec::new(),
@@ -219,7 +223,8 @@ impl Connection {
     }
 
     fn hello(&mut self) -> Result<[u32; 2], Unconnected> {
-        let mut line = Line::new(self.door.connect()?, self.again.min(HELLO_TIME), self.ending.clone())?;
+        let time = if self.away.is_some() { SHORT_HELLO } else { HELLO_TIME };
+        let mut line = Line::new(self.door.connect()?, self.again.min(time), self.ending.clone())?;
         let grant = match exchange(&mut line, self.number, self.client, &[HELLO])? {
             Some(Reply::Welcome(client, grant, row)) if client == self.client || !self.is_told => {
                 (self.client, self.is_told, self.row) = (client, true, row);
@@ -255,6 +260,11 @@ impl Connection {
     /// Connects anew, where the connection is gone.
     pub(crate) fn connect(&mut self) -> io::Result<()> {
         if self.line.is_none() {
+            let is_long = self.away.map_or(false, |since| since.elapsed() >= self.again);
+            if is_long && self.tried.map_or(false, |tried| tried.elapsed() < WHILE) {
+                return Err(io::ErrorKind::TimedOut.into());
+            }
+            self.tried = Some(Instant::now()).filter(|_| is_long);
             let told = self.hello().map_err(|fault| io::Error::new(io::ErrorKind::NotConnected, fault))?;
             if told != self.grant {
                 self.break_off();

@@ -141,7 +141,21 @@ def who_writes_hears_of_a_full_desk(made):
         beside.sync(folder)
 
 
+@contextlib.contextmanager
+def running(process):
+    """A process that doesn't outlive a test."""
+    with process:
+        try:
+            yield process
+        finally:
+            process.kill()
+
+
 def started(daemon, it, folder, *more):
+    return running(begun(daemon, it, folder, *more))
+
+
+def begun(daemon, it, folder, *more):
     return subprocess.Popen([MOUNT, folder, *words_for(daemon, it), "--uid", str(it["uid"]), "--allow-other", *more], stdout=subprocess.PIPE, stderr=subprocess.PIPE, text=True)
 
 
@@ -245,7 +259,7 @@ def words_that_are_wrong(made):
         for more, due in wrong.items():
             ended = subprocess.run([*words, "--uid", str(USER), *more], check=False, capture_output=True, text=True, timeout=PATIENT)
             assert ended.returncode == 1 and due in ended.stderr, (more, ended)
-        with subprocess.Popen([*words, "--uid", str(USER)], stdout=subprocess.PIPE, text=True) as process:
+        with running(subprocess.Popen([*words, "--uid", str(USER)], stdout=subprocess.PIPE, text=True)) as process:
             assert process.stdout.readline() == "mounted\n"
             with open(f"{room}/at/own", "wb", opener=lambda path, flags: os.open(path, flags, 0o600)) as own:
                 own.write(b"own")
@@ -254,7 +268,7 @@ def words_that_are_wrong(made):
             process.send_signal(signal.SIGTERM)
             assert process.wait(PATIENT) == 0
         # Who is privileged writes what is another's.
-        with subprocess.Popen([*words, "--uid", "0"], stdout=subprocess.PIPE, text=True) as process:
+        with running(subprocess.Popen([*words, "--uid", "0"], stdout=subprocess.PIPE, text=True)) as process:
             assert process.stdout.readline() == "mounted\n"
             with open(f"{room}/at/own", "r+b") as own:
                 own.write(b"any")
