@@ -25,7 +25,7 @@ use crate::users::{lines_of, Table};
 use nix::sys::resource::{getrlimit, setrlimit, Resource};
 use std::io;
 use std::path::{Path, PathBuf};
-use std::sync::{Arc, Mutex};
+use std::sync::{Arc, Mutex, PoisonError};
 use std::time::{Duration, Instant};
 use thiserror::Error;
 use tokio::signal::unix::{signal, SignalKind};
@@ -228,6 +228,11 @@ impl Daemon {
         });
         shared.following.wants().set_time(Duration::from_secs(config.duties.wanted_seconds));
         let desk = place.begin(&config, &clients);
+        if let Begun::Alone(desk) = &desk {
+            let awaited = desk.store.lock().unwrap_or_else(PoisonError::into_inner).lockers();
+            shared.following.locks().wait_for_clients(awaited.map_err(DeskFault::from)?);
+            shared.following.note_locks_in(Arc::clone(&desk.store));
+        }
         let of_desk = Arc::clone(&shared);
         let desk = tokio::spawn(async move {
             let ended = match desk {

@@ -431,7 +431,7 @@ impl Anew {
 }
 
 /// Does what may take long with files on a thread of its own, beside all else.
-async fn beside<T: Send + 'static>(work: impl FnOnce() -> Result<T, DeskFault> + Send + 'static) -> Result<T, DeskFault> {
+pub async fn beside<T: Send + 'static>(work: impl FnOnce() -> Result<T, DeskFault> + Send + 'static) -> Result<T, DeskFault> {
     spawn_blocking(work).await.unwrap_or_else(|fault| Err(DeskFault::Keeping(fault)))
 }
 

@@ -2,12 +2,13 @@
 
 use crate::calls::{need_in, Change, Landing, Note, Told, Why, Wish};
 use crate::clock::Clock;
+use crate::desk::{beside, DeskFault};
 use crate::journal::{self, Part};
 use crate::leases::Leases;
 use crate::locks::Locks;
 use crate::outcomes::{Finder, Outcomes, KEPT};
 use crate::space::{Held, Space};
-use crate::store::{Changes, Outcome};
+use crate::store::{Changes, Outcome, Store};
 use crate::times::Times;
 use crate::waiting::Waiting;
 use crate::wants::{News, Wants, What};
@@ -15,7 +16,7 @@ use std::collections::{HashMap, VecDeque};
 use std::io;
 use std::path::Path;
 use std::sync::atomic::{AtomicU64, Ordering};
-use std::sync::{Mutex, MutexGuard, PoisonError};
+use std::sync::{Arc, Mutex, MutexGuard, PoisonError};
 use std::time::Instant;
 use tokio::sync::{watch, Notify};
 
@@ -67,6 +68,8 @@ pub struct Following {
     pub outcomes: Outcomes,
     leases: Mutex<Leases>,
     locks: Mutex<Locks>,
+    /// Where it is noted which clients may have locks; none in a cluster.
+    store: Mutex<Option<Arc<Mutex<Store>>>>,
     wants: Mutex<Wants>,
     waiting: Mutex<Waiting>,
     times: Mutex<Times>,
@@ -92,6 +95,7 @@ impl Default for Following {
             outcomes: Outcomes::default(),
             leases: Mutex::default(),
             locks: Mutex::default(),
+            store: Mutex::default(),
             wants: Mutex::default(),
             waiting: Mutex::default(),
             times: Mutex::default(),
@@ -116,6 +120,25 @@ impl Following {
     /// The locks of files, which nobody else knows.
     pub fn locks(&self) -> MutexGuard<'_, Locks> {
         self.locks.lock().unwrap_or_else(PoisonError::into_inner)
+    }
+
+    /// Has it noted in this store which clients may have locks.
+    pub fn note_locks_in(&self, store: Arc<Mutex<Store>>) {
+        *self.store.lock().unwrap_or_else(PoisonError::into_inner) = Some(store);
+    }
+
+    /// Notes that a client may have locks: behind the answer the next start knows. Those that had some before an earlier start, and
+    /// haven't come back in time, are forgotten.
+    pub async fn note_locker(&self, client: u32) -> Result<(), DeskFault> {
+        let store = self.store.lock().unwrap_or_else(PoisonError::into_inner).clone();
+        let is_noted = self.locks().is_noted(client);
+        if let Some(store) = store.filter(|_| !is_noted) {
+            let noted = self.locks().noted(client, Instant::now());
+            beside(move || Ok(store.lock().unwrap_or_else(PoisonError::into_inner).keep_lockers(client, noted.as_ref())?))
+                .await?;
+        }
+        self.locks().note(client);
+        Ok(())
     }
 
     /// Changes the locks. Who waits for what is free by that is told.

@@ -2,8 +2,8 @@
 
 use crate::asking::{node_at, Instead};
 use crate::connection::Shared;
-use crate::frames::{reply, Found, LOCK};
-use crate::locks::{Ask, Line, Verdict};
+use crate::frames::{reply, Found, Refusal, LOCK};
+use crate::locks::{Ask, How, Line, Verdict};
 use crate::users::{Account, User};
 use std::sync::Arc;
 use std::time::Instant;
@@ -71,6 +71,11 @@ async fn verdict_of(shared: &Shared, user: &User, line: Line, ask: &Ask) -> Resu
             Some(_) if following.locks().gone_so_far() != gone => {}
             Some(_) => break,
         }
+    }
+    let sets = ask.needs_right() && ask.how != How::Test;
+    if sets && following.note_locker(user.client).await.is_err() {
+        // kfsd ends where it can't keep what it has to.
+        return Err(Instead::Refused(Refusal::Stopping));
     }
     Ok(following.with_locks(|locks| locks.ask(line, ask, Instant::now())))
 }

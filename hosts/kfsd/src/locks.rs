@@ -287,6 +287,10 @@ pub struct Locks {
     /// How many nodes have gone.
     gone: u64,
     opening: Opening,
+    /// Clients that may have had locks before the start and haven't come back; none where that isn't known.
+    awaited: Option<BTreeSet<u32>>,
+    /// Clients that have had locks since the start, as the next one is to know.
+    noted: BTreeSet<u32>,
     /// What a wait gets whose way is freed next; and whether one was since that was asked last.
     serial: u64,
     is_freed: bool,
@@ -302,6 +306,8 @@ impl Default for Locks {
             connections: 0,
             gone: 0,
             opening: Opening::NotYet,
+            awaited: None,
+            noted: BTreeSet::new(),
             serial: 0,
             is_freed: false,
         }
@@ -312,6 +318,34 @@ impl Locks {
     /// Clients may ask from now on. Where one may have had a lock before, those come first.
     pub fn begin(&mut self, is_new: bool, now: Instant) {
         self.opening = Opening::At(if is_new { now } else { now + GRACE });
+    }
+
+    /// These clients may have had locks before the start. Once all of them have come back nobody waits for the others.
+    pub fn wait_for_clients(&mut self, awaited: BTreeSet<u32>) {
+        self.awaited = Some(awaited);
+    }
+
+    /// Whether it is noted of a client that it may have locks.
+    pub fn is_noted(&self, client: u32) -> bool {
+        self.noted.contains(&client)
+    }
+
+    /// The clients that are noted with this one, where no other one is waited for any more.
+    pub fn noted(&self, client: u32, now: Instant) -> Option<BTreeSet<u32>> {
+        self.is_open(now).then(|| self.noted.iter().copied().chain([client]).collect())
+    }
+
+    /// It is noted of a client where a start finds it.
+    pub fn note(&mut self, client: u32) {
+        self.noted.insert(client);
+    }
+
+    /// Whether locks are set that there weren't before the start.
+    pub fn is_open(&self, now: Instant) -> bool {
+        match self.opening {
+            Opening::NotYet => false,
+            Opening::At(opens) => opens <= now || matches!(&self.awaited, Some(awaited) if awaited.is_empty()),
+        }
     }
 
     /// A new connection of a client.
@@ -363,7 +397,11 @@ impl Locks {
         if ask.kind == Kind::Unlock {
             return if ask.how == How::Test { Verdict::Granted } else { self.put(node, &lock, ask.kind) };
         }
-        let is_open = matches!(self.opening, Opening::At(opens) if opens <= now);
+        // Who sets a lock anew has set again those that it had.
+        if let Some(awaited) = self.awaited.as_mut().filter(|_| matches!(ask.how, How::Set | How::Wait)) {
+            awaited.remove(&line.client);
+        }
+        let is_open = self.is_open(now);
         match (self.conflict(node, &lock), ask.how) {
             // Others may have had it meanwhile.
             (None, How::Again) if is_open => Verdict::Conflicts(Conflict { kind: Kind::Unlock, range: ask.range, pid: 0 }),

@@ -4,7 +4,7 @@ use crate::bytes::Bytes;
 use crate::folder::{at, is_there, open};
 use crate::times::{Known, Landed, Stamp};
 use rusqlite::{params, Connection, OpenFlags};
-use std::collections::{HashMap, VecDeque};
+use std::collections::{BTreeSet, HashMap, VecDeque};
 use std::fs::{self, OpenOptions, Permissions};
 use std::io;
 use std::os::unix::fs::{OpenOptionsExt, PermissionsExt};
@@ -65,6 +65,7 @@ const TABLES: &str = "
     CREATE TABLE IF NOT EXISTS stamp (
         node INTEGER PRIMARY KEY, modified INTEGER NOT NULL, changed INTEGER NOT NULL, moved INTEGER NOT NULL
     );
+    CREATE TABLE IF NOT EXISTS locker (client INTEGER PRIMARY KEY);
     CREATE TABLE IF NOT EXISTS running (is_running INTEGER NOT NULL);
     CREATE TABLE IF NOT EXISTS time (node INTEGER PRIMARY KEY, modified INTEGER NOT NULL);
     CREATE TABLE IF NOT EXISTS desk (was_open INTEGER NOT NULL);
@@ -162,6 +163,26 @@ impl Store {
             Ok((row.get(0)?, Stamp { modified, changed, moved, set, born, marks }))
         })?;
         found.collect()
+    }
+
+    /// The clients that may have locks.
+    pub fn lockers(&self) -> rusqlite::Result<BTreeSet<u32>> {
+        let mut rows = self.connection.prepare("SELECT client FROM locker")?;
+        let found = rows.query_map([], |row| row.get(0))?;
+        found.collect()
+    }
+
+    /// One more client may have locks; no other ones than these, where they are told. Behind the answer this is on the disk.
+    pub fn keep_lockers(&mut self, client: u32, all: Option<&BTreeSet<u32>>) -> rusqlite::Result<()> {
+        let kept = self.connection.transaction()?;
+        if let Some(all) = all {
+            kept.execute("DELETE FROM locker", [])?;
+            for client in all {
+                kept.execute("INSERT OR REPLACE INTO locker (client) VALUES (?)", [client])?;
+            }
+        }
+        kept.execute("INSERT OR REPLACE INTO locker (client) VALUES (?)", [client])?;
+        kept.commit()
     }
 
     /// Says that kfsd runs, and answers whether the one before ended without saying that it had kept all.
@@ -262,6 +283,18 @@ mod tests {
 
     fn outcome(client: u32, number: u64) -> Outcome {
         Outcome { client, number, answer: vec![1, 0] }
+    }
+
+    #[test]
+    fn who_may_have_locks_is_noted() {
+        let room = Room::new("store-lockers");
+        let mut store = Store::open(&room.0).unwrap();
+        for client in [7, 8, 7] {
+            store.keep_lockers(client, None).unwrap();
+        }
+        assert_eq!(Store::open(&room.0).unwrap().lockers().unwrap(), [7, 8].into());
+        store.keep_lockers(9, Some(&[8].into())).unwrap();
+        assert_eq!(store.lockers().unwrap(), [8, 9].into());
     }
 
     #[test]

@@ -196,6 +196,24 @@ fn behind_a_start_those_come_first_that_had_one() {
     assert_eq!(locks.ask(other, &set(Kind::Read, How::Set), open), Verdict::Granted);
 }
 
+#[test]
+fn nobody_waits_for_who_has_come_back() {
+    let (mut locks, now) = (Locks::default(), Instant::now());
+    let (mine, other) = (locks.connect(7), locks.connect(8));
+    let set = |kind, how| ask(1, kind, 0, 9, how);
+    locks.begin(false, now);
+    locks.wait_for_clients([7, 8].into());
+    assert_eq!(locks.ask(other, &set(Kind::Write, How::Set), now), Verdict::NotYet);
+    // The other one may set its own again first.
+    assert_eq!(locks.ask(mine, &set(Kind::Write, How::Again), now), Verdict::Granted);
+    assert_eq!(locks.ask(other, &set(Kind::Write, How::Set), now), Verdict::NotYet);
+    assert_eq!(locks.ask(mine, &ask(1, Kind::Write, 20, 29, How::Set), now), Verdict::Granted);
+    assert!(locks.is_open(now) && in_the_way(locks.ask(other, &set(Kind::Write, How::Set), now)).is_some());
+    assert_eq!(locks.noted(8, now), Some([8].into()));
+    locks.note(8);
+    assert!(locks.is_noted(8) && !locks.is_noted(7) && Locks::default().noted(7, now).is_none());
+}
+
 /// What each owner has of each byte: nothing, a lock to read, or one to write.
 type Model = Vec<[Kind; BYTES]>;
 
