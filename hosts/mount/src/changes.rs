@@ -2,7 +2,7 @@
 
 use crate::attributes::{now, Form, Shape, Times};
 use crate::links::link_bytes;
-use crate::sharing::SET_GROUP;
+use crate::sharing::{OWNERS, SET_GROUP};
 use crate::special::Forms;
 use crate::volume::{is_gone, named, Volume};
 use kfs_client::{Desk, Header, Kind, Name};
@@ -12,8 +12,6 @@ use std::time::Duration;
 /// The bits of a mode that a log can say, and the two that it can't.
 const MODE: u32 = 0o1777;
 const SET_USER: u32 = 0o4000;
-/// The bits by which the owner may read and write.
-const OWNERS: u16 = 0o600;
 /// The mode of a link's file.
 const LINK_FILE_MODE: u16 = 0o755;
 

@@ -8,9 +8,9 @@ use nix::errno::Errno;
 
 /// The bit of a directory's mode by which what is made in it gets its group.
 pub const SET_GROUP: u16 = 0o2000;
-/// The bits by which an owner reads and writes.
+/// The bits by which an owner reads, and by which it reads and writes.
 const READ: u16 = 0o400;
-const OWNERS: u16 = 0o600;
+pub(crate) const OWNERS: u16 = 0o600;
 
 impl<D: Desk> Volume<D> {
     // ---- Groups of directories

@@ -5,6 +5,7 @@
 use crate::attributes::{Form, Shape};
 use crate::changes::Attributes;
 use crate::nodes::number_of;
+use crate::sharing::OWNERS;
 use crate::volume::Volume;
 use kfs_client::{Desk, Header, Kind};
 use nix::errno::Errno;
@@ -14,8 +15,6 @@ use std::collections::HashMap;
 pub const LENGTH: u64 = 8;
 const FIFO: &[u8] = b"LnxFIFO\0";
 const SOCKET: &[u8] = b"LnxSOCK\0";
-/// The bits by which the owner may read and write.
-const OWNERS: u16 = 0o600;
 
 /// The form of a file of these bytes.
 pub fn form_of(bytes: &[u8]) -> Form {
